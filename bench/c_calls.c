@@ -9,7 +9,7 @@ enum { PROGRAM = 7, VERSION = 2, ADD = 1, ADDEND = 5, WORDS = 16 };
 static void carry(struct xns_host *from, struct xns_host *to) {
     uint8_t packet[XNS_LONGEST_PACKET];
     size_t length;
-    uint32_t via;
+    uint64_t via;
     while (xns_host_next_packet(from, 0, packet, sizeof packet, &length, &via) == XNS_OK) xns_host_receive(to, 0, via, packet, length);
 }
 

@@ -12,7 +12,7 @@
 struct side {
     struct link link;
     bool is_single;
-    uint32_t peer;
+    uint64_t peer;
     long count, window;
     size_t bytes;
     long came, sent, known; /* datagrams in all: that came, that were sent, and that the peer has acknowledged */
@@ -28,10 +28,10 @@ static void single_receive(struct link *link, link_taker *take, void *given) {
     const ssize_t length = recvfrom(link->file, bytes, sizeof bytes, 0, is_first ? (struct sockaddr *)&from : NULL, is_first ? &size : NULL);
     if (length < 0) return;
     if (is_first) (void)!connect(link->file, (struct sockaddr *)&from, size);
-    take(given, ntohs(from.sin_port), bytes, (size_t)length);
+    take(given, udp_via(&from), bytes, (size_t)length);
 }
 
-static void single_put(struct link *link, uint32_t via, const uint8_t *packet, size_t length) {
+static void single_put(struct link *link, uint64_t via, const uint8_t *packet, size_t length) {
     (void)via;
     (void)!send(link->file, packet, length, 0);
 }
@@ -41,7 +41,7 @@ static void single_flush(struct link *link) {
 }
 
 /* What comes is an acknowledgement, or a datagram of a turn. */
-static void take(void *given, uint32_t via, const uint8_t *bytes, size_t length) {
+static void take(void *given, uint64_t via, const uint8_t *bytes, size_t length) {
     struct side *side = given;
     side->peer = via;
     if (length == sizeof side->known) {
@@ -90,7 +90,7 @@ int main(int count, char **given) {
     if (count < 7) return 2;
     asks = strcmp(given[1], "ask") == 0;
     side.is_single = strcmp(given[2], "single") == 0;
-    side.peer = asks ? (uint32_t)atol(given[3]) : 0;
+    side.peer = asks ? udp_here((uint32_t)atol(given[3])) : 0;
     side.count = atol(given[4]);
     side.bytes = (size_t)atol(given[5]);
     side.window = atol(given[6]);

@@ -131,7 +131,7 @@ for kind in calls.pcap calls.pcapng calls_nano.pcap; do
     done
 done
 
-# ---- identifiers that are used again: the second time prints nothing, and all where the capture is cut at its opening
+# ---- identifiers that are used again without a closing: the second time prints nothing, and all where the capture is cut at its opening
 
 cat "$root/examples/six-calls.hex" "$root/examples/six-calls.hex" > again.hex
 text2pcap -q -r '^(?<data>[0-9a-f]+)$' -e 0x600 again.hex again.pcap 2> /dev/null

@@ -198,7 +198,7 @@ echo 532300220002000000010000aa0001020002000000010000aa000304040000014869 > "$wo
 expect 'the program' sh -c "'$prefix/bin/xns' dump < '$work/request'"
 expect 'reads a packet' grep -q '^1 echo request 4869$' "$work/out"
 sed -n '/^    \$ xns calls/,/^$/p' README.md | sed '1d; /^$/d; s/^    //' > "$work/shown"
-expect 'the calls that the README shows' sh -c "[ -s '$work/shown' ] && '$prefix/bin/xns' calls < examples/six-calls.hex | head -6 | cmp - '$work/shown'"
+expect 'the calls that the README shows' sh -c "[ -s '$work/shown' ] && '$prefix/bin/xns' calls --programs examples/courier/tally.courier examples/six-calls.hex | head -6 | cmp - '$work/shown'"
 
 # The file VERSION has the version; all other places repeat it.
 expect 'the version of the header' grep -qx "#define XNS_VERSION \"$(cat VERSION)\"" include/xns.h

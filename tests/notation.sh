@@ -1,7 +1,7 @@
 #!/bin/sh
-# Compares what `test_programs` answers, and what `xns programs` prints, with a second account, tests/notation_account.py: over the
-# descriptions of examples/courier, over a case for each reason and limit, and over random programs, half of them with a fault. Then it
-# refuses each growth in turn of a description and a call. It builds both programs first. Its last line is 'N passed, M failed', and it
+# Compares what `test_programs` answers, what `xns programs` prints, and how `xns calls` names calls, with a second account,
+# tests/notation_account.py: over the descriptions of examples/courier, over a case for each reason and limit, and over random programs,
+# half of them with a fault. Then it refuses each growth in turn of a description and a call. It builds both programs first. Its last line is 'N passed, M failed', and it
 # ends with 1 where one failed. A first word is the number of random cases.
 set -u
 cd "$(dirname "$0")/.."
@@ -44,15 +44,57 @@ lists_as() {
     fi
 }
 
+named=$PWD/tests/named_calls.py
+
+# In the folder `xns calls` with the words names the calls of a file by the programs as the account names what it prints without them. Where
+# a description is refused, it says where, ends with 2, and prints nothing.
+names_one() {
+    name=$1
+    folder=$2
+    file=$3
+    shift 3
+    "$xns" calls ${times:+"$times"} "$file" > "$work/plain"
+    (cd "$folder" && python3 "$named" --name "$@") < "$work/plain" > "$work/named" 2> "$work/refused_at"
+    wanted=$?
+    for one; do
+        set -- "$@" --programs "$one"
+        shift
+    done
+    (cd "$folder" && "$xns" calls ${times:+"$times"} "$@" "$file") > "$work/out" 2> "$work/err"
+    ended=$?
+    if [ $ended -eq $wanted ] && cmp -s "$work/out" "$work/named" && cmp -s "$work/err" "$work/refused_at"; then
+        pass
+    else
+        diff "$work/out" "$work/named" | cut -c1-400 > "$work/differs"
+        diff "$work/err" "$work/refused_at" >> "$work/differs"
+        fail "xns calls, $name: status $ended and not $wanted" "$work/differs"
+    fi
+}
+
+# The same of the calls that the lines of a case make, in hex and in a capture with times.
+names_as() {
+    name_of=$1
+    folder_of=$2
+    shift 2
+    python3 "$named" --lines < "$folder_of/lines" > "$work/hex"
+    python3 "$named" --capture < "$folder_of/lines" > "$work/pcap"
+    times=
+    names_one "$name_of" "$folder_of" "$work/hex" "$@"
+    times=--times
+    names_one "$name_of, with times" "$folder_of" "$work/pcap" "$@"
+}
+
 python3 tests/random_notation.py --directed "$work/directed" || exit 1
 for folder in "$work"/directed/*; do
     answers_as "$(basename "$folder")" "$folder"
     lists_as "$(basename "$folder")" "$folder" a.courier b.courier
+    names_as "$(basename "$folder")" "$folder" a.courier b.courier
 done
 python3 tests/random_notation.py "$work/random" 0 "$count" || exit 1
 for folder in "$work"/random/*; do
     answers_as "random case $(basename "$folder")" "$folder"
     lists_as "random case $(basename "$folder")" "$folder" a.courier b.courier
+    names_as "random case $(basename "$folder")" "$folder" a.courier b.courier
 done
 
 # ---- the descriptions that are there
@@ -78,6 +120,9 @@ python3 tests/notation_account.py "$@" < "$work/lines" > "$work/account"
 "$program" "$@" < "$work/lines" > "$work/out" 2> "$work/err"
 if cmp -s "$work/out" "$work/account"; then pass; else fail 'the descriptions of examples/courier' "$work/out"; fi
 lists_as 'the descriptions of examples/courier' . "$@"
+mkdir "$work/there"
+cp "$work/lines" "$@" "$work/there"
+names_as 'the descriptions of examples/courier' "$work/there" tally.courier time.courier authentication.courier clearinghouse.courier
 
 # ---- `xns programs`
 
@@ -122,6 +167,33 @@ ends 'a text that is too long' 2 "$work/padded:$((lines + 1)):$((262145 - $(wc -
 run_programs /dev/zero
 ends 'a text without an end' 2 '/dev/zero:1:262145 TooLong' /dev/null
 
+# ---- `xns calls --programs`
+
+run_calls() {
+    "$xns" calls "$@" < "$work/in" > "$work/out" 2> "$work/err"
+    ended=$?
+}
+
+calls=examples/six-calls.hex
+"$xns" calls $calls > "$work/plain"
+python3 "$named" --name $tally < "$work/plain" > "$work/named"
+run_calls --programs $tally $calls
+ends 'a description and a file' 0 '' "$work/named"
+cat $calls > "$work/in"
+run_calls --programs $tally
+ends 'a description, and lines on standard input' 0 '' "$work/named"
+cat $tally > "$work/in"
+run_calls $calls --programs -
+ends 'a description on standard input' 0 '' "$work/named"
+run_calls --programs "$work/none" $calls
+ends 'no such description' 3 "xns: $work/none: No such file or directory (os error 2)" /dev/null
+run_calls --programs $tally --programs $tally $calls
+ends 'a description that is read again' 2 "$tally:2:1 DoubledProgram" /dev/null
+run_calls --programs $calls "$work/none"
+ends 'what is no description, before the file is opened' 2 "$calls:27:1 HugeNumber" /dev/null
+run_calls --programs
+ends 'no description' 2 "error: a value is required for '--programs <FILE>' but none was supplied; try 'xns --help'" /dev/null
+
 # ---- each growth refused in turn
 
 # The program ends by itself. What it printed is the beginning of what it prints else, or that a file wanted memory.
@@ -155,5 +227,20 @@ while [ $growth -le 2000 ]; do
     growth=$((growth + 1))
 done
 echo "xns programs: $((growth - 1)) growths"
+
+# `xns calls` prints its lines, or ends for want of memory and prints what stands before a line.
+growth=1
+while [ $growth -le 4000 ]; do
+    refuse_growth $growth "$xns" calls --programs $tally $calls
+    [ -e "$work/refused" ] || break
+    if { [ $ended -eq 3 ] && cmp -s -n "$(wc -c < "$work/out")" "$work/out" "$work/named" && grep -q 'no memory' "$work/err"; } ||
+        { [ $ended -eq 0 ] && cmp -s "$work/out" "$work/named"; }; then
+        pass
+    else
+        fail "xns calls, growth $growth refused: status $ended"
+    fi
+    growth=$((growth + 1))
+done
+echo "xns calls: $((growth - 1)) growths"
 
 finish

@@ -17,7 +17,7 @@ static inline void by_pcap_receive(struct link *link, link_taker *take, void *gi
         if (frame_is_ours(link->station, frame, about->caplen)) take(given, 0, frame + FRAME_HEAD, about->caplen - FRAME_HEAD);
 }
 
-static inline void by_pcap_put(struct link *link, uint32_t via, const uint8_t *packet, size_t length) {
+static inline void by_pcap_put(struct link *link, uint64_t via, const uint8_t *packet, size_t length) {
     uint8_t frame[FRAME_MOST];
     (void)via;
     (void)pcap_sendpacket(by_pcap, frame, (int)frame_write(link->station, packet, length, frame));

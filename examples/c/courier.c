@@ -12,7 +12,7 @@ enum { WORDS = 16 };
 static void carry(uint64_t now, struct xns_host *from, struct xns_host *to) {
     uint8_t packet[XNS_LONGEST_PACKET];
     size_t length;
-    uint32_t via;
+    uint64_t via;
     while (xns_host_next_packet(from, now, packet, sizeof packet, &length, &via) == XNS_OK) xns_host_receive(to, now, via, packet, length);
 }
 

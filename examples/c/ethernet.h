@@ -12,7 +12,7 @@
 
 enum { ETHERNET_TYPE = 0x0600, ETHERNET_LEAST = 46, ETHERNET_TARGET_AT = 10 };
 
-static inline struct sockaddr_ll ethernet_place(uint32_t via) {
+static inline struct sockaddr_ll ethernet_place(uint64_t via) {
     struct sockaddr_ll place;
     memset(&place, 0, sizeof place);
     place.sll_family = AF_PACKET;
@@ -34,7 +34,7 @@ static inline void ethernet_receive(struct link *link, link_taker *take, void *g
 }
 
 /* A packet is made up to the shortest frame. */
-static inline void ethernet_put(struct link *link, uint32_t via, const uint8_t *packet, size_t length) {
+static inline void ethernet_put(struct link *link, uint64_t via, const uint8_t *packet, size_t length) {
     struct sockaddr_ll place = ethernet_place(via);
     memcpy(place.sll_addr, packet + ETHERNET_TARGET_AT, 6);
     batch_put(link, packet, length, ETHERNET_LEAST, &place, sizeof place);

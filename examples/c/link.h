@@ -14,15 +14,15 @@
 enum { LINK_MOST_WAIT = 1000, LINK_LEAST_SOCKET = 3001, LINK_SOCKETS = 60000 };
 
 /* Is given a packet that came. */
-typedef void link_taker(void *given, uint32_t via, const uint8_t *bytes, size_t length);
+typedef void link_taker(void *given, uint64_t via, const uint8_t *bytes, size_t length);
 
 struct link {
     int file;
     void (*receive)(struct link *link, link_taker *take, void *given); /* gives what is there to the taker, but not more at once than a few */
-    void (*put)(struct link *link, uint32_t via, const uint8_t *packet, size_t length); /* takes a packet that is to go out */
+    void (*put)(struct link *link, uint64_t via, const uint8_t *packet, size_t length); /* takes a packet that is to go out */
     void (*flush)(struct link *link);                                  /* sends what was put; what can't be sent is as what is lost */
     uint8_t station[6];                                                /* its own host */
-    uint32_t via;                                                      /* for packets to its peers, where it is one for all */
+    uint64_t via;                                                      /* for packets to its peers, where it is one for all */
     uint16_t socket;                                                   /* a socket of its host that hardly another program has */
 };
 
@@ -70,7 +70,7 @@ struct link_host {
     uint64_t now;
 };
 
-static inline void link_give(void *given, uint32_t via, const uint8_t *bytes, size_t length) {
+static inline void link_give(void *given, uint64_t via, const uint8_t *bytes, size_t length) {
     const struct link_host *to = given;
     xns_host_receive(to->host, to->now, via, bytes, length);
 }
@@ -84,7 +84,7 @@ static inline void link_receive_packets(struct link *link, struct xns_host *host
 /* Sends the packets that the host has made. */
 static inline void link_send_packets(struct link *link, struct xns_host *host, uint64_t now) {
     uint8_t packet[XNS_LONGEST_PACKET];
-    uint32_t via;
+    uint64_t via;
     size_t length;
     while (xns_host_next_packet(host, now, packet, sizeof packet, &length, &via) == XNS_OK) link->put(link, via, packet, length);
     link->flush(link);

@@ -39,7 +39,7 @@ static inline bool read_station(const char *text, uint8_t station[6]) {
 
 static inline void net_over_udp(struct link *link, enum net_role role, uint32_t port, uint8_t server[6]) {
     udp_open(link, role == NET_SERVES ? port : 0);
-    link->via = port;
+    link->via = udp_here(port);
     memcpy(link->station, role == NET_SERVES ? NET_SERVER : NET_CLIENT, 6);
     memcpy(server, NET_SERVER, 6);
 }

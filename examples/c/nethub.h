@@ -67,7 +67,7 @@ static inline void nethub_receive(struct link *link, link_taker *take, void *giv
 }
 
 /* Sends a frame whole: behind a part of one the stream would be of no more use. */
-static inline void nethub_put(struct link *link, uint32_t via, const uint8_t *packet, size_t length) {
+static inline void nethub_put(struct link *link, uint64_t via, const uint8_t *packet, size_t length) {
     uint8_t bytes[NETHUB_LENGTH + FRAME_MOST];
     const size_t size = frame_write(link->station, packet, length, bytes + NETHUB_LENGTH);
     (void)via;

@@ -42,7 +42,7 @@ static bool is_ours(const struct asked *asked, const uint8_t *body, size_t size)
     return size == asked->size && memcmp(body, asked->body, MARK) == 0 && memcmp(body + LEAST, asked->body + LEAST, size - LEAST) == 0;
 }
 
-static void take(void *given, uint32_t via, const uint8_t *bytes, size_t length) {
+static void take(void *given, uint64_t via, const uint8_t *bytes, size_t length) {
     struct asked *asked = given;
     struct xns_packet packet;
     size_t body_at, size;

@@ -10,7 +10,7 @@ from ._library import unsigned, words_of
 from ._links import Carrier, checked, not_blocking
 from ._objects import Host
 from ._serving import CLOSING, UNSPECIFIED, Programs, failed, give, guarded
-from ._station import Other, Station, file_of, milliseconds
+from ._station import Other, Station, file_of
 from ._told import Address, Answer, Call, Closed, Event, Reply, rejects
 
 _AGAIN = 1.0  # seconds after which a carrier without a file is looked at again
@@ -170,7 +170,7 @@ async def serve_async(
                     reply = await reply
             except Exception as error:
                 reply = failed(call, error)
-            give(host, milliseconds(), call, reply)
+            give(host, station.time(), call, reply)
             pump.turn()
 
         def turned() -> None:

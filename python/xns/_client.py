@@ -66,7 +66,7 @@ class Conversation:
         """Puts out a call; false where the answer to the call before is to be fetched first. Why a closed connection takes none, its event says."""
         if self.closed is None:
             try:
-                self.station.host.call(milliseconds(), self._number, program, version, procedure, words)
+                self.station.host.call(self.station.time(), self._number, program, version, procedure, words)
             except BusyError:
                 return False
             except (ClosingError, NoConnectionError):
@@ -77,7 +77,7 @@ class Conversation:
         """Begins to close."""
         if self.closed is None:
             with contextlib.suppress(NoConnectionError):
-                self.station.host.close(milliseconds(), self._number)
+                self.station.host.close(self.station.time(), self._number)
 
     def leave(self) -> None:
         """Closes, and hears no more of it."""

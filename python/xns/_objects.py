@@ -1,18 +1,16 @@
 """Hosts and endpoints: what the library holds for a program."""
-import contextlib
 import ctypes
 import os
 import threading
-from ctypes import addressof, byref, c_size_t, c_uint8, c_uint16, c_uint32
+from ctypes import addressof, byref, c_size_t, c_uint8, c_uint16, c_uint64
 from typing import Iterable, Iterator, List, Optional, Tuple
 
-from ._errors import NoCallError, NoConnectionError, done
+from ._errors import NoCallError, done
 from ._library import FUNCTIONS, RawAddress, RawEvent, RawHandle, RawItem, RawProgram, RawReceived, RawSettings, flag, octets, unsigned, words_of, written
 from ._told import LONGEST_ITEM, LONGEST_PACKET, MOST_MESSAGE_WORDS, Address, Dropped, Event, Item, Received, Reply, Stream
 
 _REPLY = 42  # bytes of a reply of an endpoint, and of a system packet
 _NEVER = 2**64 - 1  # a time that does not come
-_USUAL_CONNECTIONS = 64
 _SECRET = 32  # bytes of a host's secret
 
 
@@ -167,8 +165,8 @@ class Endpoint(Object):
 
 class Host(Object):
     """Many Courier conversations behind one address, with time. It has no socket, no clock and no thread: packets that came go to `receive`, those of
-    `packets` are sent, and `events` tell what came. `now` is in milliseconds of any clock, and a `via` a number of the program's: the packets of a
-    connection go out by the one that it was opened by."""
+    `packets` are sent, and `events` tell what came. `now` is in milliseconds of any clock, never older than the one before, since timers would fire
+    early. A `via` is a number of the program's: the packets of a connection go out by the one that it was opened by."""
 
     _family = "host"
 
@@ -181,10 +179,9 @@ class Host(Object):
         given = octets(os.urandom(_SECRET) if secret is None else secret, "secret")
         if len(given) != _SECRET:
             raise ValueError(f"secret has {len(given)} bytes, and not {_SECRET}")
-        self._most = settings.get("connections", _USUAL_CONNECTIONS)
         self._done("new", byref(RawAddress.of(own, "own")), byref(RawSettings.of(settings)), given)
         self._words, self._event, self._count = (c_uint16 * MOST_MESSAGE_WORDS)(), RawEvent(), c_size_t()
-        self._packet, self._length, self._via = (c_uint8 * LONGEST_PACKET)(), c_size_t(), c_uint32()
+        self._packet, self._length, self._via = (c_uint8 * LONGEST_PACKET)(), c_size_t(), c_uint64()
         self._for_events = self._at, addressof(self._event), addressof(self._words), MOST_MESSAGE_WORDS, addressof(self._count)
         self._for_packets = addressof(self._packet), LONGEST_PACKET, addressof(self._length), addressof(self._via)
 
@@ -197,7 +194,7 @@ class Host(Object):
     def connect(self, now: int, via: int, socket_number: int, peer: Address) -> int:
         """Opens a connection from this socket of ours to the peer, whose side calls; its number. `NoSlotError` where there is no room."""
         number = c_size_t()
-        numbers = unsigned(now, 64, "now"), unsigned(via, 32, "via"), unsigned(socket_number, 16, "socket_number")
+        numbers = unsigned(now, 64, "now"), unsigned(via, 64, "via"), unsigned(socket_number, 16, "socket_number")
         self._done("connect", *numbers, byref(RawAddress.of(peer, "peer")), byref(number))
         return number.value
 
@@ -219,10 +216,14 @@ class Host(Object):
         """Closes a connection once all that it has to say is said, which a `Closed` tells. `NoConnectionError`."""
         self._done("close", unsigned(now, 64, "now"), unsigned(number, 64, "number"))
 
+    def abandon(self, number: int) -> None:
+        """Abandons a connection: nothing of it goes out or is told any more, and its number may be another one's. `NoConnectionError`."""
+        self._done("abandon", unsigned(number, 64, "number"))
+
     def receive(self, now: int, via: int, packet: bytes) -> bool:
         """Takes in a packet that came; false where it is not for the host, and is the program's to use."""
         given = octets(packet, "packet")
-        return self._done("receive", unsigned(now, 64, "now"), unsigned(via, 32, "via"), given, len(given))
+        return self._done("receive", unsigned(now, 64, "now"), unsigned(via, 64, "via"), given, len(given))
 
     def events(self) -> Iterator[Event]:
         """What there is to tell, each once."""
@@ -237,7 +238,7 @@ class Host(Object):
             yield self._via.value, ctypes.string_at(self._packet, self._length.value)
 
     def wake(self) -> Optional[int]:
-        """When `packets` wants to be asked at the latest; 0 is at once, None never, until something is done."""
+        """When `events` and then `packets` want to be asked at the latest; 0 is at once, None never, until something is done."""
         at = self._call("wake")
         return None if at == _NEVER else at
 
@@ -254,13 +255,9 @@ class Host(Object):
 
     def numbers(self) -> List[int]:
         """The numbers of the connections that are there."""
-        found, left = [], self.connections
-        for number in range(self._most):
-            if len(found) == left:
-                break
-            with contextlib.suppress(NoConnectionError):
-                self.peer(number)
-                found.append(number)
+        found, number = [], c_size_t()
+        while self._done("number_from", found[-1] + 1 if found else 0, byref(number)):
+            found.append(number.value)
         return found
 
 

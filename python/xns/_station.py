@@ -80,9 +80,14 @@ class Station:
         self.heard: Optional[int] = None  # when the last packet of a connection came
         self.now = milliseconds()  # of this turn: what comes while a call is carried out is read before anything is due for want of it
 
+    def time(self) -> int:
+        """The time, which from now on is that of this turn: a host that is told an older time behind a newer one counts the step between them twice."""
+        self.now = milliseconds()
+        return self.now
+
     def connect(self, place: Any, own: Address, peer: Address) -> int:
         """Opens a connection to the peer, whose packets go to this place; its number."""
-        return self.host.connect(milliseconds(), self._places.number(place, _spelled(peer)), own.socket, peer)
+        return self.host.connect(self.time(), self._places.number(place, _spelled(peer)), own.socket, peer)
 
     def send(self) -> None:
         """Sends what is to go out. What can't be sent is as what is lost."""
@@ -92,7 +97,7 @@ class Station:
 
     def take_in(self) -> None:
         """Takes in the packets that are there, but not more at once than a few."""
-        self.now = milliseconds()
+        self.time()
         for _ in range(_MOST_AT_ONCE):
             try:
                 packet, place = self.carrier.recvfrom(_LONGEST_DATAGRAM)
@@ -120,7 +125,7 @@ class Station:
                 if one is not None:
                     self._waiting.register(one, select.POLLIN)
         self._waiting.poll(min(most if file is not None else min(most, _AGAIN), _MOST_WAIT if rest is None else rest))
-        self.now = milliseconds()
+        self.time()
 
 
 def file_of(carrier: Carrier) -> Optional[int]:

@@ -25,10 +25,10 @@ static uint16_t words[WORDS], given[WORDS];
 static size_t count;
 
 /* Gives the packets of one host to the other, or drops them. Whether there were any. */
-static bool carry(struct xns_host *from, struct xns_host *to, uint32_t via) {
+static bool carry(struct xns_host *from, struct xns_host *to, uint64_t via) {
     uint8_t packet[XNS_LONGEST_PACKET];
     enum xns_result told;
-    uint32_t by = 0;
+    uint64_t by = 0;
     size_t length;
     bool moved = false;
     while ((told = xns_host_next_packet(from, now, packet, sizeof packet, &length, &by)) != XNS_NOTHING) {
@@ -37,17 +37,24 @@ static bool carry(struct xns_host *from, struct xns_host *to, uint32_t via) {
         if (told == XNS_OK && to != NULL) CHECK(xns_host_receive(to, now, via == CLIENT_VIA ? SERVICE_VIA : CLIENT_VIA, packet, length) == XNS_OK);
         moved = true;
     }
-    CHECK(xns_host_wake(from) > now);
+    CHECK(xns_host_wake(from) == 0 || xns_host_wake(from) > now); /* at once where an event waits */
     return moved;
+}
+
+/* When a host wants to be asked. Where an event waits that is not fetched yet, time passes all the same. */
+static uint64_t wakes(struct xns_host *host) {
+    const uint64_t wake = xns_host_wake(host);
+    return wake == 0 ? now + 100 : wake;
 }
 
 /* Carries the packets of both hosts; where there are none, time passes. */
 static void turn(void) {
     bool moved = carry(&client, &service, CLIENT_VIA);
-    uint64_t wake = xns_host_wake(&client);
+    uint64_t wake;
     moved |= carry(&service, &client, SERVICE_VIA);
     if (moved) return;
-    if (xns_host_wake(&service) < wake) wake = xns_host_wake(&service);
+    wake = wakes(&client);
+    if (wakes(&service) < wake) wake = wakes(&service);
     CHECK(wake != XNS_NEVER);
     now = wake;
 }
@@ -141,15 +148,17 @@ static void no_host(struct xns_host *none) {
     struct xns_event event;
     struct xns_address peer;
     uint8_t packet[XNS_LONGEST_PACKET];
-    uint32_t via = 7;
+    uint64_t via = 7;
     size_t number = 7;
     memset(&event, 0xee, sizeof event);
     CHECK(none->at == NULL && xns_host_serve(none, 5, programs, 1) == XNS_NO_HOST && xns_host_connect(none, 0, 0, 5, &there, &number) == XNS_NO_HOST);
     CHECK(xns_host_call(none, 0, 0, 7, 1, 1, given, 1) == XNS_NO_HOST && xns_host_answer(none, 0, 0, 9, 0, given, 1) == XNS_NO_HOST);
+    CHECK(xns_host_abandon(none, 0) == XNS_NO_HOST);
     CHECK(xns_host_close(none, 0, 0) == XNS_NO_HOST && xns_host_receive(none, 0, 0, packet, 0) == XNS_NO_HOST);
     CHECK(xns_host_next_event(none, &event, words, WORDS, &number) == XNS_NO_HOST && event.kind == 0xee);
     CHECK(xns_host_next_packet(none, 0, packet, sizeof packet, &number, &via) == XNS_NO_HOST && via == 7 && number == 7);
     CHECK(xns_host_wake(none) == XNS_NEVER && xns_host_connections(none) == 0 && xns_host_peer(none, 0, &peer) == XNS_NO_HOST);
+    CHECK(xns_host_number_from(none, 0, &number) == XNS_NO_HOST && number == 7);
     xns_host_free(none);
     CHECK(none->at == NULL);
 }
@@ -157,7 +166,7 @@ static void no_host(struct xns_host *none) {
 /* At most 16 sockets, and one that is served again is none more. A host that is made again has none. */
 static void services(void) {
     uint8_t packet[XNS_LONGEST_PACKET] = { 0 };
-    uint32_t via = 7;
+    uint64_t via = 7;
     size_t length = 7;
     no_host(&service);
     CHECK(xns_host_new(&service, &there, &usual, secret) == XNS_OK && xns_host_wake(&service) == XNS_NEVER && xns_host_connections(&service) == 0);
@@ -173,14 +182,15 @@ static void services(void) {
 /* An Echo request is answered by the `via` that it came by; other packets are the program's. */
 static void strangers(void) {
     const struct xns_address echo = { 1, { 0, 0, 0xaa, 0, 1, 2 }, XNS_SOCKET_ECHO }, other = { 1, { 0, 0, 0xaa, 0, 1, 3 }, XNS_SOCKET_ECHO };
+    const uint64_t place = (uint64_t)0xffffffff << 32 | 77;
     uint8_t packet[XNS_LONGEST_PACKET], reply[XNS_LONGEST_PACKET];
     size_t length, at, size;
-    uint32_t via = 0;
+    uint64_t via = 0;
     CHECK(xns_host_new(&service, &there, &usual, secret) == XNS_OK);
     CHECK(xns_echo_request(&here, &echo, (const uint8_t *)"Hi", 2, packet, sizeof packet, &length) == XNS_OK);
-    CHECK(xns_host_receive(&service, 0, 77, packet, length) == XNS_OK && xns_host_wake(&service) == 0);
+    CHECK(xns_host_receive(&service, 0, place, packet, length) == XNS_OK && xns_host_wake(&service) == 0);
     CHECK(xns_host_next_packet(&service, 0, reply, 33, &size, &via) == XNS_SHORT_BUFFER && size == 34 && via == 0 && xns_host_wake(&service) == 0);
-    CHECK(xns_host_next_packet(&service, 0, reply, 34, &size, &via) == XNS_OK && size == 34 && via == 77);
+    CHECK(xns_host_next_packet(&service, 0, reply, 34, &size, &via) == XNS_OK && size == 34 && via == place);
     CHECK(xns_echo_accept(&echo, reply, size, &at, &size) == XNS_OK && size == 2 && memcmp(reply + at, "Hi", 2) == 0);
     CHECK(xns_host_next_packet(&service, 0, reply, sizeof reply, &size, &via) == XNS_NOTHING && xns_host_wake(&service) == XNS_NEVER);
     CHECK(xns_echo_request(&here, &other, (const uint8_t *)"Hi", 2, packet, sizeof packet, &length) == XNS_OK);
@@ -200,6 +210,11 @@ static void refusals(void) {
     CHECK(xns_host_connect(&client, now, CLIENT_VIA, here.socket + 1, &there, &second) == XNS_OK && second != number && xns_host_connections(&client) == 2);
     CHECK(xns_host_connect(&client, now, CLIENT_VIA, here.socket + 2, &there, &none) == XNS_NO_SLOT && none == 7);
     CHECK(xns_host_peer(&client, number, &peer) == XNS_OK && memcmp(&peer, &there, sizeof peer) == 0 && xns_host_peer(&client, 2, &peer) == XNS_NO_CONNECTION);
+    const size_t first = number < second ? number : second, last = number + second - first;
+    size_t found = 7;
+    CHECK(xns_host_number_from(&client, 0, &found) == XNS_OK && found == first);
+    CHECK(xns_host_number_from(&client, first + 1, &found) == XNS_OK && found == last);
+    CHECK(xns_host_number_from(&client, last + 1, &found) == XNS_NOTHING && xns_host_number_from(&client, SIZE_MAX, &found) == XNS_NOTHING && found == last);
     CHECK(xns_host_peer(&client, SIZE_MAX, &peer) == XNS_NO_CONNECTION && xns_host_call(&client, now, SIZE_MAX, 7, 1, 1, given, 0) == XNS_NO_CONNECTION);
     CHECK(xns_host_answer(&client, now, 2, XNS_KIND_RETURN, 0, given, 0) == XNS_NO_CONNECTION && xns_host_close(&client, now, 2) == XNS_NO_CONNECTION);
     CHECK(xns_host_answer(&client, now, 2, XNS_KIND_CALL, 0, given, 0) == XNS_BAD_ARGUMENT && xns_host_answer(&client, now, 2, 4, 0, given, 0) == XNS_BAD_ARGUMENT);
@@ -231,7 +246,7 @@ static void short_buffers(void) {
     struct xns_event event;
     uint8_t packet[XNS_LONGEST_PACKET];
     size_t number, length;
-    uint32_t via;
+    uint64_t via;
     open_both(&usual, &number);
     CHECK(xns_host_next_packet(&client, now, packet, 41, &length, &via) == XNS_SHORT_BUFFER && length == 42 && xns_host_wake(&client) == 0);
     CHECK(xns_host_next_packet(&client, now, packet, 42, &length, &via) == XNS_OK && length == 42 && xns_host_receive(&service, now, SERVICE_VIA, packet, length) == XNS_OK);
@@ -268,31 +283,56 @@ static void short_buffers(void) {
 
 /* ---- how a connection closes */
 
-/* Between two packets of the peer so many packets go out, at these times, and then the peer counts as silent. A time that goes back counts as the latest. */
+/* Between two packets of the peer so many packets go out, at these times, and then the peer counts as silent, which is told at once. Where the clock is set
+ * back, the waits go on from there. */
 static void silent(void) {
     const struct xns_settings settings = { .first_wait = 100, .longest_wait = 300, .tries = 4 };
-    static const uint64_t waits[] = { 0, 100, 200, 300, 300 };
+    static const uint64_t waits[] = { 100, 200, 300, 300 };
     uint64_t due = 1000;
     size_t number;
     open_both(&settings, &number);
-    for (size_t i = 0; i < 5; i++) {
-        due += waits[i];
-        CHECK(xns_host_wake(&client) == (i == 0 ? 0 : due));
-        now = due - 1;
-        CHECK(carry(&client, NULL, CLIENT_VIA) == (i == 0));
-        now = due;
-        CHECK(carry(&client, NULL, CLIENT_VIA) == (i != 0));
-        now = 5;
+    CHECK(xns_host_wake(&client) == 0 && carry(&client, NULL, CLIENT_VIA) && xns_host_wake(&client) == due + waits[0]);
+    for (size_t i = 0; i < 4; i++) {
+        now = 5 * i;
         CHECK(!carry(&client, NULL, CLIENT_VIA));
+        due = now + waits[i];
+        CHECK(xns_host_wake(&client) == due);
+        now = due - 1;
+        CHECK(!carry(&client, NULL, CLIENT_VIA));
+        now = due;
+        CHECK(carry(&client, NULL, CLIENT_VIA));
     }
     now = due + 300;
-    CHECK(xns_host_wake(&client) == now && !carry(&client, NULL, CLIENT_VIA));
+    CHECK(xns_host_wake(&client) == now && !carry(&client, NULL, CLIENT_VIA) && xns_host_wake(&client) == 0);
     is_closed(&client, XNS_CLOSED_SILENT, XNS_OK);
     while (xns_host_wake(&client) != XNS_NEVER) {
         now = xns_host_wake(&client);
         CHECK(!carry(&client, NULL, CLIENT_VIA) && now <= due + 600);
     }
     CHECK(xns_host_connections(&client) == 0 && xns_host_close(&client, now, number) == XNS_NO_CONNECTION);
+    free_both();
+}
+
+/* A call that is abandoned is gone, and the answer to it is not the host's; and so is an event that stayed. */
+static void abandoned(void) {
+    uint8_t packet[XNS_LONGEST_PACKET];
+    struct xns_event call, event;
+    size_t number, length;
+    uint64_t via = 0;
+    open_both(&usual, &number);
+    call = calls(number, 1);
+    CHECK(xns_host_abandon(&client, number) == XNS_OK && xns_host_connections(&client) == 0 && xns_host_wake(&client) == XNS_NEVER);
+    CHECK(xns_host_abandon(&client, number) == XNS_NO_CONNECTION && xns_host_abandon(&client, SIZE_MAX) == XNS_NO_CONNECTION);
+    CHECK(xns_host_answer(&service, now, call.number, XNS_KIND_RETURN, 0, given, 1) == XNS_OK);
+    CHECK(xns_host_next_packet(&service, now, packet, sizeof packet, &length, &via) == XNS_OK);
+    CHECK(xns_host_receive(&client, now, CLIENT_VIA, packet, length) == XNS_NOTHING);
+    CHECK(xns_host_next_event(&client, &event, words, WORDS, &count) == XNS_NOTHING);
+    free_both();
+    open_both(&usual, &number);
+    CHECK(xns_host_call(&client, now, number, 7, 1, 4, given, 5) == XNS_OK);
+    while (xns_host_next_event(&service, &event, words, 0, &count) == XNS_NOTHING) turn();
+    CHECK(count == 5 && xns_host_abandon(&service, event.number) == XNS_OK);
+    CHECK(xns_host_next_event(&service, &event, words, WORDS, &count) == XNS_NOTHING && xns_host_connections(&service) == 0);
     free_both();
 }
 
@@ -319,7 +359,7 @@ static void idle(void) {
 static void not_served(void) {
     uint8_t opening[XNS_LONGEST_PACKET], error[XNS_LONGEST_PACKET];
     size_t number, length, size;
-    uint32_t via;
+    uint64_t via;
     open_both(&usual, &number);
     CHECK(xns_host_next_packet(&client, now, opening, sizeof opening, &length, &via) == XNS_OK);
     CHECK(xns_complain(&there, XNS_ERROR_NO_SUCH_SOCKET, 0, opening, length, error, sizeof error, &size) == XNS_OK);
@@ -327,6 +367,9 @@ static void not_served(void) {
     error[0] = error[1] = 0xff;  /* no checksum */
     CHECK(xns_host_receive(&client, now, CLIENT_VIA, error, size) == XNS_NOTHING);
     error[30 + 4 + 30 + 3] ^= 1;
+    error[30 + 1] = XNS_ERROR_BAD_CHECKSUM;
+    CHECK(xns_host_receive(&client, now, CLIENT_VIA, error, size) == XNS_NOTHING);
+    error[30 + 1] = XNS_ERROR_NO_SUCH_SOCKET;
     CHECK(xns_host_receive(&client, now, CLIENT_VIA, error, size) == XNS_OK);
     is_closed(&client, XNS_CLOSED_NOT_SERVED, XNS_OK);
     free_both();
@@ -337,7 +380,7 @@ static void exchange(struct xns_endpoint *peer, struct xns_host *host) {
     uint8_t packet[XNS_LONGEST_PACKET], reply[XNS_REPLY];
     struct xns_received received;
     size_t length;
-    uint32_t via;
+    uint64_t via;
     CHECK(xns_endpoint_tick(peer) == XNS_OK);
     while (xns_endpoint_next_packet(peer, packet, sizeof packet, &length) == XNS_OK) CHECK(xns_host_receive(host, now, CLIENT_VIA, packet, length) == XNS_OK);
     while (xns_host_next_packet(host, now, packet, sizeof packet, &length, &via) == XNS_OK) {
@@ -355,6 +398,17 @@ struct said {
 static const struct said VERSIONS = { 0, 0, 1, "\0\3\0\3", 4 }, CALLED = { 0, 0, 1, "\0\0\0\5\0\0\0\7\0\2\0\1", 12 };
 static const struct said ATTENTION = { 0, 1, 0, "\1", 1 }, HALF = { 0, 0, 0, "\0\0\0\5\0\0", 6 };
 
+/* The connection is dead: what comes again of its peer is not the host's, and nothing goes out. */
+static void is_dead(struct xns_endpoint *peer, struct xns_host *host, size_t number) {
+    uint8_t packet[XNS_LONGEST_PACKET];
+    struct xns_address address;
+    size_t length;
+    uint64_t via;
+    CHECK(xns_endpoint_tick(peer) == XNS_OK);
+    while (xns_endpoint_next_packet(peer, packet, sizeof packet, &length) == XNS_OK) CHECK(xns_host_receive(host, now, CLIENT_VIA, packet, length) == XNS_NOTHING);
+    CHECK(xns_host_next_packet(host, now, packet, sizeof packet, &length, &via) == XNS_NOTHING && xns_host_peer(host, number, &address) == XNS_NO_CONNECTION);
+}
+
 /* Says these items to a host; it closes by this fault, once the call that came before is answered. */
 static void hear_fault(struct xns_endpoint *peer, struct xns_host *host, const struct said *items, size_t length, enum xns_result fault) {
     struct xns_event event;
@@ -368,7 +422,7 @@ static void hear_fault(struct xns_endpoint *peer, struct xns_host *host, const s
         CHECK(xns_host_next_event(host, &event, words, WORDS, &count) == XNS_OK);
     }
     CHECK(event.kind == XNS_EVENT_CLOSED && event.closed == XNS_CLOSED_REFUSED && event.fault == (uint32_t)fault);
-    exchange(peer, host);
+    is_dead(peer, host, event.number);
 }
 
 /* A client that says this to the service. */
@@ -392,14 +446,14 @@ static void server_fault(const struct said *items, size_t length, enum xns_resul
     struct xns_address from;
     uint8_t opening[XNS_LONGEST_PACKET];
     uint16_t id;
-    uint32_t via;
+    uint64_t via;
     size_t number, size;
     open_both(&usual, &number);
     CHECK(xns_host_call(&client, now, number, 7, 2, 1, given, 1) == XNS_OK);
     CHECK(xns_host_next_packet(&client, now, opening, sizeof opening, &size, &via) == XNS_OK && xns_opening(opening, size, &from, &id) == XNS_OK);
     CHECK(xns_endpoint_new_responder(&peer, &there, 88, &from, id, 8, 8) == XNS_OK);
     hear_fault(&peer, &client, items, length, fault);
-    CHECK(xns_host_call(&client, now, number, 7, 2, 1, given, 1) == XNS_CLOSING);
+    CHECK(xns_host_call(&client, now, number, 7, 2, 1, given, 1) == XNS_NO_CONNECTION);
     xns_endpoint_free(&peer);
     free_both();
 }
@@ -440,6 +494,7 @@ int main(void) {
     refusals();
     short_buffers();
     silent();
+    abandoned();
     idle();
     not_served();
     faults();

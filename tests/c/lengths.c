@@ -21,7 +21,7 @@ int main(void) {
     const uint8_t secret[32] = { 1 };
     struct xns_event event;
     uint16_t word;
-    uint32_t via;
+    uint64_t via;
     size_t number, length;
     struct xns_packet packet = XNS_PACKET_INIT;
     struct xns_message message = XNS_MESSAGE_INIT;

@@ -108,7 +108,8 @@ static void nulls(void) {
     struct xns_address peer;
     struct xns_item item;
     uint8_t bytes[XNS_LONGEST_PACKET], reply[XNS_LONGEST_PACKET];
-    uint32_t id, via;
+    uint32_t id;
+    uint64_t via;
     uint16_t sum, number, parameter, peer_id;
     size_t size = 0, at = 0, count = 0;
     enum xns_result (*address)(const uint8_t *, size_t, struct xns_packet *) = xns_decode; /* the address of a call is the library's */

@@ -11,7 +11,7 @@ enum { CALLS = 500, WORDS = 400 };
 static void carry(struct xns_host *from, struct xns_host *to) {
     uint8_t packet[XNS_LONGEST_PACKET];
     size_t length;
-    uint32_t via;
+    uint64_t via;
     while (xns_host_next_packet(from, 0, packet, sizeof packet, &length, &via) == XNS_OK) CHECK(xns_host_receive(to, 0, via, packet, length) == XNS_OK);
 }
 

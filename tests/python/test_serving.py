@@ -138,7 +138,8 @@ class Serving(unittest.TestCase):
         bad = Peer.opening(udp, self.udp.getsockname(), CLIENT._replace(socket=1025), SERVER)
         bad.item()
         bad.endpoint.send(bytes(3))  # a message of an odd number of bytes
-        bad.until(lambda: not bad.endpoint.unacknowledged)
+        with contextlib.suppress(TimeoutError):  # a connection that is refused acknowledges nothing more
+            bad.until(lambda: not bad.endpoint.unacknowledged, 1)
         self.assertEqual(good.call(7, 1, 1, [4]).words, [4, 4])
         self.assertEqual(self.client().call(7, 1, 1, [5]).words, [5, 5])  # it has given its place up
 
@@ -222,7 +223,7 @@ class Alone(unittest.TestCase):
             self.answered_by(self.says(xns.Item(bytes.fromhex("00027777"))))
 
     def test_a_server_that_closes(self):
-        with self.assertRaises(ConnectionResetError):
+        with self.assertRaises((ConnectionResetError, xns.SilentError)):  # the second where the call was not acknowledged before the server went
             self.answered_by(self.says(xns.Item(b"", xns.Stream.END)))
 
     def test_a_server_that_closes_behind_an_answer(self):
@@ -232,9 +233,10 @@ class Alone(unittest.TestCase):
         thread.start()
         self.assertEqual(client.call(7, 1, 1).words, [7])
         for _ in range(2):
-            with self.assertRaises(ConnectionResetError):
+            with self.assertRaises((ConnectionResetError, xns.SilentError)):  # the second where the call went out before End came
                 client.call(7, 1, 1)
-        client.close()
+        with contextlib.suppress(xns.SilentError):
+            client.close()
         thread.join(5)
 
 

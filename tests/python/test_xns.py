@@ -333,6 +333,27 @@ class HostTest(unittest.TestCase):
         self.carry()
         self.assertEqual((self.client.connections, self.client.wake()), (0, None))
 
+    def test_abandoned(self):
+        """A call that is abandoned: nothing of it is told or taken any more."""
+        number = self.call([5])
+        self.client.abandon(self.number)
+        self.assertEqual((self.client.connections, self.client.wake(), list(self.client.events())), (0, None, []))
+        self.service.answer(self.now, number, xns.returns([7]))
+        for _, packet in self.service.packets(self.now):
+            self.assertFalse(self.client.receive(self.now, 3, packet))
+        with self.assertRaises(xns.NoConnectionError):
+            self.client.abandon(self.number)
+
+    def test_clock(self):
+        """A clock that is set back: the wait goes on from there. One that is once far ahead closes nothing."""
+        with xns.Host(THERE, first_wait=100) as client:
+            client.connect(50_000, 3, 1024, HERE._replace(socket=5))
+            self.assertEqual((len(list(client.packets(50_000))), client.wake()), (1, 50_100))
+            self.assertEqual((len(list(client.packets(7))), client.wake()), (0, 107))
+            self.assertEqual((len(list(client.packets(107))), client.wake()), (1, 307))
+            self.assertEqual((len(list(client.packets(2**64 - 1))), client.wake()), (1, 0))
+            self.assertEqual((len(list(client.packets(108))), client.wake(), list(client.events())), (0, 508, []))
+
     def test_silence(self):
         with xns.Host(THERE, first_wait=100, longest_wait=300, tries=4) as client:
             number = client.connect(0, 3, 1024, HERE._replace(socket=5))
@@ -365,7 +386,7 @@ class HostTest(unittest.TestCase):
         self.assertEqual(list(self.service.events()), [])  # it is read when the call is answered
         self.service.answer(self.now, call.number, xns.returns())
         self.assertEqual(list(self.service.events()), [xns.Closed(call.number, xns.Why.REFUSED, xns.Result.ATTENTION)])
-        with self.assertRaises(xns.ClosingError):
+        with self.assertRaises(xns.NoConnectionError):  # it is dead, and so it is gone
             self.service.answer(self.now, call.number, xns.returns())
         say([])
         self.call([6])  # the other one goes on
@@ -434,6 +455,7 @@ class HostTest(unittest.TestCase):
             for call in (
                 lambda: self.client.peer(number),
                 lambda: self.client.close(0, number),
+                lambda: self.client.abandon(number),
                 lambda: self.client.call(0, number, 7, 1, 1),
                 lambda: self.client.call(number, 0, 7, 1, 1),
                 lambda: self.client.call(0, 0, number, 1, 1),

@@ -1,5 +1,5 @@
 //! The calls of a capture, over lines of hex in memory.
-ghost use Rattle.std.specs.Prelude.{◌≡◌, IfOk};
+ghost use Rattle.std.specs.Prelude.{◌≡◌, None, IfOk};
 ghost use Rattle.xns_calls.specs.Calls.{calls_text};
 
 use std::alloc::Global;
@@ -17,11 +17,11 @@ cf2a002e0005000000010000aa0001020005000000010000aa000304040050001234567800000000
 
 /// The calls that the lines carry, and what came back.
 fn calls_of(alloc: Global, lines: &[u8]) -> Result<Vec<u8>, RunFault>
-    ensures { IfOk result (λ text. text.items ≡ calls_text lines.now) }
+    ensures { IfOk result (λ text. text.items ≡ calls_text None lines.now) }
 {
     let mut reader = lines;
     let mut text = Vec::new(alloc);
-    calls(alloc, &mut reader, &mut text)?;
+    calls(alloc, None, &mut reader, &mut text)?;
     Ok(text)
 }
 

@@ -20,15 +20,16 @@ pub fn talk(rt: &HostRuntime) -> Result<(), anyhow::Error> {
     let alloc = rt.alloc();
     let settings = Settings::default();
     settings.check()?;
+    let terms = settings.terms();
     let calls = Station {
         address: CALLER,
         id: 0x1234,
-        settings,
+        terms,
     };
     let called = Station {
         address: SERVER,
         id: 0x5678,
-        settings,
+        terms,
     };
     let programs = vec![in alloc; LISTED]?;
     let mut pairs = Vec::new(alloc);

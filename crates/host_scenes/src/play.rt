@@ -117,7 +117,7 @@ impl Play {
     fn deliver(&mut self, packet: Flying) -> Result<(), anyhow::Error> {
         let to = packet.to;
         if let Some(player) = self.players.get_mut(to) {
-            let via = (packet.from % 65_536) as u32;
+            let via = packet.from as u64;
             player.host.receive(self.now, via, packet.bytes.as_slice());
         }
         self.turn(to)

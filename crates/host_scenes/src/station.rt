@@ -29,7 +29,7 @@ impl Station {
     pub fn connect(
         &mut self,
         now: u64,
-        via: u32,
+        via: u64,
         socket: u16,
         peer: Address,
     ) -> Result<usize, HostFault> {
@@ -61,7 +61,11 @@ impl Station {
         self.host.close(now, number)
     }
 
-    pub fn receive(&mut self, now: u64, via: u32, bytes: &[u8]) -> bool {
+    pub fn abandon(&mut self, number: usize) -> Result<(), HostFault> {
+        self.host.abandon(number)
+    }
+
+    pub fn receive(&mut self, now: u64, via: u64, bytes: &[u8]) -> bool {
         self.host.receive(now, via, bytes)
     }
 

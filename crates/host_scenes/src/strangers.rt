@@ -5,7 +5,7 @@ use xns_idp::Address;
 use xns_spp::Endpoint;
 
 /// The way by which packets of strangers come: nobody is there.
-const NOWHERE: u32 = 1_000_000;
+const NOWHERE: u64 = 1_000_000;
 
 /// The packet with which a stranger opens a connection comes to the server.
 pub fn come(

@@ -3,7 +3,7 @@ use Rattle.std.proofs.Common.{◌∙◌, ap, ℕ, List, Option}
 use Rattle.std.specs.Prelude.{slice_get}
 use Rattle.courier_sessions.specs.declared.program.Program.{Program}
 use Rattle.item_world.specs.declared.side.Side.TheVariants.{A, B}
-use Rattle.xns_host.specs.Living.{Deeds}
+use Rattle.xns_connection.specs.Living.{Deeds}
 use Rattle.xns_host.specs.declared.host.Host.{Host}
 use Rattle.host_world.specs.Following.{EachFollowed, Follows, HostsStandFor, MayTake, StandsOn, stays, forgotten, stands, forgot}
 use Rattle.host_world.specs.Meeting.{Meeting, Party}

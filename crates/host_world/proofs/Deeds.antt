@@ -10,11 +10,11 @@ use Rattle.courier_sessions.specs.declared.answer.Answer.{Answer}
 use Rattle.courier_sessions.specs.declared.call_refusal.CallRefusal.{CallRefusal}
 use Rattle.courier_sessions.specs.declared.call_refusal.CallRefusal.TheVariants as uncalled
 use Rattle.courier_sessions.specs.declared.unlisted.Unlisted.{Unlisted}
-use Rattle.xns_host.specs.Deeds.{answered_for, handed_by, side_answered, side_called, side_taken}
-use Rattle.xns_host.specs.Refusing.{answer_fault, call_fault, side_answer_fault, side_call_fault}
-use Rattle.xns_host.specs.Story.{listed_call, waiting_message}
-use Rattle.xns_host.specs.declared.side.Side.{Side}
-use Rattle.xns_host.specs.declared.side.Side.TheVariants.{Calls, Answers}
+use Rattle.xns_connection.specs.Deeds.{answered_for, handed_by, side_answered, side_called, side_taken}
+use Rattle.xns_connection.specs.Refusing.{answer_fault, call_fault, side_answer_fault, side_call_fault}
+use Rattle.xns_connection.specs.Story.{listed_call, waiting_message}
+use Rattle.xns_connection.specs.declared.side.Side.{Side}
+use Rattle.xns_connection.specs.declared.side.Side.TheVariants.{Calls, Answers}
 use Rattle.host_world.proofs.Sides.{HasAnswers, Has}
 
 at_end : {X : Type 0} (xs : List X) (x : X) (k : ℕ) → k ≡ length xs → slice_get (xs ++ x ∷ []) k ≡ Some x

@@ -8,9 +8,9 @@ use Rattle.courier_messages.specs.declared.message.Message.{Message}
 use Rattle.courier_sessions.specs.Answering.{answer_message, transaction_in}
 use Rattle.courier_sessions.specs.declared.answer.Answer.{Answer}
 use Rattle.courier_sessions.specs.declared.answer.Answer.TheVariants as kinds
-use Rattle.xns_host.specs.declared.why.Why.{Why}
+use Rattle.xns_connection.specs.declared.why.Why.{Why}
 use Rattle.host_world.specs.Dialogue.{Dialogue, new_dialogue, View, free, held, IsEven, IsOpen, MayGo, Happening, tells, opens, closes, goes}
-use Rattle.host_world.specs.Dialogue.{Move, connecting, opening, calling, handing_answer, handing_call, answering, asking, closing, telling, freeing, Course}
+use Rattle.host_world.specs.Dialogue.{Move, connecting, opening, calling, handing_answer, handing_call, answering, asking, closing, telling, freeing, abandoning, Course}
 use Rattle.host_world.specs.Dialogue.{IsInOrder, IsOpening, is_news, is_going, Happened, WasTold, IsUnheard}
 
 -- ---- lists
@@ -107,6 +107,7 @@ stays_in_order (asking d) h = record { each = h.each; few = h.few; most = h.most
 stays_in_order (closing d why unanswered) h = record { each = h.each; few = h.few; most = h.most }
 stays_in_order (telling d why is untold) h = record { each = h.each; few = h.few; most = h.most }
 stays_in_order (freeing d may) h = tt
+stays_in_order (abandoning d) h = tt
 
 in_order_on : (v : View) (xs : List Happening) (w : View) → Course v xs w → InOrder v → InOrder w
 unfolding Course
@@ -219,7 +220,7 @@ gone xs ys v p = by (is_freeing s.step) where
 
 -- ---- nothing is told behind that
 
-told_on : {d : Dialogue} {x : Happening} {w : View} → Move (held d) x w → d.told ≡ true → (x ≡ goes) ⊎ ((e : Dialogue) × (w ≡ held e) × (e.told ≡ true))
+told_on : {d : Dialogue} {x : Happening} {w : View} → Move (held d) x w → d.told ≡ true → (is_going x ≡ true) ⊎ ((e : Dialogue) × (w ≡ held e) × (e.told ≡ true))
 told_on (calling d c ours even unasked unanswered) t = inr (record d { calls = d.calls ++ call_message (transaction_of (length d.calls + 1)) c ∷ [] }, refl, t)
 told_on (handing_answer d call m ours unanswered number untold) t = absurd (cc)
 told_on (handing_call d m theirs even untold) t = absurd (cc)
@@ -228,6 +229,7 @@ told_on (asking d) t = inr (record d { asked = true }, refl, t)
 told_on (closing d why unanswered) t = inr (record d { closed = Some why }, refl, t)
 told_on (telling d why is untold) t = absurd (cc)
 told_on (freeing d may) t = inl refl
+told_on (abandoning d) t = inl refl
 
 no_news : {d : Dialogue} {x : Happening} {w : View} → Move (held d) x w → d.told ≡ true → is_news x ≡ true → ⊥
 no_news (calling d c ours even unasked unanswered) t n = cc
@@ -238,27 +240,32 @@ no_news (asking d) t n = cc
 no_news (closing d why unanswered) t n = cc
 no_news (telling d why is untold) t n = cc
 no_news (freeing d may) t n = cc
+no_news (abandoning d) t n = cc
 
-told_till : (d : Dialogue) (xs : List Happening) (w : View) → d.told ≡ true → Course (held d) xs w → Contains xs goes ⊎ ((e : Dialogue) × (w ≡ held e) × (e.told ≡ true))
+-- in it the number becomes free
+abbrev Frees : List Happening → Type 0
+Frees xs = (g : Happening) × Contains xs g × (is_going g ≡ true)
+
+told_till : (d : Dialogue) (xs : List Happening) (w : View) → d.told ≡ true → Course (held d) xs w → Frees xs ⊎ ((e : Dialogue) × (w ≡ held e) × (e.told ≡ true))
 unfolding Course
 told_till d [] w t p = inr (d, sym p, t)
 told_till d (x ∷ xs) w t p = elim (told_on p.1 t) [
-  | inl is ↦ inl (zero, omega arith, is)
+  | inl is ↦ inl (x, (zero, omega arith, refl), is)
   | inr still ↦ behind (told_till still.0 xs w still.2 (subst (λ (u : View). Course u xs w) still.1 p.2))
 ] where
-  behind : Contains xs goes ⊎ ((e : Dialogue) × (w ≡ held e) × (e.told ≡ true)) → Contains (x ∷ xs) goes ⊎ ((e : Dialogue) × (w ≡ held e) × (e.told ≡ true))
-  behind (inl c) = inl (suc c.0, omega (arith, c.1), c.2)
+  behind : Frees xs ⊎ ((e : Dialogue) × (w ≡ held e) × (e.told ≡ true)) → Frees (x ∷ xs) ⊎ ((e : Dialogue) × (w ≡ held e) × (e.told ≡ true))
+  behind (inl c) = inl (c.0, (suc c.1.0, omega (arith, c.1.1), c.1.2), c.2)
   behind (inr still) = inr still
 
 pub last : (xs : List Happening) (why : Why) (ys : List Happening) (x : Happening) (zs : List Happening) (v : View)
-    → Course free (xs ++ tells why ∷ (ys ++ x ∷ zs)) v → is_news x ≡ true → Contains ys goes
+    → Course free (xs ++ tells why ∷ (ys ++ x ∷ zs)) v → is_news x ≡ true → Frees ys
 last xs why ys x zs v p news =
     let s = at free xs (tells why) (ys ++ x ∷ zs) v p in
     let t = is_telling s.step in
     let d : Dialogue = record (t.0) { told = true } in
     let n = at (held d) ys x zs v (subst (λ (u : View). Course u (ys ++ x ∷ zs) v) t.3 s.on) in
     by d n (told_till d ys n.before refl n.reaches) where
-      by : (d : Dialogue) (n : At (held d) ys x zs v) → Contains ys goes ⊎ ((e : Dialogue) × (n.before ≡ held e) × (e.told ≡ true)) → Contains ys goes
+      by : (d : Dialogue) (n : At (held d) ys x zs v) → Frees ys ⊎ ((e : Dialogue) × (n.before ≡ held e) × (e.told ≡ true)) → Frees ys
       by d n (inl c) = c
       by d n (inr still) = absurd (no_news (subst (λ (u : View). Move u x n.behind) still.1 n.step) still.2 news)
 
@@ -272,7 +279,21 @@ pub first : (x : Happening) (xs : List Happening) (v : View) → Course free (x 
 unfolding Course
 first x xs v p = is_opening p.1
 
-pub first_again : (v : View) (xs : List Happening) (x : Happening) (ys : List Happening) (w : View) → Course v (xs ++ goes ∷ (x ∷ ys)) w → IsOpening x
-first_again v xs x ys w p =
-    let s = at v xs goes (x ∷ ys) w p in
-    first x ys w (subst (λ (u : View). Course u (x ∷ ys) w) (is_freeing s.step).3 s.on)
+-- each step by which the number becomes free leads there
+freed : {v w : View} {g : Happening} → Move v g w → is_going g ≡ true → w ≡ free
+freed (freeing d may) e = refl
+freed (abandoning d) e = refl
+freed connecting e = absurd (cc)
+freed opening e = absurd (cc)
+freed (calling d c ours even unasked unanswered) e = absurd (cc)
+freed (handing_answer d call m ours unanswered number untold) e = absurd (cc)
+freed (handing_call d m theirs even untold) e = absurd (cc)
+freed (answering d call kind words theirs unanswered unclosed) e = absurd (cc)
+freed (asking d) e = absurd (cc)
+freed (closing d why unanswered) e = absurd (cc)
+freed (telling d why is untold) e = absurd (cc)
+
+pub first_again : (v : View) (xs : List Happening) (g x : Happening) (ys : List Happening) (w : View) → Course v (xs ++ g ∷ (x ∷ ys)) w → is_going g ≡ true → IsOpening x
+first_again v xs g x ys w p going =
+    let s = at v xs g (x ∷ ys) w p in
+    first x ys w (subst (λ (u : View). Course u (x ∷ ys) w) (freed s.step going) s.on)

@@ -1,6 +1,6 @@
 -- A host goes on with the meetings of its connections at each call.
 use Rattle.std.proofs.Common.{◌≡◌, ◌≢◌, ◌∙◌, ◌⊎◌, inl, inr, ap, refl, sym, subst, ℕ, Bool, true, false, List, [], ◌∷◌, Option, Some, None, Result, Ok, Err}
-use Rattle.std.specs.Prelude.{◌==◌, cond, if◌then◌else◌, max, slice_get}
+use Rattle.std.specs.Prelude.{◌==◌, cond, if◌then◌else◌, slice_get}
 use Rattle.std.specs.Option.{is_some}
 use Rattle.std.proofs.lemmas.Bool.{eq-eqb}
 use Rattle.std.proofs.lemmas.Option.{slice_get_within}
@@ -11,15 +11,15 @@ use Rattle.item_world.specs.declared.side.Side.{Side}
 use Rattle.xns_spp.specs.Packet.{SppPacketModel}
 use Rattle.xns_host.specs.Coming.{Comes, Opens}
 use Rattle.xns_host.specs.Coming as coming
-use Rattle.xns_host.specs.Deeds as deeds
+use Rattle.xns_connection.specs.Deeds as deeds
 use Rattle.xns_host.specs.Events.{event_by, event_of}
 use Rattle.xns_host.specs.Hosting.{IsPlace, confirms, free_place, of_closed, of_stranger, may_go, tells as has_news}
-use Rattle.xns_host.specs.Living.{Deeds}
-use Rattle.xns_host.specs.Places.{Acts, ActsAt, AsksEvent, AsksInVain, GivesNone, IsUnmoved, NextEvent, NextPacket, Places, Turns, became, event_passed, packet_passed, seated, taken_by, vacated, vacated_if}
+use Rattle.xns_connection.specs.Living.{Deeds}
+use Rattle.xns_host.specs.Places.{Acts, ActsAt, AsksEvent, AsksInVain, GivesNone, NextEvent, NextPacket, Places, Turns, became, event_passed, packet_passed, seated, taken_by, vacated, vacated_if}
 use Rattle.xns_host.specs.Places as places
-use Rattle.xns_host.specs.Step.{AStepKeepsItsPromises}
-use Rattle.xns_host.specs.Story.{asked_of, waiting_message}
-use Rattle.xns_host.specs.Turn.{ConnectsTo, GivesOut, TakesIn, Turn, places_of, whole_of}
+use Rattle.xns_connection.specs.Step.{AStepKeepsItsPromises}
+use Rattle.xns_connection.specs.Story.{asked_of, waiting_message}
+use Rattle.xns_host.specs.Turn.{Abandons, ConnectsTo, GivesOut, TakesIn, Turn, places_of, whole_of}
 use Rattle.xns_host.specs.Went.{GuestGives, GuestHears, GuestStep, GuestTells, GuestUnserved, Went}
 use Rattle.xns_host.specs.Whole.{Whole}
 use Rattle.xns_host.specs.declared.event.Event.{Event}
@@ -28,7 +28,9 @@ use Rattle.xns_host.specs.declared.host.Host.{Host}
 use Rattle.xns_host.specs.declared.host_fault.HostFault.{HostFault}
 use Rattle.xns_host.specs.declared.host_fault.HostFault.TheVariants.{NoMemory}
 use Rattle.xns_host.specs.declared.outgoing.Outgoing.{Outgoing}
+use Rattle.xns_host.specs.Strays.{StrayQueue}
 use Rattle.xns_host.specs.declared.register.Register.{Register}
+use Rattle.xns_agenda.specs.Clock.{time_at}
 use Rattle.xns_agenda.specs.Waiting.{due_time}
 use Rattle.host_world.specs.Following.{MayTake, EachFollowed, Follows, HasDone, HasGiven, IsFollowed, MayBeForgotten, deed_of, did_at, gave_at, gave_none}
 use Rattle.host_world.specs.Following as following
@@ -39,7 +41,7 @@ use Rattle.host_world.specs.Seen.{number_of}
 use Rattle.host_world.proofs.Guests.{answers, calls, closes, gives, hands, hears_it, not_served, tells}
 use Rattle.host_world.proofs.Numbers.{at_place, beside, may_be_told, same_or_other, since_stranger, since_told}
 use Rattle.host_world.proofs.Shown.{event_number, why_by}
-use Rattle.host_world.proofs.Following.{Led, led, left, Goes, Still, at_once, still, still_then, then_does, EachStill, each_then, all_still, still_if, turns_still, all_act, no_packet, gives_none, in_vain, follows, followed, did_same, did_other, one_guest, not_equal}
+use Rattle.host_world.proofs.Following.{Led, led, left, Goes, Still, at_once, still, still_then, then_does, EachStill, each_then, still_if, turns_still, all_act, no_packet, gives_none, in_vain, follows, followed, did_same, did_other, one_guest, not_equal}
 
 -- ---- at one number, and at the others
 
@@ -75,12 +77,12 @@ went_goes now deed (Some (Some f)) (Some None) g w e = absurd w
 went_goes now deed (Some (Some f)) (Some (Some k)) g w e = (k, refl, subst (λ (x : Guest). GuestStep now deed x k) (one_guest f g e) w)
 
 turn_followed : (now number : ℕ) (deed : deeds.Deed) (did : Deeds → Deeds) (h j : Host) → Turn now number deed (Ok tt) h j
-    → ((g k : Guest) → slice_get h.guests.items number ≡ Some (Some g) → GuestStep (max h.clock.latest now) deed g k → GoesOn g k did [])
+    → ((g k : Guest) → slice_get h.guests.items number ≡ Some (Some g) → GuestStep (time_at h.clock now) deed g k → GoesOn g k did [])
     → EachFollowed (MayTake None) (did_at number did) gave_none h j
 turn_followed now number deed did h j t each =
     did_there (MayTake None) number did h j (λ k other. subst (Still (slice_get h.guests.items k)) (sym (t.apart.others k other)) (still (slice_get h.guests.items k)))
     (λ g e a b programs m side meets here z.
-    let w = went_goes (max h.clock.latest now) deed (slice_get h.guests.items number) (slice_get j.guests.items number) g t.went e in
+    let w = went_goes (time_at h.clock now) deed (slice_get h.guests.items number) (slice_get j.guests.items number) g t.went e in
     following.stays w.0 w.1 (each g w.0 e w.2 a b programs m side meets here))
 
 -- ---- what is told
@@ -176,17 +178,27 @@ connect_followed now way socket peer number h j c =
 -- ---- all that the program does
 
 pub done_followed : (law : AStepKeepsItsPromises) (h j : Host) (did : ℕ → Deeds → Deeds) → HasDone h j did → EachFollowed (MayTake None) did gave_none h j
-done_followed law h j did (following.called now number c t) = turn_followed now number (deeds.made c) _ h j t (λ g k e s. calls (max h.clock.latest now) c g k law s)
+done_followed law h j did (following.called now number c t) = turn_followed now number (deeds.made c) _ h j t (λ g k e s. calls (time_at h.clock now) c g k law s)
 done_followed law h j did (following.answered now number n kind words f there asked t) =
     turn_followed now number (deeds.gave kind words) _ h j t
-    (λ g k e s. answers (max h.clock.latest now) kind n words g k law s (subst (λ (x : Guest). asked_of x.connection.conversation.side ≡ Some n) (one_guest f g (sym there ∙ e)) asked))
-done_followed law h j did (following.closed now number t) = turn_followed now number deeds.asked no_more h j t (λ g k e s. closes (max h.clock.latest now) g k law s)
+    (λ g k e s. answers (time_at h.clock now) kind n words g k law s (subst (λ (x : Guest). asked_of x.connection.conversation.side ≡ Some n) (one_guest f g (sym there ∙ e)) asked))
+done_followed law h j did (following.closed now number t) = turn_followed now number deeds.asked no_more h j t (λ g k e s. closes (time_at h.clock now) g k law s)
 done_followed law h j did (following.was_told event t) = events_followed law h.clock.latest h j event (places_of h) (places_of j) refl refl t.next
 done_followed law h j did (following.connected now way socket peer number c) = connect_followed now way socket peer number h j c
 done_followed law h j did (following.was_refused now number deed fault t) = each_still (MayTake None) h j (λ k. subst (Still (slice_get h.guests.items k)) (sym (t.unchanged k)) (still (slice_get h.guests.items k)))
+done_followed law h j did (following.abandoned_none number fault a) = each_still (MayTake None) h j (still_if h.guests.items j.guests.items (ap (λ (p : Places). p.guests) a.unchanged))
 done_followed law h j did (following.found_no_room now way socket peer fault c) = each_still (MayTake None) h j (still_if h.guests.items j.guests.items (ap (λ (p : Places). p.guests) c.unchanged))
 done_followed law h j did (following.was_told_nothing t) = each_still (MayTake None) h j (nothing_told h.clock.latest (places_of h) t.next)
 done_followed law h j did (following.served socket programs result s) = each_still (MayTake None) h j (still_if h.guests.items j.guests.items (ap (λ (w : Whole). w.places.guests) s.rest))
+
+-- one is gone, and each other one is as it was
+pub abandoned_followed : (number : ℕ) (h j : Host) → Abandons number (Ok tt) h j → (k : ℕ) → k ≢ number
+    → IsFollowed (MayTake None) no_more [] (slice_get h.guests.items k) (slice_get j.guests.items k)
+abandoned_followed number h j a k other =
+    let same : slice_get j.guests.items k ≡ slice_get h.guests.items k
+    = ap (λ (p : Places). slice_get p.guests k) a.gone ∙ beside h.guests.items number k None other in
+    followed (MayTake None) (slice_get h.guests.items k) (slice_get j.guests.items k)
+    (subst (Still (slice_get h.guests.items k)) (sym same) (still (slice_get h.guests.items k)))
 
 -- ---- what goes out
 
@@ -233,9 +245,9 @@ next_given law now p q s (places.starves {q = x} {r = r} number before first ask
 
 out_given : (law : AStepKeepsItsPromises) (now : ℕ) (result : Result (Option Outgoing) HostFault) (h j : Host) → GivesOut now result h j → (waiting : List Outgoing) → h.strays.waiting ≡ waiting
     → Given result h.guests.items j.guests.items
-out_given law now result h j g [] is = next_given law (max h.clock.latest now) (places_of h) g.mid (all_act (max h.clock.latest now) (places_of h) g.acts.one_by_one) (g.next is).0
+out_given law now result h j g [] is = next_given law (time_at h.clock now) (places_of h) g.mid (all_act (time_at h.clock now) (places_of h) g.acts.one_by_one) (g.next is).0
 out_given law now result h j g (o ∷ os) is =
-    none_given result h.guests.items j.guests.items (each_then h.guests.items g.mid.guests j.guests.items (all_act (max h.clock.latest now) (places_of h) g.acts.one_by_one)
+    none_given result h.guests.items j.guests.items (each_then h.guests.items g.mid.guests j.guests.items (all_act (time_at h.clock now) (places_of h) g.acts.one_by_one)
     (still_if g.mid.guests j.guests.items (ap (λ (p : Places). p.guests) (g.stray o os is).1)))
 
 pub given_followed : (law : AStepKeepsItsPromises) (now : ℕ) (result : Result (Option Outgoing) HostFault) (h j : Host) → GivesOut now result h j
@@ -257,7 +269,7 @@ hears_at law now number bytes confirming p r t =
     let same : t.guest ≡ g = one_guest t.guest g (sym t.was ∙ e) in
     following.stays t.next there (hears_it now bytes confirming t.guest t.next law t.turn a b programs m side meets (here ∙ ap (λ (x : Guest). x.connection.conversation) (sym same)) may))
 
-opens_followed : (law : AStepKeepsItsPromises) (now way : ℕ) (bytes : List ℕ) (packet : SppPacketModel) (w : Whole) {register : Register} {r : Places} → Opens now way bytes packet w register r
+opens_followed : (law : AStepKeepsItsPromises) (now way : ℕ) (bytes : List ℕ) (packet : SppPacketModel) (w : Whole) {register : Register} {strays : StrayQueue} {r : Places} → Opens now way bytes packet w register strays r
     → (k : ℕ) → IsFollowed (MayTake (Some bytes)) no_more [] (slice_get w.places.guests k) (slice_get r.guests k)
 opens_followed law now way bytes packet w {r = r} (coming.opened {mid = mid} number id peer programs opener served seats turn) =
     let p = w.places in
@@ -267,15 +279,12 @@ opens_followed law now way bytes packet w {r = r} (coming.opened {mid = mid} num
     (λ k other. subst (Still (slice_get p.guests k)) (sym (ap (λ (l : List (Option Guest)). slice_get l k) to ∙ (beside mid.guests number k (Some turn.next) other
     ∙ (ap (λ (l : List (Option Guest)). slice_get l k) is ∙ taken_beside p number k seats.guest other)))) (still (slice_get p.guests k)))
     (gives_way (MayTake (Some bytes)) p.guests (slice_get r.guests number) seats.place)
-opens_followed law now way bytes packet w (coming.full same) = λ k. followed (MayTake (Some bytes)) (slice_get w.places.guests k) (slice_get w.places.guests k) (still (slice_get w.places.guests k))
-
-unmoved : {p r : Places} → IsUnmoved p r → EachStill p.guests r.guests
-unmoved {p} places.same = all_still p.guests
-unmoved {p} (places.noted_again number place at) = all_still p.guests
+opens_followed law now way bytes packet w (coming.full why same) = λ k. followed (MayTake (Some bytes)) (slice_get w.places.guests k) (slice_get w.places.guests k) (still (slice_get w.places.guests k))
+opens_followed law now way bytes packet w (coming.starved same) = λ k. followed (MayTake (Some bytes)) (slice_get w.places.guests k) (slice_get w.places.guests k) (still (slice_get w.places.guests k))
 
 comes_followed : (law : AStepKeepsItsPromises) (now way : ℕ) (bytes : List ℕ) (w : Whole) {result : Bool} {n : Whole} → Comes now way bytes w result n
     → (k : ℕ) → IsFollowed (MayTake (Some bytes)) no_more [] (slice_get w.places.guests k) (slice_get n.places.guests k)
-comes_followed law now way bytes w (coming.foreign {q = q} strange rest) k = followed (MayTake (Some bytes)) (slice_get w.places.guests k) (slice_get q.guests k) (unmoved rest k)
+comes_followed law now way bytes w (coming.foreign strange) k = followed (MayTake (Some bytes)) (slice_get w.places.guests k) (slice_get w.places.guests k) (still (slice_get w.places.guests k))
 comes_followed law now way bytes w (coming.echoes p taken is asks stray) k = followed (MayTake (Some bytes)) (slice_get w.places.guests k) (slice_get w.places.guests k) (still (slice_get w.places.guests k))
 comes_followed law now way bytes w (coming.refuses p taken {q = q} is quotes turn) k =
     followed (MayTake (Some bytes)) (slice_get w.places.guests k) (slice_get q.guests k) (turns_still (GuestUnserved now) quotes.number w.places q (λ g h s. not_served now g h s) turn k)
@@ -284,4 +293,4 @@ comes_followed law now way bytes w (coming.opens p is opener o) k = opens_follow
 
 pub heard_followed : (law : AStepKeepsItsPromises) (now way : ℕ) (bytes : List ℕ) (result : Bool) (h j : Host) → TakesIn now way bytes result h j
     → EachFollowed (MayTake (Some bytes)) (λ k. no_more) gave_none h j
-heard_followed law now way bytes result h j t = comes_followed law (max h.clock.latest now) way bytes (whole_of h) t.comes
+heard_followed law now way bytes result h j t = comes_followed law (time_at h.clock now) way bytes (whole_of h) t.comes

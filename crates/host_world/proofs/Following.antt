@@ -6,10 +6,10 @@ use Rattle.std.proofs.lemmas.Option.{slice_get_within}
 use Rattle.courier_sessions.specs.declared.program.Program.{Program}
 use Rattle.item_world.specs.declared.side.Side.{Side}
 use Rattle.xns_host.specs.Hosting.{may_go}
-use Rattle.xns_host.specs.Living.{Deeds}
-use Rattle.xns_host.specs.Places.{Acts, ActsAt, AsksEvent, AsksInVain, GivesNone, IsUnmoved, NextEvent, NextPacket, Places, Turns, became, event_passed, packet_passed, seated, taken_by, vacated, vacated_if}
+use Rattle.xns_connection.specs.Living.{Deeds}
+use Rattle.xns_host.specs.Places.{Acts, ActsAt, AsksEvent, AsksInVain, GivesNone, NextEvent, NextPacket, Places, Turns, became, event_passed, packet_passed, seated, taken_by, vacated, vacated_if}
 use Rattle.xns_host.specs.Places as places
-use Rattle.xns_host.specs.Step.{AStepKeepsItsPromises}
+use Rattle.xns_connection.specs.Step.{AStepKeepsItsPromises}
 use Rattle.xns_host.specs.Went.{GuestGives}
 use Rattle.xns_host.specs.declared.guest.Guest.{Guest}
 use Rattle.xns_host.specs.declared.host_fault.HostFault.{HostFault}

@@ -8,11 +8,11 @@ use Rattle.xns_spp.specs.Held.{StandsFor}
 use Rattle.xns_spp.specs.Sending.{after_flush, flush_answer}
 use Rattle.xns_spp.specs.State.{State, send_limit}
 use Rattle.xns_spp.specs.Telling.{after_resend, resend_answer, told_answer}
-use Rattle.xns_host.specs.Giving.{Giving, GivesAs, IsGiving, IsShort, at_first, at_flush, at_word, else_newer, flushed, giving, if_again, newer, newer_of, next_of, older, older_of, said_again}
-use Rattle.xns_host.specs.Story.{GoesOn, Runs, Story, flushes, made_on, resends, start, tells}
-use Rattle.xns_host.specs.Telling.{Gives, Tells}
-use Rattle.xns_host.specs.declared.conversation.Conversation.{Conversation}
-use Rattle.xns_host.specs.declared.owed.Owed.{Owed}
+use Rattle.xns_connection.specs.Giving.{Giving, GivesAs, IsGiving, IsShort, at_first, at_flush, at_word, else_newer, flushed, giving, if_again, newer, newer_of, next_of, next_unless, older, older_of, said_again}
+use Rattle.xns_connection.specs.Story.{GoesOn, Runs, Story, flushes, made_on, resends, start, tells}
+use Rattle.xns_connection.specs.Telling.{Gives, Tells}
+use Rattle.xns_connection.specs.declared.conversation.Conversation.{Conversation}
+use Rattle.xns_connection.specs.declared.owed.Owed.{Owed}
 use Rattle.host_world.proofs.Telling.{Quiet, tells_so}
 
 -- ---- the end
@@ -122,6 +122,11 @@ short_gives x (at_word none) =
       is = ap (λ (l : List (List ℕ)). l ++ flush_answer s) (sym d.0.made) ∙ ap (λ (l : List (List ℕ)). l ++ (made_on d.0.path ++ flush_answer s)) (sym d.1);
     }
 
+-- nor by a dead connection
+unless_gives : (dead : Bool) (x : Giving) → GivesBy x.state x.packets (next_unless dead x)
+unless_gives true x = record { path = start; quiet = record { accepted = refl; handed = refl; taken = refl }; is = sym (append-nil x.packets) }
+unless_gives false x = next_gives x
+
 -- ---- a conversation gives it
 
 gives_by : (c d : Conversation) (owed now_owed : Owed) (h : Story) (p : Option (List ℕ)) (y : Option (List ℕ) × Giving) → Tells c h → d.side ≡ c.side → d.closing ≡ c.closing
@@ -139,16 +144,16 @@ abbrev pub packet_of : Result (Option (List ℕ)) AllocError → Option (List �
 packet_of (Ok p) = p
 packet_of (Err e) = None
 
-pub gives_on_from : (c d : Conversation) (owed now_owed : Owed) (answer : Result (Option (List ℕ)) AllocError) → d.side ≡ c.side → d.closing ≡ c.closing
-    → IfOk answer (λ p. (s : State) → StandsFor c.endpoint s → GivesAs (next_of (giving c owed s)) p d now_owed)
+pub gives_on_from : (dead : Bool) (c d : Conversation) (owed now_owed : Owed) (answer : Result (Option (List ℕ)) AllocError) → d.side ≡ c.side → d.closing ≡ c.closing
+    → IfOk answer (λ p. (s : State) → StandsFor c.endpoint s → GivesAs (next_unless dead (giving c owed s)) p d now_owed)
     → OnErr answer ((s : State) → StandsFor c.endpoint s → (y : Giving) × IsShort (giving c owed s) y × IsGiving d now_owed y)
     → Gives c d (packet_of answer)
-gives_on_from c d owed now_owed (Ok p) side closing gave short = record {
+gives_on_from dead c d owed now_owed (Ok p) side closing gave short = record {
   on = λ h t.
       let g = gave h.state t.stands in
-      gives_by c d owed now_owed h p (next_of (giving c owed h.state)) t side closing (next_gives (giving c owed h.state)) g.0 g.1;
+      gives_by c d owed now_owed h p (next_unless dead (giving c owed h.state)) t side closing (unless_gives dead (giving c owed h.state)) g.0 g.1;
 }
-gives_on_from c d owed now_owed (Err e) side closing gave short = record {
+gives_on_from dead c d owed now_owed (Err e) side closing gave short = record {
   on = λ h t.
       let g = short h.state t.stands in
       gives_by c d owed now_owed h None (None, g.0) t side closing (short_gives (giving c owed h.state) g.1) refl g.2;

@@ -13,20 +13,21 @@ use Rattle.xns_agenda.specs.Waiting.{act_at, lingering}
 use Rattle.xns_agenda.specs.declared.act.Act.{Act}
 use Rattle.xns_agenda.specs.declared.act.Act.TheVariants.{Nothing, Again, Ask, GiveUp, Forget}
 use Rattle.xns_spp.specs.Ends.{is_open}
-use Rattle.xns_host.specs.Acting.{Acts, idling, calling, handing, answering}
-use Rattle.xns_host.specs.Deeds as deeds
-use Rattle.xns_host.specs.Deeds.{Deed, Parts, acted_by, done, given_up, side_taken, told_by, unserved, with_answer}
-use Rattle.xns_host.specs.Living.{Deeds}
-use Rattle.xns_host.specs.Step.{AStepKeepsItsPromises, Hands, MovesOwed, calmly, moving_on, none_waits, parts_of}
-use Rattle.xns_host.specs.Story.{GoesOn as StoryGoesOn, Story, asked_of, start, waiting_message, with_handed}
-use Rattle.xns_host.specs.Telling.{Gives, Hears, Tells}
+use Rattle.xns_connection.specs.Acting.{Acts, idling, calling, handing, answering}
+use Rattle.xns_connection.specs.Connecting.{is_dead}
+use Rattle.xns_connection.specs.Deeds as deeds
+use Rattle.xns_connection.specs.Deeds.{Deed, Parts, acted_by, done, given_up, side_taken, told_by, unserved, with_answer}
+use Rattle.xns_connection.specs.Living.{Deeds}
+use Rattle.xns_connection.specs.Step.{AStepKeepsItsPromises, Hands, MovesOwed, calmly, moving_on, none_waits, parts_of}
+use Rattle.xns_connection.specs.Story.{GoesOn as StoryGoesOn, Story, asked_of, start, waiting_message, with_handed}
+use Rattle.xns_connection.specs.Telling.{Gives, Hears, Tells}
 use Rattle.xns_host.specs.Went.{GuestActs, GuestGives, GuestHears, GuestStep, GuestTells, GuestUnserved, given_by, hears, lost}
-use Rattle.xns_host.specs.declared.connection.Connection.{Connection}
-use Rattle.xns_host.specs.declared.conversation.Conversation.{Conversation}
+use Rattle.xns_connection.specs.declared.connection.Connection.{Connection}
+use Rattle.xns_connection.specs.declared.conversation.Conversation.{Conversation}
 use Rattle.xns_host.specs.declared.guest.Guest.{Guest}
 use Rattle.xns_host.specs.declared.host_fault.HostFault.{HostFault}
 use Rattle.xns_host.specs.declared.outgoing.Outgoing.{Outgoing}
-use Rattle.xns_host.specs.declared.why.Why.TheVariants.{NotServed}
+use Rattle.xns_connection.specs.declared.why.Why.TheVariants.{NotServed}
 use Rattle.host_world.specs.Guests.{GoesOn, HearsOn, LeadsTo, packets_in}
 use Rattle.host_world.specs.Meeting.{Meeting, at}
 use Rattle.host_world.specs.Meets.{Meets}
@@ -168,7 +169,7 @@ gives now result g h law s a b programs m side meets here =
     let mid = n.mid in
     let owed = owed_on g.connection.owed.moving now g.connection mid law n.moved in
     let one = acts_so g.connection.conversation mid.conversation (λ k. k) no_more owed.0 (λ k l. idling) owed.1 a b programs m side meets here in
-    let out = gives_on_from mid.conversation h.connection.conversation mid.owed h.connection.owed s.answer n.beside.0 n.beside.1 n.gave n.short in
+    let out = gives_on_from (is_dead mid.closed) mid.conversation h.connection.conversation mid.owed h.connection.owed s.answer n.beside.0 n.beside.1 n.gave n.short in
     let two = gives_on one.next one.meets side (packet_of s.answer) h.connection.conversation (subst (λ (k : Conversation). Gives k h.connection.conversation (packet_of s.answer)) (sym one.conversation) out) in
     subst (LeadsTo a b programs m side h no_more) (sym (ap packets_in s.is ∙ packets_given g.via h.connection.owed.fresh s.answer)) (leads h (then_on one two))
 

@@ -1,35 +1,33 @@
 -- What a packet that came, and each call of a host, make happen at its numbers.
 use Rattle.std.proofs.Common.{◌≡◌, ap, refl, sym, subst, ℕ, zero, suc, Bool, true, false, List, [], ◌∷◌, ◌++◌, replicate, Option, Some, None, Result, Ok, append-nil}
-use Rattle.std.specs.Prelude.{◌==◌, if◌then◌else◌, max, slice_get}
+use Rattle.std.specs.Prelude.{◌==◌, if◌then◌else◌, slice_get}
 use Rattle.xns_idp.specs.declared.address.Address.{Address}
 use Rattle.xns_spp.specs.Packet.{SppPacketModel}
+use Rattle.xns_agenda.specs.Clock.{time_at}
 use Rattle.xns_host.specs.Coming.{Comes, Opens}
 use Rattle.xns_host.specs.Coming as coming
 use Rattle.xns_host.specs.Hosting.{confirms}
-use Rattle.xns_host.specs.Places.{Acts, ActsAt, AsksEvent, AsksInVain, GivesNone, IsUnmoved, NextEvent, NextPacket, Places, Turns, became, event_passed, packet_passed, places_with, seated, taken_by, vacated, vacated_if}
+use Rattle.xns_host.specs.Places.{Acts, ActsAt, AsksEvent, AsksInVain, GivesNone, NextEvent, NextPacket, Places, Turns, became, event_passed, packet_passed, places_with, seated, taken_by, vacated, vacated_if}
 use Rattle.xns_host.specs.Places as places
-use Rattle.xns_host.specs.Turn.{ConnectsTo, GivesOut, TellsNext, Turn, places_of, whole_of}
+use Rattle.xns_host.specs.Turn.{Abandons, ConnectsTo, GivesOut, TellsNext, Turn, places_of, whole_of}
 use Rattle.xns_host.specs.Went.{GuestHears, GuestStep, GuestUnserved, Went}
 use Rattle.xns_host.specs.Whole.{Whole}
-use Rattle.xns_host.specs.Deeds.{Deed}
+use Rattle.xns_connection.specs.Deeds.{Deed}
+use Rattle.xns_host.specs.Strays.{StrayQueue}
 use Rattle.xns_host.specs.declared.register.Register.{Register}
 use Rattle.xns_host.specs.declared.event.Event.{Event}
 use Rattle.xns_host.specs.declared.guest.Guest.{Guest}
 use Rattle.xns_host.specs.declared.host.Host.{Host}
 use Rattle.xns_host.specs.declared.host_fault.HostFault.{HostFault}
 use Rattle.xns_host.specs.declared.outgoing.Outgoing.{Outgoing}
-use Rattle.host_world.specs.Dialogue.{Dialogue, new_dialogue, View, free, held, Happening, connects, opens, connecting, opening}
-use Rattle.host_world.specs.Seen.{HasHistory, IsSaid, IsSeen, Lives, Quiet, begins, finds_no_room, gives_out, goes_on, has_connected, has_said, is_refused, news_of, number_of, of_answer, of_call, of_close, said_at, serves, takes_in, tells_nothing, was_told}
+use Rattle.host_world.specs.Dialogue.{Dialogue, new_dialogue, View, free, held, Happening, abandons, connects, opens, abandoning, connecting, opening}
+use Rattle.host_world.specs.Seen.{HasHistory, IsSaid, IsSeen, Lives, Quiet, abandons_none, begins, finds_no_room, gives_out, goes_on, has_abandoned, has_connected, has_said, is_refused, news_of, number_of, of_answer, of_call, of_close, said_at, serves, takes_in, tells_nothing, was_told}
 use Rattle.host_world.proofs.Shown.{Passes, Shows, ShowsIn, after_answer, after_call, after_close, first_said, first_unseen, hearing, stays, unserving}
-use Rattle.host_world.proofs.Numbers.{passes_then, One, AtEach, Silent, silent, silent_if, then_silent, one_changed, unsaid, of_guest, turned, all_act, next_packet, next_event, no_event, connected_shows, opened_shows, taking}
+use Rattle.host_world.proofs.Numbers.{passes_then, One, AtEach, Silent, silent, silent_if, then_silent, one_changed, unsaid, of_guest, set_changed, turned, all_act, next_packet, next_event, no_event, connected_shows, opened_shows, taking}
 
 -- ---- a packet that came
 
-unmoved : {p r : Places} → IsUnmoved p r → Silent p.guests r.guests
-unmoved {p} places.same = silent p.guests
-unmoved {p} (places.noted_again number place at) = silent p.guests
-
-opens_it : (now way : ℕ) (bytes : List ℕ) (packet : SppPacketModel) (w : Whole) {register : Register} {r : Places} → Opens now way bytes packet w register r → Silent w.places.guests r.guests
+opens_it : (now way : ℕ) (bytes : List ℕ) (packet : SppPacketModel) (w : Whole) {register : Register} {strays : StrayQueue} {r : Places} → Opens now way bytes packet w register strays r → Silent w.places.guests r.guests
 opens_it now way bytes packet w (coming.opened {mid = mid} {new = new} number id peer programs opener served seats turn) =
     let guest = seats.guest in
     let shows = opened_shows guest seats.answering in
@@ -39,10 +37,11 @@ opens_it now way bytes packet w (coming.opened {mid = mid} {new = new} number id
     (first_unseen free (held (new_dialogue false)) opens [] (Some (Some guest)) opening refl (stays (held (new_dialogue false)) (Some (Some guest)) shows))))
     (unsaid number taken.guests new.guests (turned (GuestHears now bytes false) number taken new [] (λ d g h s t. hearing now bytes false d g h s t)
     (subst (λ (p : Places). Turns (GuestHears now bytes false) number p new) seats.is turn)))
-opens_it now way bytes packet w (coming.full same) = silent w.places.guests
+opens_it now way bytes packet w (coming.full why same) = silent w.places.guests
+opens_it now way bytes packet w (coming.starved same) = silent w.places.guests
 
 comes : (now way : ℕ) (bytes : List ℕ) (w : Whole) {result : Bool} {n : Whole} → Comes now way bytes w result n → Silent w.places.guests n.places.guests
-comes now way bytes w (coming.foreign never rest) = unmoved rest
+comes now way bytes w (coming.foreign never) = silent w.places.guests
 comes now way bytes w (coming.echoes p taken is asks stray) = silent w.places.guests
 comes now way bytes w (coming.refuses p taken {q = q} is quotes turn) =
     unsaid quotes.number w.places.guests q.guests (turned (GuestUnserved now) quotes.number w.places q [] (λ d g h s t. unserving now d g h s t) turn)
@@ -66,7 +65,7 @@ said_by now {deed} {x} is (Some (Some g)) (Some (Some h)) w v shows = of_guest g
 pub turns_say : (now number : ℕ) (deed : Deed) (x : Happening) (h j : Host) → IsSaid deed x → Turn now number deed (Ok tt) h j → AtEach (One number (x ∷ [])) h.guests.items j.guests.items
 turns_say now number deed x h j is t =
     one_changed h.guests.items j.guests.items number (x ∷ []) t.apart.others
-    (λ v shows. said_by (max h.clock.latest now) is (slice_get h.guests.items number) (slice_get j.guests.items number) t.went v shows)
+    (λ v shows. said_by (time_at h.clock now) is (slice_get h.guests.items number) (slice_get j.guests.items number) t.went v shows)
 
 pub connects_to : (now way socket : ℕ) (peer : Address) (number : ℕ) (h j : Host) → ConnectsTo now way socket peer (Ok number) h j → AtEach (One number (connects ∷ [])) h.guests.items j.guests.items
 connects_to now way socket peer number h j c =
@@ -76,23 +75,32 @@ connects_to now way socket peer number h j c =
     (taking (places_of h) g (connects ∷ []) c.place
     (first_said free (held (new_dialogue true)) connects [] (Some (Some g)) connecting refl (stays (held (new_dialogue true)) (Some (Some g)) (connected_shows c.connected))))
 
+-- whatever became of it, the number is free
+pub abandoned_at : (number : ℕ) (h j : Host) → Abandons number (Ok tt) h j → AtEach (One number (abandons ∷ [])) h.guests.items j.guests.items
+abandoned_at number h j a =
+    let g = a.there.0 in
+    subst (AtEach (One number (abandons ∷ [])) h.guests.items) (sym (ap (λ (p : Places). p.guests) a.gone))
+    (set_changed h.guests.items number (Some g) None (abandons ∷ []) a.there.1
+    (of_guest g (abandons ∷ []) (Some None) (λ d s. first_said (held d) free abandons [] (Some None) (abandoning d) refl (stays free (Some None) tt))))
+
 pub telling_next : (event : Event) (h j : Host) → TellsNext (Some event) h j → AtEach (One (number_of event) (news_of event ∷ [])) h.guests.items j.guests.items
 telling_next event h j t = next_event h.clock.latest (places_of h) event t.next
 
 giving : (now : ℕ) (result : Result (Option Outgoing) HostFault) (h j : Host) → GivesOut now result h j → (waiting : List Outgoing) → h.strays.waiting ≡ waiting → Silent h.guests.items j.guests.items
 giving now result h j g [] is =
     let n = (g.next is).0 in
-    then_silent (λ k. []) h.guests.items g.mid.guests j.guests.items (all_act (max h.clock.latest now) (places_of h) g.acts.one_by_one) (next_packet (max h.clock.latest now) g.mid n)
+    then_silent (λ k. []) h.guests.items g.mid.guests j.guests.items (all_act (time_at h.clock now) (places_of h) g.acts.one_by_one) (next_packet (time_at h.clock now) g.mid n)
 giving now result h j g (o ∷ os) is =
     let s = g.stray o os is in
-    then_silent (λ k. []) h.guests.items g.mid.guests j.guests.items (all_act (max h.clock.latest now) (places_of h) g.acts.one_by_one)
+    then_silent (λ k. []) h.guests.items g.mid.guests j.guests.items (all_act (time_at h.clock now) (places_of h) g.acts.one_by_one)
     (silent_if g.mid.guests j.guests.items (ap (λ (p : Places). p.guests) s.1))
 
 pub quietly : (h j : Host) → Quiet h j → Silent h.guests.items j.guests.items
 quietly h j (is_refused now number deed fault t) = λ k v shows. subst (Passes [] v) (sym (t.unchanged k)) (stays v (slice_get h.guests.items k) shows)
+quietly h j (abandons_none number fault a) = silent_if h.guests.items j.guests.items (ap (λ (p : Places). p.guests) a.unchanged)
 quietly h j (finds_no_room now way socket peer fault c) = silent_if h.guests.items j.guests.items (ap (λ (p : Places). p.guests) c.unchanged)
 quietly h j (tells_nothing t) = no_event h.clock.latest (places_of h) t.next
-quietly h j (takes_in now way bytes result t) = comes (max h.clock.latest now) way bytes (whole_of h) t.comes
+quietly h j (takes_in now way bytes result t) = comes (time_at h.clock now) way bytes (whole_of h) t.comes
 quietly h j (gives_out now result g) = giving now result h j g h.strays.waiting refl
 quietly h j (serves socket programs result s) = silent_if h.guests.items j.guests.items (ap (λ (w : Whole). w.places.guests) s.rest)
 
@@ -121,6 +129,8 @@ lives (has_connected {h = h} {j = j} {said = said} before now way socket peer nu
     says_more said number connects h.guests.items j.guests.items (lives before) (connects_to now way socket peer number h j c) k
 lives (has_said {h = h} {j = j} {said = said} before now number deed x is t) k =
     says_more said number x h.guests.items j.guests.items (lives before) (turns_say now number deed x h j is t) k
+lives (has_abandoned {h = h} {j = j} {said = said} before number a) k =
+    says_more said number abandons h.guests.items j.guests.items (lives before) (abandoned_at number h j a) k
 lives (was_told {h = h} {j = j} {said = said} before event t) k =
     says_more said (number_of event) (news_of event) h.guests.items j.guests.items (lives before) (telling_next event h j t) k
 lives (goes_on {h = h} {j = j} {said = said} before q) k =

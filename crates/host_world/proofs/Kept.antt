@@ -21,14 +21,14 @@ use Rattle.item_world.specs.World.{World, end_of, lifetime, marked, has_passed, 
 use Rattle.item_world.specs.declared.emitted.Emitted.{Emitted}
 use Rattle.item_world.specs.declared.side.Side.{Side}
 use Rattle.item_world.specs.declared.side.Side.TheVariants.{A, B}
-use Rattle.xns_host.specs.Acting.{Acts, idling, calling, handing, answering, IsTold}
-use Rattle.xns_host.specs.Agreeing.{ArePeers}
-use Rattle.xns_host.specs.Living.{Deeds, no_deeds, IsLived, ProgramsAgree}
-use Rattle.xns_host.specs.Story.{Story, GoesOn, made_on, new_story, with_handed}
-use Rattle.xns_host.specs.Telling.{Tells}
-use Rattle.xns_host.specs.declared.conversation.Conversation.{Conversation}
-use Rattle.xns_host.specs.declared.side.Side.{Side as Kind}
-use Rattle.xns_host.specs.declared.side.Side.TheVariants.{Calls, Answers}
+use Rattle.xns_connection.specs.Acting.{Acts, idling, calling, handing, answering, IsTold}
+use Rattle.xns_connection.specs.Agreeing.{ArePeers}
+use Rattle.xns_connection.specs.Living.{Deeds, no_deeds, IsLived, ProgramsAgree}
+use Rattle.xns_connection.specs.Story.{Story, GoesOn, made_on, new_story, with_handed}
+use Rattle.xns_connection.specs.Telling.{Tells}
+use Rattle.xns_connection.specs.declared.conversation.Conversation.{Conversation}
+use Rattle.xns_connection.specs.declared.side.Side.{Side as Kind}
+use Rattle.xns_connection.specs.declared.side.Side.TheVariants.{Calls, Answers}
 use Rattle.host_world.specs.Meeting.{Meeting, at, new_meeting, led, Next, went_on, IsMade}
 use Rattle.host_world.specs.Meets.{heard, Meets, opens, acts, gives, arrives, strays, IsMet}
 use Rattle.host_world.specs.Pairing.{MayCome, WasMade, made as comes}
@@ -226,7 +226,7 @@ pub new_holds : EndLaws → (a b : Station) → IsStation a → IsStation b → 
 new_holds laws a b here there = record {
   ends = λ side. elim side as (λ s. Stands (end_of (record { a = calling_end a b; b = called_end b a; bag = [] }) s) (end_of (record { a = calling_end a b; b = called_end b a; bag = [] }) (other s))) [
     | A ↦ record {
-      fits = laws.bounds.initiator a.address b.address a.id a.settings.window a.settings.backlog here.address there.address here.id_least here.id_most here.settings.window.0 here.settings.window.1 here.settings.backlog.0 here.settings.backlog.1;
+      fits = laws.bounds.initiator a.address b.address a.id a.terms.window a.terms.backlog here.address there.address here.id_least here.id_most a.terms.window_fits.0 a.terms.window_fits.1 a.terms.backlog_fits.0 a.terms.backlog_fits.1;
       taken = ([], refl);
       went_out = omega arith;
       early = λ k x e. absurd (cc);
@@ -234,7 +234,7 @@ new_holds laws a b here there = record {
       reached = omega arith;
     }
     | B ↦ record {
-      fits = laws.bounds.responder b.address a.address b.id a.id b.settings.window b.settings.backlog there.address here.address there.id_least there.id_most here.id_least here.id_most there.settings.window.0 there.settings.window.1 there.settings.backlog.0 there.settings.backlog.1;
+      fits = laws.bounds.responder b.address a.address b.id a.id b.terms.window b.terms.backlog there.address here.address there.id_least there.id_most here.id_least here.id_most b.terms.window_fits.0 b.terms.window_fits.1 b.terms.backlog_fits.0 b.terms.backlog_fits.1;
       taken = ([], refl);
       went_out = omega arith;
       early = λ k x e. absurd (cc);

@@ -21,7 +21,7 @@ use Rattle.item_world.specs.declared.emitted.Emitted.{Emitted}
 use Rattle.item_world.specs.declared.moment.Moment.{Moment}
 use Rattle.item_world.specs.declared.side.Side.{Side}
 use Rattle.item_world.specs.declared.side.Side.TheVariants.{A, B}
-use Rattle.xns_host.specs.Story.{Runs, start, sends as accepts, takes, flushes, resends, tells, made_on}
+use Rattle.xns_connection.specs.Story.{Runs, start, sends as accepts, takes, flushes, resends, tells, made_on}
 use Rattle.host_world.specs.Meeting.{led}
 use Rattle.host_world.specs.Pairing.{AreKept}
 

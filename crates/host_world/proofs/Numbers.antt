@@ -12,22 +12,22 @@ use Rattle.courier_sessions.specs.Talks.{count_if}
 use Rattle.courier_sessions.specs.declared.program.Program.{Program}
 use Rattle.xns_idp.specs.declared.address.Address.{Address}
 use Rattle.xns_spp.specs.State.{State}
-use Rattle.xns_host.specs.Hosting.{IsConnected, IsAnswering, IsPlace, free_place, of_closed, of_stranger, may_go, tells as has_news}
+use Rattle.xns_host.specs.Hosting.{IsConnected, IsAnswering, IsPlace, free_place, of_closed, of_stranger, is_past, may_go, tells as has_news}
 use Rattle.xns_agenda.specs.Waiting.{due_time}
-use Rattle.xns_host.specs.Places.{Acts, ActsAt, AsksEvent, AsksInVain, GivesNone, IsUnmoved, NextEvent, NextPacket, Places, Turns, became, event_passed, packet_passed, places_with, seated, taken_by, vacated, vacated_if}
+use Rattle.xns_host.specs.Places.{Acts, ActsAt, AsksEvent, AsksInVain, GivesNone, NextEvent, NextPacket, Places, Turns, became, event_passed, packet_passed, places_with, seated, taken_by, vacated, vacated_if}
 use Rattle.xns_host.specs.Places as places
-use Rattle.xns_host.specs.Story.{SideHas, new_story}
+use Rattle.xns_connection.specs.Story.{SideHas, new_story}
 use Rattle.xns_host.specs.Went.{GuestGives}
 use Rattle.xns_host.specs.Identifiers.{Ids}
 use Rattle.xns_host.specs.declared.settings.Settings.{Settings}
-use Rattle.xns_host.specs.declared.connection.Connection.{Connection}
+use Rattle.xns_connection.specs.declared.connection.Connection.{Connection}
 use Rattle.xns_host.specs.declared.event.Event.{Event}
 use Rattle.xns_host.specs.declared.guest.Guest.{Guest}
 use Rattle.xns_host.specs.declared.host_fault.HostFault.{HostFault}
 use Rattle.xns_host.specs.declared.host_fault.HostFault.TheVariants.{NoMemory}
 use Rattle.xns_host.specs.declared.outgoing.Outgoing.{Outgoing}
-use Rattle.xns_host.specs.declared.side.Side.{Side}
-use Rattle.xns_host.specs.declared.side.Side.TheVariants.{Calls, Answers}
+use Rattle.xns_connection.specs.declared.side.Side.{Side}
+use Rattle.xns_connection.specs.declared.side.Side.TheVariants.{Calls, Answers}
 use Rattle.host_world.specs.Dialogue.{Dialogue, new_dialogue, View, free, held, MayGo, Happening, goes, freeing, is_said}
 use Rattle.host_world.specs.Seen.{news_of, number_of}
 use Rattle.host_world.proofs.Dialogues.{course_on}
@@ -108,7 +108,7 @@ one_changed old new number xs others here k v shows = by (same_or_other k number
       subst (λ (ys : List Happening). Passes ys v (slice_get new k)) (sym (one_there number k xs other))
       (subst (Passes [] v) (sym (others k other)) (stays v (slice_get old k) shows))
 
-set_changed : (gs : List (Option Guest)) (number : ℕ) (old new : Option Guest) (xs : List Happening) → slice_get gs number ≡ Some old
+pub set_changed : (gs : List (Option Guest)) (number : ℕ) (old new : Option Guest) (xs : List Happening) → slice_get gs number ≡ Some old
     → ((v : View) → ShowsIn v (Some old) → Passes xs v (Some new)) → AtEach (One number xs) gs (slice_set gs number new)
 set_changed gs number old new xs is here =
     one_changed gs (slice_set gs number new) number xs (λ k other. beside gs number k new other)
@@ -142,7 +142,7 @@ and_true true b e = (refl, e)
 and_true false b e = absurd (cc)
 
 pub may_be_told : (c : Connection) → may_go c ≡ true → c.told ≡ true
-may_be_told c e = (and_true c.told (is_none (due_time c.wait.due)) (and_true (is_some c.closed) (c.told && is_none (due_time c.wait.due)) e).1).0
+may_be_told c e = (and_true c.told (is_past c) (and_true (is_some c.closed) (c.told && is_past c) e).1).0
 
 goes_from : (v : View) (g : Guest) → ((d : Dialogue) → Shows d g → MayGo d) → ShowsIn v (Some (Some g)) → Passes [] v (Some None)
 goes_from free g may shows = absurd shows
@@ -251,8 +251,8 @@ connected_shows c = record {
   side = new_calls _ c.guest.connection.conversation.side c.tells.has;
   ours = ap is_none c.opener;
   asked = λ z. absurd (cc);
-  closed = c.unclosed;
-  told = c.untold;
+  closed = c.made.made.unclosed;
+  told = c.made.made.untold;
   over = λ z. absurd (cc);
   unheard = λ z y. refl;
 }
@@ -265,8 +265,8 @@ opened_shows {programs = programs} g c = record {
   side = new_answers programs _ g.connection.conversation.side c.tells.has;
   ours = ap is_none c.known_by;
   asked = λ z. absurd (cc);
-  closed = c.unclosed;
-  told = c.untold;
+  closed = c.made.made.unclosed;
+  told = c.made.made.untold;
   over = λ z. absurd (cc);
   unheard = λ z y. refl;
 }

@@ -18,7 +18,7 @@ use Rattle.item_world.specs.World.{World, end_of, marked, has_passed}
 use Rattle.item_world.specs.declared.emitted.Emitted.{Emitted}
 use Rattle.item_world.specs.declared.side.Side.{Side}
 use Rattle.item_world.specs.declared.side.Side.TheVariants.{A, B}
-use Rattle.xns_host.specs.Story.{Story}
+use Rattle.xns_connection.specs.Story.{Story}
 use Rattle.host_world.specs.Going.{CanFinish}
 use Rattle.host_world.specs.Meeting.{Meeting, at, led, Next}
 use Rattle.host_world.specs.Meets.{Meets, opens, acts, gives, arrives, strays}

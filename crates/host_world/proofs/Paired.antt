@@ -15,23 +15,23 @@ use Rattle.xns_spp.specs.Receiving.{after_receive, receive_answer}
 use Rattle.item_world.specs.declared.side.Side.{Side}
 use Rattle.item_world.specs.declared.side.Side.TheVariants.{A, B}
 use Rattle.xns_spp.specs.Packet.{SppPacketModel, spp_packet_of}
-use Rattle.xns_host.specs.Deeds as deeds
-use Rattle.xns_host.specs.Deeds.{Deed, with_answer, with_taken}
-use Rattle.xns_host.specs.Step.{AMessageIsHandedAsByAStep, AStepKeepsItsPromises, Hands, Step, WaitsBy, calmly, moving_on, none_waits}
-use Rattle.xns_host.specs.Acting.{Acts, idling, calling, handing, answering}
-use Rattle.xns_host.specs.Closing.{drains}
-use Rattle.xns_host.specs.Living.{Deeds, GoesFrom}
-use Rattle.xns_host.specs.Reasons.{answer_fault_of}
-use Rattle.xns_host.specs.Refusing.{answer_fault, side_answer_fault, Answers as Refusals}
-use Rattle.xns_host.specs.Story.{Story, GoesOn, asked_of, waiting_message, with_handed}
-use Rattle.xns_host.specs.Telling.{Tells, Goes, Gives, MovesAndGives, Hears}
+use Rattle.xns_connection.specs.Deeds as deeds
+use Rattle.xns_connection.specs.Deeds.{Deed, with_answer, with_taken}
+use Rattle.xns_connection.specs.Step.{AMessageIsHandedAsByAStep, AStepKeepsItsPromises, Hands, Step, WaitsBy, calmly, moving_on, none_waits}
+use Rattle.xns_connection.specs.Acting.{Acts, idling, calling, handing, answering}
+use Rattle.xns_connection.specs.Closing.{drains}
+use Rattle.xns_connection.specs.Living.{Deeds, GoesFrom}
+use Rattle.xns_connection.specs.Reasons.{answer_fault_of}
+use Rattle.xns_connection.specs.Refusing.{answer_fault, side_answer_fault, Answers as Refusals}
+use Rattle.xns_connection.specs.Story.{Story, GoesOn, asked_of, waiting_message, with_handed}
+use Rattle.xns_connection.specs.Telling.{Tells, Goes, Gives, MovesAndGives, Hears}
 use Rattle.xns_agenda.specs.Waiting.{StepsAt, still}
-use Rattle.xns_host.specs.declared.connection.Connection.{Connection}
-use Rattle.xns_host.specs.declared.conversation.Conversation.{Conversation}
-use Rattle.xns_host.specs.declared.host_fault.HostFault.{HostFault}
-use Rattle.xns_host.specs.declared.host_fault.HostFault.TheVariants.{Closing}
-use Rattle.xns_host.specs.declared.side.Side.{Side as Kind}
-use Rattle.xns_host.specs.declared.side.Side.TheVariants.{Calls, Answers}
+use Rattle.xns_connection.specs.declared.connection.Connection.{Connection}
+use Rattle.xns_connection.specs.declared.conversation.Conversation.{Conversation}
+use Rattle.xns_connection.specs.declared.refusal.Refusal.{Refusal}
+use Rattle.xns_connection.specs.declared.refusal.Refusal.TheVariants.{Closing}
+use Rattle.xns_connection.specs.declared.side.Side.{Side as Kind}
+use Rattle.xns_connection.specs.declared.side.Side.TheVariants.{Calls, Answers}
 use Rattle.host_world.specs.Meeting.{Meeting, at, Next, led, went_on}
 use Rattle.host_world.specs.Meets.{heard, Meets, opens, acts, gives, arrives, strays}
 use Rattle.host_world.specs.Pairing.{AreKept, connection_at, with_connection, Does, Steps, TakesIn, MayCome, made, foreign, no_more, one_call_more, one_message_more, one_answer_more}
@@ -218,7 +218,7 @@ pub pair_unchanged : {X E : Type 0} (p : Pair) (c d : Connection) (side : Side) 
 pair_unchanged p c d side (Ok x) is same = tt
 pair_unchanged p c d side (Err e) is same = put_back p side d (same ∙ is)
 
-pub pair_calls : AStepKeepsItsPromises → (p : Pair) (c d : Connection) (side : Side) (now : ℕ) (call : RawCall) (r : Result (Unit {0}) HostFault) → c ≡ connection_at p side
+pub pair_calls : AStepKeepsItsPromises → (p : Pair) (c d : Connection) (side : Side) (now : ℕ) (call : RawCall) (r : Result (Unit {0}) Refusal) → c ≡ connection_at p side
     → OnOk r (Step now (deeds.made call) c d) → OnOk r (Steps p (with_connection p side d) side (one_call_more call) [])
 pair_calls law p c d side now call (Ok u) is step =
     pair_acts p c d side (one_call_more call) (λ h. record h { made = h.made ++ call ∷ [] }) is step.packets (λ h l. calling call)
@@ -258,7 +258,7 @@ asked c kind words e = by (drains c.side c.closing) e where
   by true e = absurd (cc)
   by false e = side_asked c.side kind words e
 
-pub pair_answers : AStepKeepsItsPromises → (p : Pair) (c d : Connection) (side : Side) (now : ℕ) (kind : Answer) (words : List ℕ) (r : Result (Unit {0}) HostFault) → c ≡ connection_at p side
+pub pair_answers : AStepKeepsItsPromises → (p : Pair) (c d : Connection) (side : Side) (now : ℕ) (kind : Answer) (words : List ℕ) (r : Result (Unit {0}) Refusal) → c ≡ connection_at p side
     → Refusals (answer_fault_of c.conversation kind words) r → OnOk r (Step now (deeds.gave kind words) c d)
     → OnOk r ((k : ℕ) × (asked_of (connection_at p side).conversation.side ≡ Some k) × Steps p (with_connection p side d) side (one_answer_more (answer_message kind k words)) [])
 pair_answers law p c d side now kind words (Ok u) is none step =

@@ -10,22 +10,23 @@ use Rattle.courier_sessions.specs.Answering.{answer_message, transaction_in}
 use Rattle.courier_sessions.specs.declared.answer.Answer.{Answer}
 use Rattle.xns_spp.specs.Held.{StandsFor}
 use Rattle.xns_spp.specs.State.{State}
-use Rattle.xns_host.specs.Closing.{drains}
-use Rattle.xns_host.specs.Deeds as deeds
-use Rattle.xns_host.specs.Deeds.{side_answered, side_called, side_taken}
+use Rattle.xns_connection.specs.Closing.{drains}
+use Rattle.xns_connection.specs.Deeds as deeds
+use Rattle.xns_connection.specs.Deeds.{side_answered, side_called, side_taken}
 use Rattle.xns_host.specs.Events.{event_by, event_in, event_of}
-use Rattle.xns_host.specs.Refusing.{side_answer_fault, side_call_fault}
-use Rattle.xns_host.specs.Step.{Hands, calmly, moving_on, none_waits}
-use Rattle.xns_host.specs.Story.{waiting_message}
+use Rattle.xns_connection.specs.Refusing.{side_answer_fault, side_call_fault}
+use Rattle.xns_connection.specs.Step.{Hands, calmly, moving_on, none_waits}
+use Rattle.xns_connection.specs.Story.{waiting_message}
 use Rattle.xns_host.specs.Went.{GuestActs, GuestGives, GuestHears, GuestStep, GuestTells, GuestUnserved, hears, lost}
-use Rattle.xns_host.specs.declared.connection.Connection.{Connection}
+use Rattle.xns_connection.specs.declared.connection.Connection.{Connection}
 use Rattle.xns_host.specs.declared.event.Event.{Event}
 use Rattle.xns_host.specs.declared.event.Event.TheVariants as events
 use Rattle.xns_host.specs.declared.guest.Guest.{Guest}
+use Rattle.xns_connection.specs.declared.refusal.Refusal.{Refusal}
+use Rattle.xns_connection.specs.declared.refusal.Refusal.TheVariants.{Closing}
 use Rattle.xns_host.specs.declared.host_fault.HostFault.{HostFault}
-use Rattle.xns_host.specs.declared.host_fault.HostFault.TheVariants.{Closing}
 use Rattle.xns_host.specs.declared.outgoing.Outgoing.{Outgoing}
-use Rattle.xns_host.specs.declared.why.Why.{Why}
+use Rattle.xns_connection.specs.declared.why.Why.{Why}
 use Rattle.host_world.specs.Dialogue.{Dialogue, View, free, held, Happening, calls, answers, asks, hands, tells, closes}
 use Rattle.host_world.specs.Dialogue.{Move, calling, handing_answer, handing_call, answering, asking, closing, telling, Course, is_said}
 use Rattle.host_world.specs.Seen.{news_of, number_of}
@@ -178,7 +179,7 @@ after_close now d g h s step =
 
 -- ---- the program makes a call, or answers one
 
-unfaulted : (b : Bool) (o : Option HostFault) → (if b then Some Closing else o) ≡ None → (b ≡ false) × (o ≡ None)
+unfaulted : (b : Bool) (o : Option Refusal) → (if b then Some Closing else o) ≡ None → (b ≡ false) × (o ≡ None)
 unfaulted true o e = absurd (cc)
 unfaulted false o e = (refl, e)
 

@@ -25,9 +25,9 @@ use Rattle.xns_spp.specs.Sending.{after_send, after_take, send_fault, take_answe
 use Rattle.xns_spp.specs.State.{State}
 use Rattle.xns_spp.specs.declared.item.Item.{Item}
 use Rattle.xns_spp.specs.declared.send_fault.SendFault.{SendFault}
-use Rattle.xns_host.specs.Moving.{Pumps, Rejects, rejects, Rounds, once, again, Converses, calms, starves, refuses, refuses_on}
-use Rattle.xns_host.specs.declared.side.Side.{Side}
-use Rattle.xns_host.specs.declared.side.Side.TheVariants.{Calls, Answers}
+use Rattle.xns_connection.specs.Moving.{Pumps, Rejects, rejects, Rounds, once, again, Converses, calms, starves, refuses, refuses_on}
+use Rattle.xns_connection.specs.declared.side.Side.{Side}
+use Rattle.xns_connection.specs.declared.side.Side.TheVariants.{Calls, Answers}
 
 -- the last call is not answered, and has this number
 pub record Opens (calls answers : List Message) (number : ℕ) : Type 0 where

@@ -16,18 +16,18 @@ use Rattle.xns_spp.specs.Held.{Held, StandsFor}
 use Rattle.xns_spp.specs.Sending.{take_answer, waiting_count}
 use Rattle.xns_spp.specs.State.{State}
 use Rattle.xns_spp.specs.declared.item.Item.{Item}
-use Rattle.xns_host.specs.Closing.{drains, end_reply_stream, end_stream}
-use Rattle.xns_host.specs.Connecting.{is_closed_due}
-use Rattle.xns_host.specs.Deeds.{Deed, Parts, acted, acted_by, done, given_up, nothing, shut, unserved}
-use Rattle.xns_host.specs.Giving.{Giving, GivesAs, IsGiving, IsShort, giving, next_of}
-use Rattle.xns_host.specs.Moving.{Scene, Moves, closed_up, converses, deafened, drained_out, drains_only, ended, noting, replied, scene, settled_by, taken_many}
-use Rattle.xns_host.specs.Step.{GivesNext, MovesOwed, Step, parts_of}
-use Rattle.xns_host.specs.declared.closing.Closing.{Closing}
-use Rattle.xns_host.specs.declared.connection.Connection.{Connection}
-use Rattle.xns_host.specs.declared.conversation.Conversation.{Conversation}
-use Rattle.xns_host.specs.declared.side.Side.{Side}
-use Rattle.xns_host.specs.declared.why.Why.{Why}
-use Rattle.xns_host.specs.declared.why.Why.TheVariants.{NotServed}
+use Rattle.xns_connection.specs.Closing.{drains, end_reply_stream, end_stream}
+use Rattle.xns_connection.specs.Connecting.{is_closed_due, is_dead}
+use Rattle.xns_connection.specs.Deeds.{Deed, Parts, acted, acted_by, done, given_up, nothing, shut, unserved}
+use Rattle.xns_connection.specs.Giving.{Giving, GivesAs, IsGiving, IsShort, giving, next_unless}
+use Rattle.xns_connection.specs.Moving.{Scene, Moves, closed_up, converses, deafened, drained_out, drains_only, ended, noting, replied, scene, settled_by, taken_many}
+use Rattle.xns_connection.specs.Step.{GivesNext, MovesOwed, Step, parts_of}
+use Rattle.xns_connection.specs.declared.closing.Closing.{Closing}
+use Rattle.xns_connection.specs.declared.connection.Connection.{Connection}
+use Rattle.xns_connection.specs.declared.conversation.Conversation.{Conversation}
+use Rattle.xns_connection.specs.declared.side.Side.{Side}
+use Rattle.xns_connection.specs.declared.why.Why.{Why}
+use Rattle.xns_connection.specs.declared.why.Why.TheVariants.{NotServed}
 use Rattle.host_world.proofs.Sides.{Has, converses_keep}
 
 -- ---- the closing exchange
@@ -240,10 +240,10 @@ owed_moves false now c d s stands m = then_same c.conversation.side c.conversati
     (ap (λ (k : Connection). k.conversation.closing.wanted) m) (ap (λ (k : Connection). k.closed) m) (ap (λ (k : Connection). k.told) m)
 
 given_state : (now : ℕ) (answer : Result (Option (List ℕ)) AllocError) (c d e : Connection) (s : State) → StandsFor d.conversation.endpoint s
-    → IfOk answer (λ p. (v : State) → StandsFor d.conversation.endpoint v → GivesAs (next_of (giving d.conversation d.owed v)) p e.conversation e.owed)
+    → IfOk answer (λ p. (v : State) → StandsFor d.conversation.endpoint v → GivesAs (next_unless (is_dead d.closed) (giving d.conversation d.owed v)) p e.conversation e.owed)
     → OnErr answer ((v : State) → StandsFor d.conversation.endpoint v → (y : Giving) × IsShort (giving d.conversation d.owed v) y × IsGiving e.conversation e.owed y)
     → (v : State) × StandsFor e.conversation.endpoint v
-given_state now (Ok p) c d e s stands gave short = let g = gave s stands in ((next_of (giving d.conversation d.owed s)).1.state, g.1.stands)
+given_state now (Ok p) c d e s stands gave short = let g = gave s stands in ((next_unless (is_dead d.closed) (giving d.conversation d.owed s)).1.state, g.1.stands)
 given_state now (Err k) c d e s stands gave short = let g = short s stands in (g.0.state, g.2.stands)
 
 pub gives : (now : ℕ) (answer : Result (Option (List ℕ)) AllocError) (c e : Connection) (s : State) → StandsFor c.conversation.endpoint s → GivesNext now answer c e

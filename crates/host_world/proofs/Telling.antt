@@ -15,14 +15,14 @@ use Rattle.xns_spp.specs.Growth.{Begins}
 use Rattle.xns_spp.specs.Held.{StandsFor}
 use Rattle.xns_spp.specs.State.{State}
 use Rattle.xns_spp.specs.declared.item.Item.{Item}
-use Rattle.xns_host.specs.Closing.{Knows, closing_items, drains}
-use Rattle.xns_host.specs.Deeds.{given_up, handed_by, side_taken}
-use Rattle.xns_host.specs.Story.{is_stopped, CallerHas, ServerHas, SideHas, Story, listed_call, waiting_message, with_handed}
-use Rattle.xns_host.specs.Telling.{Tells}
-use Rattle.xns_host.specs.declared.closing.Closing.{Closing}
-use Rattle.xns_host.specs.declared.conversation.Conversation.{Conversation}
-use Rattle.xns_host.specs.declared.side.Side.{Side}
-use Rattle.xns_host.specs.declared.side.Side.TheVariants.{Calls, Answers}
+use Rattle.xns_connection.specs.Closing.{Knows, closing_items, drains}
+use Rattle.xns_connection.specs.Deeds.{given_up, handed_by, side_taken}
+use Rattle.xns_connection.specs.Story.{is_stopped, CallerHas, ServerHas, SideHas, Story, listed_call, waiting_message, with_handed}
+use Rattle.xns_connection.specs.Telling.{Tells}
+use Rattle.xns_connection.specs.declared.closing.Closing.{Closing}
+use Rattle.xns_connection.specs.declared.conversation.Conversation.{Conversation}
+use Rattle.xns_connection.specs.declared.side.Side.{Side}
+use Rattle.xns_connection.specs.declared.side.Side.TheVariants.{Calls, Answers}
 
 -- ---- the end went on, and accepted and handed up nothing
 

@@ -5,7 +5,7 @@ use Rattle.courier_messages.specs.RawCalls.{RawCall, call_message, transaction_o
 use Rattle.courier_messages.specs.declared.message.Message.{Message}
 use Rattle.courier_sessions.specs.Answering.{answer_message, transaction_in}
 use Rattle.courier_sessions.specs.declared.answer.Answer.{Answer}
-use Rattle.xns_host.specs.declared.why.Why.{Why}
+use Rattle.xns_connection.specs.declared.why.Why.{Why}
 
 -- a connection: whether we opened it; its calls and their answers, in order; whether the program asked to close it; why it is closed, if it
 -- is; and whether the program was told that
@@ -38,13 +38,14 @@ IsOpen d call = slice_get d.calls (length d.answers) ≡ Some call
 abbrev pub MayGo : Dialogue → Type 0
 MayGo d = (d.told ≡ true) ⊎ ((d.ours ≡ false) × (d.calls ≡ []) × (d.closed ≡ None))
 
--- what happens at a number. The program connects, makes a call, gives an answer, or asks to close. The host hands the program a message, or
--- tells it why the connection is closed. Unseen by the program a peer opens a connection, the connection is closed, the number becomes free.
+-- what happens at a number. The program connects, makes a call, gives an answer, asks to close, or abandons the connection. The host hands the
+-- program a message, or tells it why the connection is closed. Unseen by the program a peer opens a connection, the connection is closed, the number becomes free.
 pub data Happening : Type 0 where
   connects : Happening
   calls : RawCall → Happening
   answers : Answer → List ℕ → Happening
   asks : Happening
+  abandons : Happening
   hands : Message → Happening
   tells : Why → Happening
   opens : Happening
@@ -70,6 +71,8 @@ pub data Move : View → Happening → View → Type 0 where
   closing : (d : Dialogue) (why : Why) → d.closed ≡ None → Move (held d) (closes why) (held (record d { closed = Some why }))
   telling : (d : Dialogue) (why : Why) → d.closed ≡ Some why → d.told ≡ false → Move (held d) (tells why) (held (record d { told = true }))
   freeing : (d : Dialogue) → MayGo d → Move (held d) goes free
+  -- or the program abandons it, at any time
+  abandoning : (d : Dialogue) → Move (held d) abandons free
 
 -- one step after another
 unfoldable pub Course : View → List Happening → View → Type 0
@@ -98,6 +101,7 @@ is_news x = false
 -- the number becomes free
 abbrev pub is_going : Happening → Bool
 is_going goes = true
+is_going abandons = true
 is_going x = false
 
 -- the program does it or sees it

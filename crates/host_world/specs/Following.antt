@@ -8,12 +8,12 @@ use Rattle.courier_sessions.specs.declared.program.Program.{Program}
 use Rattle.item_world.specs.declared.side.Side.{Side}
 use Rattle.item_world.specs.declared.side.Side.TheVariants.{A, B}
 use Rattle.xns_idp.specs.declared.address.Address.{Address}
-use Rattle.xns_host.specs.Deeds as deeds
-use Rattle.xns_host.specs.Deeds.{Deed}
-use Rattle.xns_host.specs.Living.{Deeds}
-use Rattle.xns_host.specs.Story.{asked_of}
-use Rattle.xns_host.specs.Turn.{ConnectsTo, ServesAt, TellsNext, Turn}
-use Rattle.xns_host.specs.declared.conversation.Conversation.{Conversation}
+use Rattle.xns_connection.specs.Deeds as deeds
+use Rattle.xns_connection.specs.Deeds.{Deed}
+use Rattle.xns_connection.specs.Living.{Deeds}
+use Rattle.xns_connection.specs.Story.{asked_of}
+use Rattle.xns_host.specs.Turn.{Abandons, ConnectsTo, ServesAt, TellsNext, Turn}
+use Rattle.xns_connection.specs.declared.conversation.Conversation.{Conversation}
 use Rattle.xns_host.specs.declared.event.Event.{Event}
 use Rattle.xns_host.specs.declared.event.Event.TheVariants as events
 use Rattle.xns_host.specs.declared.guest.Guest.{Guest}
@@ -79,6 +79,7 @@ pub data HasDone (h j : Host) : (ℕ → Deeds → Deeds) → Type 0 where
   was_told : (event : Event) → TellsNext (Some event) h j → HasDone h j (did_at (number_of event) (deed_of event))
   connected : (now way socket : ℕ) (peer : Address) (number : ℕ) → ConnectsTo now way socket peer (Ok number) h j → HasDone h j (λ k. no_more)
   was_refused : (now number : ℕ) (deed : Deed) (fault : HostFault) → Turn now number deed (Err fault) h j → HasDone h j (λ k. no_more)
+  abandoned_none : (number : ℕ) (fault : HostFault) → Abandons number (Err fault) h j → HasDone h j (λ k. no_more)
   found_no_room : (now way socket : ℕ) (peer : Address) (fault : HostFault) → ConnectsTo now way socket peer (Err fault) h j
       → HasDone h j (λ k. no_more)
   was_told_nothing : TellsNext None h j → HasDone h j (λ k. no_more)

@@ -2,7 +2,7 @@
 use Rattle.std.specs.Prelude.{◌≡◌, ℕ, List, [], ◌∷◌, Option, Some, None, Result, Ok, Err}
 use Rattle.courier_sessions.specs.declared.program.Program.{Program}
 use Rattle.item_world.specs.declared.side.Side.{Side}
-use Rattle.xns_host.specs.Living.{Deeds}
+use Rattle.xns_connection.specs.Living.{Deeds}
 use Rattle.xns_host.specs.declared.guest.Guest.{Guest}
 use Rattle.xns_host.specs.declared.host_fault.HostFault.{HostFault}
 use Rattle.xns_host.specs.declared.outgoing.Outgoing.{Outgoing}

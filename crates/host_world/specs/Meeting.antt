@@ -6,10 +6,10 @@ use Rattle.item_world.specs.World.{World, packets_of}
 use Rattle.item_world.specs.declared.side.Side.{Side}
 use Rattle.item_world.specs.declared.side.Side.TheVariants.{A, B}
 use Rattle.xns_spp.specs.State.{State}
-use Rattle.xns_host.specs.Living.{Deeds, no_deeds}
-use Rattle.xns_host.specs.Story.{Story, Runs, start, sends, takes, flushes, resends, tells, GoesOn, new_story}
-use Rattle.xns_host.specs.Telling.{Tells}
-use Rattle.xns_host.specs.declared.conversation.Conversation.{Conversation}
+use Rattle.xns_connection.specs.Living.{Deeds, no_deeds}
+use Rattle.xns_connection.specs.Story.{Story, Runs, start, sends, takes, flushes, resends, tells, GoesOn, new_story}
+use Rattle.xns_connection.specs.Telling.{Tells}
+use Rattle.xns_connection.specs.declared.conversation.Conversation.{Conversation}
 use Rattle.host_world.specs.Station.{calling_end, called_end}
 use Rattle.host_world.specs.declared.station.Station.{Station}
 

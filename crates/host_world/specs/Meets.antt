@@ -8,12 +8,12 @@ use Rattle.item_world.specs.World.{has_passed}
 use Rattle.item_world.specs.declared.emitted.Emitted.{Emitted}
 use Rattle.item_world.specs.declared.side.Side.{Side}
 use Rattle.xns_spp.specs.Receiving.{after_receive, is_ours}
-use Rattle.xns_host.specs.Acting.{Acts}
-use Rattle.xns_host.specs.Agreeing.{ArePeers}
-use Rattle.xns_host.specs.Living.{Deeds, ProgramsAgree}
-use Rattle.xns_host.specs.Story.{Story, made_on, new_story}
-use Rattle.xns_host.specs.Telling.{Tells}
-use Rattle.xns_host.specs.declared.conversation.Conversation.{Conversation}
+use Rattle.xns_connection.specs.Acting.{Acts}
+use Rattle.xns_connection.specs.Agreeing.{ArePeers}
+use Rattle.xns_connection.specs.Living.{Deeds, ProgramsAgree}
+use Rattle.xns_connection.specs.Story.{Story, made_on, new_story}
+use Rattle.xns_connection.specs.Telling.{Tells}
+use Rattle.xns_connection.specs.declared.conversation.Conversation.{Conversation}
 use Rattle.host_world.specs.Meeting.{Party, Meeting, at, new_meeting, Next, went_on, IsMade}
 use Rattle.host_world.specs.Station.{calling_end, called_end}
 use Rattle.host_world.specs.declared.station.Station.{Station}

@@ -10,9 +10,9 @@ use Rattle.item_world.specs.declared.emitted.Emitted.{Emitted}
 use Rattle.item_world.specs.declared.side.Side.{Side}
 use Rattle.item_world.specs.declared.side.Side.TheVariants.{A, B}
 use Rattle.xns_spp.specs.Receiving.{is_ours}
-use Rattle.xns_host.specs.Living.{Deeds}
-use Rattle.xns_host.specs.contracts.connection.Connection as connection
-use Rattle.xns_host.specs.declared.connection.Connection.{Connection}
+use Rattle.xns_connection.specs.Living.{Deeds}
+use Rattle.xns_connection.specs.contracts.connection.Connection as connection
+use Rattle.xns_connection.specs.declared.connection.Connection.{Connection}
 use Rattle.host_world.specs.Meeting.{Meeting, at}
 use Rattle.host_world.specs.Meets.{Meets}
 use Rattle.host_world.specs.Station.{IsStation}

@@ -6,10 +6,10 @@ use Rattle.courier_messages.specs.RawCalls.{RawCall}
 use Rattle.courier_sessions.specs.declared.answer.Answer.{Answer}
 use Rattle.courier_sessions.specs.declared.program.Program.{Program}
 use Rattle.xns_idp.specs.declared.address.Address.{Address}
-use Rattle.xns_host.specs.Deeds as deeds
-use Rattle.xns_host.specs.Deeds.{Deed}
+use Rattle.xns_connection.specs.Deeds as deeds
+use Rattle.xns_connection.specs.Deeds.{Deed}
 use Rattle.xns_host.specs.Standing.{IsNewHost}
-use Rattle.xns_host.specs.Turn.{ConnectsTo, GivesOut, ServesAt, TakesIn, TellsNext, Turn}
+use Rattle.xns_host.specs.Turn.{Abandons, ConnectsTo, GivesOut, ServesAt, TakesIn, TellsNext, Turn}
 use Rattle.xns_host.specs.declared.event.Event.{Event}
 use Rattle.xns_host.specs.declared.event.Event.TheVariants as events
 use Rattle.xns_host.specs.declared.guest.Guest.{Guest}
@@ -17,7 +17,7 @@ use Rattle.xns_host.specs.declared.host.Host.{Host}
 use Rattle.xns_host.specs.declared.host_fault.HostFault.{HostFault}
 use Rattle.xns_host.specs.declared.outgoing.Outgoing.{Outgoing}
 use Rattle.xns_host.specs.declared.settings.Settings.{Settings}
-use Rattle.host_world.specs.Dialogue.{Course, Dialogue, Happening, View, answers, asks, calls, connects, free, hands, held, is_said, tells}
+use Rattle.host_world.specs.Dialogue.{Course, Dialogue, Happening, View, abandons, answers, asks, calls, connects, free, hands, held, is_said, tells}
 
 -- ---- the calls of a host
 
@@ -41,6 +41,7 @@ news_of (events.Closed number why) = tells why
 -- a call by which nothing is said: one that is refused, one that has nothing to tell, and those that take packets in, give them out, or serve
 pub data Quiet (h j : Host) : Type 0 where
   is_refused : (now number : ℕ) (deed : Deed) (fault : HostFault) → Turn now number deed (Err fault) h j → Quiet h j
+  abandons_none : (number : ℕ) (fault : HostFault) → Abandons number (Err fault) h j → Quiet h j
   finds_no_room : (now way socket : ℕ) (peer : Address) (fault : HostFault) → ConnectsTo now way socket peer (Err fault) h j → Quiet h j
   tells_nothing : TellsNext None h j → Quiet h j
   takes_in : (now way : ℕ) (bytes : List ℕ) (result : Bool) → TakesIn now way bytes result h j → Quiet h j
@@ -59,6 +60,8 @@ pub data Lives : Host → (ℕ → List Happening) → Type 0 where
       → ConnectsTo now way socket peer (Ok number) h j → Lives j (said_at said number connects)
   has_said : {h j : Host} {said : ℕ → List Happening} → Lives h said → (now number : ℕ) (deed : Deed) (x : Happening) → IsSaid deed x
       → Turn now number deed (Ok tt) h j → Lives j (said_at said number x)
+  has_abandoned : {h j : Host} {said : ℕ → List Happening} → Lives h said → (number : ℕ) → Abandons number (Ok tt) h j
+      → Lives j (said_at said number abandons)
   was_told : {h j : Host} {said : ℕ → List Happening} → Lives h said → (event : Event) → TellsNext (Some event) h j
       → Lives j (said_at said (number_of event) (news_of event))
   goes_on : {h j : Host} {said : ℕ → List Happening} → Lives h said → Quiet h j → Lives j said

@@ -1,6 +1,6 @@
 //! What the definitions imply, each as the contract of a function that does nothing.
 
-ghost use Rattle.std.specs.Prelude.{◌≡◌, ◌⊎◌, ◌≤◌, ◌∷◌, ◌++◌, [], ℕ, Bool, List, Option, Result, Some, None, Contains, length, slice_get, true};
+ghost use Rattle.std.specs.Prelude.{◌≡◌, ◌≢◌, ◌⊎◌, ◌≤◌, ◌∷◌, ◌++◌, [], ℕ, Bool, List, Option, Result, Some, None, Ok, Contains, length, slice_get, true};
 ghost use Rattle.courier_messages.specs.RawCalls.{RawCall};
 ghost use Rattle.courier_messages.specs.declared.message.Message.{Message};
 ghost use Rattle.courier_sessions.specs.Answering.{answer_message};
@@ -12,7 +12,7 @@ ghost use Rattle.item_world.specs.declared.side.Side.{Side};
 ghost use Rattle.item_world.specs.declared.side.Side.TheVariants.{A, B};
 ghost use Rattle.host_world.specs.Dialogue.{Course, Dialogue, Happened, Happening, IsInOrder, IsOpening, IsUnheard, View, WasTold};
 ghost use Rattle.host_world.specs.Dialogue.{closes, free, goes, held, is_going, is_news, tells};
-ghost use Rattle.host_world.specs.Following.{EachFollowed, HasDone, HasGiven, HostsStandFor, MayTake, StandsOn, gave_none};
+ghost use Rattle.host_world.specs.Following.{EachFollowed, HasDone, HasGiven, HostsStandFor, IsFollowed, MayTake, StandsOn, gave_none};
 ghost use Rattle.host_world.specs.Going.{CanFinish};
 ghost use Rattle.host_world.specs.Guests.{GoesOn, HearsOn, packets_in};
 ghost use Rattle.host_world.specs.Meeting.{Meeting, at};
@@ -21,16 +21,16 @@ ghost use Rattle.host_world.specs.Pairing.{MayCome, WasMade, no_more, one_answer
 ghost use Rattle.host_world.specs.Seen.{HasHistory, Lives};
 ghost use Rattle.host_world.specs.Station.{IsStation};
 ghost use Rattle.host_world.specs.declared.station.Station.{Station};
-ghost use Rattle.xns_host.specs.Deeds as deeds;
-ghost use Rattle.xns_host.specs.Living.{Deeds};
-ghost use Rattle.xns_host.specs.Story.{asked_of, waiting_message};
-ghost use Rattle.xns_host.specs.Turn.{GivesOut, TakesIn};
+ghost use Rattle.xns_connection.specs.Deeds as deeds;
+ghost use Rattle.xns_connection.specs.Living.{Deeds};
+ghost use Rattle.xns_connection.specs.Story.{asked_of, waiting_message};
+ghost use Rattle.xns_host.specs.Turn.{Abandons, GivesOut, TakesIn};
 ghost use Rattle.xns_host.specs.Went.{GuestActs, GuestGives, GuestHears, GuestStep, GuestTells, GuestUnserved};
 ghost use Rattle.xns_host.specs.declared.guest.Guest.{Guest};
 ghost use Rattle.xns_host.specs.declared.host.Host.{Host};
 ghost use Rattle.xns_host.specs.declared.host_fault.HostFault.{HostFault};
 ghost use Rattle.xns_host.specs.declared.outgoing.Outgoing.{Outgoing};
-ghost use Rattle.xns_host.specs.declared.why.Why.{Why};
+ghost use Rattle.xns_connection.specs.declared.why.Why.{Why};
 
 /// Two connections over a network that loses, repeats and reorders packets, where packets that come to one were made by the other, or are
 /// no packets of the connection, and none comes once either end has taken more than 30,000 further items since it was made: what each end
@@ -44,8 +44,8 @@ pub fn two_connections_over_a_network_agree()
 {
     item_world::laws::end_laws_are_given();
     item_world::laws::each_step_keeps_the_order();
-    xns_host::laws::one_story_goes_on();
-    xns_host::laws::two_programs_agree();
+    xns_connection::laws::one_story_goes_on();
+    xns_connection::laws::two_programs_agree();
 }
 
 /// As long as neither end has taken more than 30,000 items, each packet that a connection gave may come to the other, now or later, once or
@@ -57,8 +57,8 @@ pub fn a_given_packet_may_come()
 {
     item_world::laws::end_laws_are_given();
     item_world::laws::each_step_keeps_the_order();
-    xns_host::laws::one_story_goes_on();
-    xns_host::laws::two_programs_agree();
+    xns_connection::laws::one_story_goes_on();
+    xns_connection::laws::two_programs_agree();
 }
 
 /// Each packet that a connection gave was made at a moment that the world keeps with it. It may come to the other connection, now or in any
@@ -70,8 +70,8 @@ pub fn a_given_packet_may_come_while_it_lives()
 {
     item_world::laws::end_laws_are_given();
     item_world::laws::each_step_keeps_the_order();
-    xns_host::laws::one_story_goes_on();
-    xns_host::laws::two_programs_agree();
+    xns_connection::laws::one_story_goes_on();
+    xns_connection::laws::two_programs_agree();
 }
 
 /// Where the connection of a meeting is one that a host has in a place, what the host does at it is a step of the meeting, or are two: a call
@@ -93,20 +93,23 @@ pub fn what_a_host_does_is_a_step_of_the_meeting()
     ensures hears { (now : ℕ) (bytes : List ℕ) (confirming : Bool) (g h : Guest) → GuestHears now bytes confirming g h
         → HearsOn g h no_more bytes }
 {
-    xns_host::laws::a_step_keeps_its_promises();
+    xns_connection::laws::a_step_keeps_its_promises();
 }
 
 /// Whatever is called of a host, it goes on with the meetings that its connections are in: by what the program does (`done`), by a packet that
 /// goes out, which one of them gave or none (`gives`), and by bytes that come, where they may come to the connection (`hears`). At each
-/// number the connection is led on by steps of the meeting until it is forgotten.
+/// number the connection is led on by steps of the meeting until it is forgotten. Where the program abandons one, each other one stays
+/// (`abandons`).
 pub fn a_host_goes_on_with_its_meetings()
     ensures done { (h j : Host) (did : ℕ → Deeds → Deeds) → HasDone h j did → EachFollowed (MayTake None) did gave_none h j }
+    ensures abandons { (number : ℕ) (h j : Host) → Abandons number (Ok tt) h j → (k : ℕ) → k ≢ number
+        → IsFollowed (MayTake None) no_more [] (slice_get h.guests.items k) (slice_get j.guests.items k) }
     ensures gives { (now : ℕ) (result : Result (Option Outgoing) HostFault) (h j : Host) → GivesOut now result h j
         → (gave : ℕ → List (List ℕ)) × HasGiven result gave × EachFollowed (MayTake None) (λ k. no_more) gave h j }
     ensures hears { (now way : ℕ) (bytes : List ℕ) (result : Bool) (h j : Host) → TakesIn now way bytes result h j
         → EachFollowed (MayTake (Some bytes)) (λ k. no_more) gave_none h j }
 {
-    xns_host::laws::a_step_keeps_its_promises();
+    xns_connection::laws::a_step_keeps_its_promises();
 }
 
 /// Two hosts of which each has a connection of one meeting at a number. Their programs agree, and what each end handed up begins what the
@@ -139,24 +142,26 @@ pub fn the_ends_of_a_meeting_are_not_stuck()
     item_world::laws::end_laws_are_given();
     item_world::laws::each_step_keeps_the_order();
     item_world::laws::no_world_is_stuck();
-    xns_host::laws::one_story_goes_on();
-    xns_host::laws::two_programs_agree();
+    xns_connection::laws::one_story_goes_on();
+    xns_connection::laws::two_programs_agree();
 }
 
 /// What every history of one number of a host comes to. The k-th answer is to the k-th call, and at most one call is not answered
 /// (`order`). The reason that the program is told is the one for which the connection was closed (`reason`), and nothing more of that
 /// connection is told behind it (`last`). The number becomes free after that, or where a peer opened the connection and nothing of it was
-/// told (`gone`). Nothing happens at a free number but that a connection gets it (`first`, `again`).
+/// told (`gone`), or where the program abandons the connection. Nothing happens at a free number but that a connection gets it (`first`,
+/// `again`): so nothing more of one that was abandoned is told.
 pub fn a_number_keeps_its_order()
     ensures order { (xs : List Happening) (d : Dialogue) → Course free xs (held d) → IsInOrder d }
     ensures reason { (xs : List Happening) (why : Why) (ys : List Happening) (v : View) → Course free (xs ++ tells why ∷ ys) v
         → Happened (closes why) is_going xs }
     ensures last { (xs : List Happening) (why : Why) (ys : List Happening) (x : Happening) (zs : List Happening) (v : View)
-        → Course free (xs ++ tells why ∷ (ys ++ x ∷ zs)) v → is_news x ≡ true → Contains ys goes }
+        → Course free (xs ++ tells why ∷ (ys ++ x ∷ zs)) v → is_news x ≡ true
+        → (g : Happening) × Contains ys g × (is_going g ≡ true) }
     ensures gone { (xs ys : List Happening) (v : View) → Course free (xs ++ goes ∷ ys) v → WasTold xs ⊎ IsUnheard xs }
     ensures first { (x : Happening) (xs : List Happening) (v : View) → Course free (x ∷ xs) v → IsOpening x }
-    ensures again { (v : View) (xs : List Happening) (x : Happening) (ys : List Happening) (w : View)
-        → Course v (xs ++ goes ∷ (x ∷ ys)) w → IsOpening x }
+    ensures again { (v : View) (xs : List Happening) (g x : Happening) (ys : List Happening) (w : View)
+        → Course v (xs ++ g ∷ (x ∷ ys)) w → is_going g ≡ true → IsOpening x }
 {}
 
 /// Each number of a host has a history, whatever calls are made of the host from a new one on, in whatever order: what the program said and

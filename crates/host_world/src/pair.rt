@@ -11,13 +11,13 @@ ghost use Rattle.xns_spp.specs.Packet.{SppPacketModel, spp_packet_of};
 ghost use Rattle.xns_spp.specs.Receiving.{StoresBytes};
 ghost use Rattle.xns_spp.specs.State.{State};
 ghost use Rattle.xns_spp.specs.declared.dropped.Dropped.{Dropped};
-ghost use Rattle.xns_host.specs.Deeds.{acted};
-ghost use Rattle.xns_host.specs.Reasons.{call_fault_of, answer_fault_of};
-ghost use Rattle.xns_host.specs.Refusing.{Answers};
-ghost use Rattle.xns_host.specs.Settings.{IsBegun, IsFit};
-ghost use Rattle.xns_host.specs.Step.{parts_of};
-ghost use Rattle.xns_host.specs.Story.{asked_of, waiting_message};
-ghost use Rattle.xns_host.specs.Telling.{Hears, Rested};
+ghost use Rattle.xns_connection.specs.Connecting.{is_dead};
+ghost use Rattle.xns_connection.specs.Deeds.{acted};
+ghost use Rattle.xns_connection.specs.Reasons.{call_fault_of, answer_fault_of};
+ghost use Rattle.xns_connection.specs.Refusing.{Answers};
+ghost use Rattle.xns_connection.specs.Step.{IsMade, parts_of};
+ghost use Rattle.xns_connection.specs.Story.{asked_of, waiting_message};
+ghost use Rattle.xns_connection.specs.Telling.{Hears, Rested};
 ghost use Rattle.xns_agenda.specs.Waiting.{HearsAt, StepsAt, act_at};
 ghost use Rattle.host_world.specs.Meeting.{Meeting, new_meeting};
 ghost use Rattle.host_world.specs.declared.station.Station.{Station};
@@ -31,10 +31,10 @@ use courier_messages::PiecedMessage;
 use courier_sessions::{Answer, Program};
 use item_world::Side;
 use std::alloc::{AllocError, Global};
-use xns_host::laws::{
+use xns_connection::laws::{
     a_connection_gives_what_it_made, a_message_is_handed_as_by_a_step, a_step_keeps_its_promises,
 };
-use xns_host::{Act, Connection, Due, HostFault, Why};
+use xns_connection::{Act, Connection, Due, Refusal, Why};
 use xns_spp::{Bytes, read_packet};
 
 /// Two connections: the one at `A` calls, and the one at `B` is called.
@@ -54,18 +54,16 @@ impl Pair {
         now: u64,
     ) -> Result<Pair, AllocError>
         requires calls_id { 0 < calls.now.id }
-        requires calls_settings { IsFit calls.now.settings }
         requires called_id { 0 < called.now.id }
-        requires called_settings { IsFit called.now.settings }
         ensures stands { IfOk result (λ p. PairStandsFor p calls.now called.now programs.items
             (new_meeting calls.now called.now programs.items p.a.conversation p.b.conversation)) }
-        ensures begun { IfOk result (λ p. IsBegun calls.now.settings now p.a.wait × IsBegun called.now.settings now p.b.wait) }
+        ensures made { IfOk result (λ p. IsMade calls.now.terms.pace now true p.a × IsMade called.now.terms.pace now false p.b) }
     {
         calls.known();
         called.known();
         let a = Connection::calling(
             alloc,
-            &calls.settings,
+            &calls.terms,
             calls.address,
             calls.id,
             called.address,
@@ -73,7 +71,7 @@ impl Pair {
         )?;
         let b = Connection::answering(
             alloc,
-            &called.settings,
+            &called.terms,
             called.address,
             called.id,
             calls.address,
@@ -105,7 +103,7 @@ impl Pair {
         version: u16,
         procedure: u16,
         words: &[u16],
-    ) -> Result<(), HostFault>
+    ) -> Result<(), Refusal>
         ensures answer { Answers (call_fault_of (connection_at self.old side).conversation
             (words_call program version procedure words.now)) result }
         ensures steps { OnOk result (Steps self.old self.new side
@@ -126,7 +124,7 @@ impl Pair {
         side: Side,
         kind: Answer,
         words: &[u16],
-    ) -> Result<(), HostFault>
+    ) -> Result<(), Refusal>
         ensures answer { Answers (answer_fault_of (connection_at self.old side).conversation kind words.now) result }
         ensures steps { OnOk result ((k : ℕ) × (asked_of (connection_at self.old side).conversation.side ≡ Some k)
             × Steps self.old self.new side (one_answer_more (answer_message kind k words.now)) []) }
@@ -198,7 +196,8 @@ impl Pair {
         ensures gives { IfOk result (λ o. Steps self.old self.new side no_more (option_to_list o)) }
         ensures given_none { OnErr result (Steps self.old self.new side no_more []) }
         ensures waits { StepsAt now (connection_at self.old side).wait (connection_at self.new side).wait }
-        ensures rested { result ≡ Ok None → Rested (connection_at self.old side).conversation (connection_at self.new side).conversation }
+        ensures rested { is_dead (connection_at self.new side).closed ≡ false → result ≡ Ok None
+            → Rested (connection_at self.old side).conversation (connection_at self.new side).conversation }
         ensures none { result ≡ Ok None → ((connection_at self.new side).owed.again ≡ false)
             × ((connection_at self.new side).owed.asks ≡ false) × ((connection_at self.new side).owed.word ≡ false) }
     {

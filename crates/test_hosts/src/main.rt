@@ -8,11 +8,15 @@
 //! a number of connections and of calls, `bench/compare.py` times calls in memory.
 #![tactic(auto)]
 
+mod abandoned;
+mod clocked;
 mod manner;
 mod meeting;
 mod speed;
 mod stubborn;
 
+use abandoned::Abandoned;
+use clocked::{Clocked, Shown};
 use host_scenes::crowd::Crowd;
 use host_scenes::play::Play;
 use host_scenes::scene::Scene;
@@ -68,6 +72,10 @@ fn show_all(rt: &HostRuntime) -> Result<(), anyhow::Error> {
     for manner in Manner::ALL {
         show_meeting(rt, manner)?;
     }
+    for shown in Shown::ALL {
+        show_clock(rt, shown)?;
+    }
+    show_abandoned(rt)?;
     show_crowd(rt, SECONDS)?;
     show_stubborn(rt)?;
     speed::run(rt, Made::Hosts, 3, 20)?;
@@ -106,6 +114,40 @@ fn play_meeting(alloc: Global, manner: Manner, text: &mut String) -> Result<(), 
     meetings.push(Meeting::new(alloc, manner)?)?;
     for meeting in &mut meetings {
         meeting.run_and_tell(text)?;
+    }
+    Ok(())
+}
+
+/// Has a host call a peer that is not there, by such a clock, and prints what came of it.
+fn show_clock(rt: &HostRuntime, shown: Shown) -> Result<(), anyhow::Error> {
+    let mut text = String::new(rt.alloc());
+    play_clock(rt.alloc(), shown, &mut text)?;
+    say(rt, shown.name(), text.as_str())
+}
+
+/// Has a host call a peer that is not there, and puts what came of it.
+fn play_clock(alloc: Global, shown: Shown, text: &mut String) -> Result<(), anyhow::Error> {
+    let mut clocks = room(alloc)?;
+    clocks.push(Clocked::new(alloc, shown)?)?;
+    for clocked in &mut clocks {
+        clocked.run_and_tell(text)?;
+    }
+    Ok(())
+}
+
+/// Has a host abandon a call, and prints what came of it.
+fn show_abandoned(rt: &HostRuntime) -> Result<(), anyhow::Error> {
+    let mut text = String::new(rt.alloc());
+    play_abandoned(rt.alloc(), &mut text)?;
+    say(rt, "a call that is abandoned", text.as_str())
+}
+
+/// Has a host abandon a call, and puts what came of it.
+fn play_abandoned(alloc: Global, text: &mut String) -> Result<(), anyhow::Error> {
+    let mut pairs = room(alloc)?;
+    pairs.push(Abandoned::new(alloc)?)?;
+    for hosts in &mut pairs {
+        hosts.run_and_tell(text)?;
     }
     Ok(())
 }

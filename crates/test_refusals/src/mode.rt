@@ -19,7 +19,7 @@ impl Mode {
     fn run(self, alloc: Global, text: &mut Vec<u8>) -> Result<bool, RunFault> {
         match self {
             Mode::Dump => dump(alloc, &mut &*PACKET, text),
-            Mode::Calls => calls(alloc, &mut &*CAPTURE, text),
+            Mode::Calls => calls(alloc, None, &mut &*CAPTURE, text),
             Mode::Sim => sim(alloc, &mut &*SCRIPT, text),
         }
     }

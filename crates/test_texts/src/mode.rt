@@ -39,7 +39,7 @@ impl Mode {
     ) -> Result<bool, RunFault> {
         match self {
             Mode::Dump => dump(alloc, reader, writer),
-            Mode::Calls => calls(alloc, reader, writer),
+            Mode::Calls => calls(alloc, None, reader, writer),
             Mode::Sim => sim(alloc, reader, writer),
         }
     }

@@ -1,4 +1,4 @@
-//! `xns programs`: the programs that files describe.
+//! The programs that files describe: `xns programs` prints them, and `xns calls` names calls by them.
 ghost use Rattle.std.specs.Prelude.{◌≤◌};
 
 use crate::STANDARD_INPUT;
@@ -6,7 +6,7 @@ use crate::watched::{WatchedReader, WatchedWriter};
 use courier_programs::{Program, ProgramReason};
 use std::fs::File;
 use std::io::{self, Read};
-use xns_command::{DescriptionFault, description_status, print_description};
+use xns_command::{DescriptionFault, description_status, print_description, take_description};
 use xns_lines::RunFault;
 
 /// Prints the programs that the files describe, in order, up to the first fault, and says in one line what that is.
@@ -21,6 +21,51 @@ pub fn run_programs(rt: &HostRuntime, files: &[&str]) -> u8
         }
     }
     description_status(&Ok(()))
+}
+
+/// Reads the programs that the files describe, in order, up to the first fault, and says in one line what that is.
+pub fn read_programs(
+    rt: &HostRuntime,
+    files: &[&str],
+    programs: &mut Vec<Program>,
+) -> Result<(), DescriptionFault> {
+    for path in files {
+        take_named(rt, *path, programs)?;
+    }
+    Ok(())
+}
+
+/// Reads the program that the file of that name describes, or standard input where it is `-`, behind those that were read before.
+fn take_named(
+    rt: &HostRuntime,
+    path: &str,
+    programs: &mut Vec<Program>,
+) -> Result<(), DescriptionFault> {
+    if path == STANDARD_INPUT {
+        return take(rt, path, rt.reader(), programs);
+    }
+    match File::open(rt, path) {
+        Ok(file) => take(rt, path, file, programs),
+        Err(error) => {
+            let _ = eprintln!(rt; "xns: {path}: {error}");
+            Err(DescriptionFault::Run(RunFault::Read))
+        }
+    }
+}
+
+/// Reads the program that a file of that name describes, behind those that were read before.
+fn take<R: Read + Drop>(
+    rt: &HostRuntime,
+    path: &str,
+    file: R,
+    programs: &mut Vec<Program>,
+) -> Result<(), DescriptionFault> {
+    let mut reader = WatchedReader::new(file);
+    let answer = take_description(rt.alloc(), &mut reader, programs);
+    if let Err(fault) = &answer {
+        explain_fault(rt, path, *fault, reader.error(), false);
+    }
+    answer
 }
 
 /// Prints the program that the file of that name describes, or standard input where it is `-`.

@@ -4,7 +4,7 @@ use Rattle.std.specs.Prelude.{IfSome}
 use Rattle.std.specs.Option.{is_some}
 use Rattle.std.proofs.lemmas.Option.{slice_get-get_or, slice_get_within}
 use Rattle.xns_agenda.specs.Times.{HasEarliest, IsEarliest}
-use Rattle.xns_agenda.specs.Agenda.{GivesWay, longest_closed, longest_silent, IsWanted, packet_waits, is_due, number_in}
+use Rattle.xns_agenda.specs.Agenda.{GivesWay, longest_closed, longest_silent, IsWanted, packet_waits, event_waits, is_due, number_in}
 use Rattle.xns_agenda.specs.Turns.{HasNoTurn, Line, IsFirst, has_turn}
 use Rattle.xns_agenda.specs.declared.way.Way.{Way}
 use Rattle.xns_agenda.specs.declared.way.Way.TheVariants.{Lingers, Stranger, Nobody}
@@ -52,9 +52,15 @@ no_giver closed strangers (Lingers n t) nobody is = absurd (cc)
 no_giver closed strangers (Stranger n t) nobody is = absurd (cc)
 no_giver closed strangers Nobody nobody is = nobody refl
 
-pub packet_wanted : (packets : Line) (dues : List (Option ℕ)) (o : Option ℕ) → IfSome o (λ k. IsFirst packets k) → is_some o ≡ true → IsWanted packets dues 0
-packet_wanted packets dues (Some k) first some = packet_waits k first.has
-packet_wanted packets dues None first some = absurd (cc)
+pub packet_wanted : (packets events : Line) (dues : List (Option ℕ)) (o : Option ℕ) → IfSome o (λ k. IsFirst packets k) → is_some o ≡ true
+    → IsWanted packets events dues 0
+packet_wanted packets events dues (Some k) first some = packet_waits k first.has
+packet_wanted packets events dues None first some = absurd (cc)
 
-pub due_wanted : (packets : Line) (dues : List (Option ℕ)) (t : ℕ) → ((k : ℕ) × (slice_get dues k ≡ Some (Some t))) → IsWanted packets dues t
-due_wanted packets dues t there = is_due there.0 t there.1
+pub event_wanted : (packets events : Line) (dues : List (Option ℕ)) (o : Option ℕ) → IfSome o (λ k. IsFirst events k) → is_some o ≡ true
+    → IsWanted packets events dues 0
+event_wanted packets events dues (Some k) first some = event_waits k first.has
+event_wanted packets events dues None first some = absurd (cc)
+
+pub due_wanted : (packets events : Line) (dues : List (Option ℕ)) (t : ℕ) → ((k : ℕ) × (slice_get dues k ≡ Some (Some t))) → IsWanted packets events dues t
+due_wanted packets events dues t there = is_due there.0 t there.1

@@ -60,16 +60,19 @@ pub record HasNobody (a : Plan) (number : ℕ) : Type 0 where
   pub event : has_turn a.events number ≡ false
   pub free : has_turn a.free number ≡ true
 
--- something is to be done at this time: at once where a packet may be there, else when something is due
-pub data IsWanted (packets : Line) (dues : List (Option ℕ)) : ℕ → Type 0 where
-  packet_waits : (k : ℕ) → has_turn packets k ≡ true → IsWanted packets dues 0
-  is_due : (k t : ℕ) → slice_get dues k ≡ Some (Some t) → IsWanted packets dues t
+-- something is to be done at this time: at once where a packet may be there, or something to tell; else when something is due
+pub data IsWanted (packets events : Line) (dues : List (Option ℕ)) : ℕ → Type 0 where
+  packet_waits : (k : ℕ) → has_turn packets k ≡ true → IsWanted packets events dues 0
+  event_waits : (k : ℕ) → has_turn events k ≡ true → IsWanted packets events dues 0
+  is_due : (k t : ℕ) → slice_get dues k ≡ Some (Some t) → IsWanted packets events dues t
 
--- the time that is told is 0 where a packet may be there, and else no later than each due; and something is to be done then
-pub record IsWake (packets : Line) (dues : List (Option ℕ)) (time : Option ℕ) : Type 0 where
+-- the time that is told is 0 where a packet may be there, or something to tell, and else no later than each due; and something is to be
+-- done then
+pub record IsWake (packets events : Line) (dues : List (Option ℕ)) (time : Option ℕ) : Type 0 where
   pub packet : (k : ℕ) → has_turn packets k ≡ true → time ≡ Some 0
+  pub event : (k : ℕ) → has_turn events k ≡ true → time ≡ Some 0
   pub due : HasEarliest dues time
-  pub wanted : (t : ℕ) → time ≡ Some t → IsWanted packets dues t
+  pub wanted : (t : ℕ) → time ≡ Some t → IsWanted packets events dues t
 
 -- who gives way to a new connection: who lingers longest; where nobody lingers, who is silent longest
 pub data GivesWay (closed strangers : List (Option ℕ)) : ℕ → Type 0 where

@@ -1,4 +1,5 @@
 pub mod Agenda
+pub mod Clock
 pub mod Times
 pub mod Turns
 pub mod Waiting

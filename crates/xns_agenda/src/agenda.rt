@@ -109,11 +109,14 @@ fn first_time(dues: &Times) -> Option<u64>
 }
 
 /// When something is to be done at the latest.
-#[tactic(auto, using(crate::proofs::Agendas::nobody, crate::proofs::Agendas::packet_wanted, crate::proofs::Agendas::due_wanted))]
-fn wake(packets: &Turns, dues: &Times) -> Option<u64>
-    ensures { IsWake packets.now dues.now result }
+#[tactic(auto, using(crate::proofs::Agendas::nobody, crate::proofs::Agendas::packet_wanted, crate::proofs::Agendas::event_wanted, crate::proofs::Agendas::due_wanted))]
+fn wake(packets: &Turns, events: &Turns, dues: &Times) -> Option<u64>
+    ensures { IsWake packets.now events.now dues.now result }
 {
     if packets.first().is_some() {
+        return Some(0);
+    }
+    if events.first().is_some() {
         return Some(0);
     }
     first_time(dues)
@@ -225,11 +228,11 @@ impl Agenda {
         self.events.set(number, false);
     }
 
-    /// When something is to be done at the latest: at once, which is 0, where a packet may be there. `None`: never.
+    /// When something is to be done at the latest: at once, which is 0, where a packet may be there, or something to tell. `None`: never.
     pub fn wake(&self) -> Option<u64>
-        ensures wake { IsWake self.now.packets self.now.dues result }
+        ensures wake { IsWake self.now.packets self.now.events self.now.dues result }
         ensures room { IsFor self.now (length self.now.dues) }
     {
-        wake(&self.packets, &self.dues)
+        wake(&self.packets, &self.events, &self.dues)
     }
 }

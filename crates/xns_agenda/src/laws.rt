@@ -1,7 +1,9 @@
 //! What the definitions imply, each as the contract of a function that does nothing.
 
-ghost use Rattle.std.specs.Prelude.{◌≡◌, ◌≤◌, ◌+◌, ℕ};
-ghost use Rattle.xns_agenda.specs.Waiting.{Waiting, Silence, act_at, after_act, later, next_length};
+ghost use Rattle.std.specs.Prelude.{◌≡◌, ◌≤◌, ◌<◌, ◌+◌, ◌-◌, ℕ};
+ghost use Rattle.xns_agenda.specs.Clock.{by_told, day, time_at, told_at};
+ghost use Rattle.xns_agenda.specs.declared.clock.Clock.{Clock};
+ghost use Rattle.xns_agenda.specs.Waiting.{Waiting, Silence, last_time, act_at, after_act, later, next_length};
 ghost use Rattle.xns_agenda.specs.declared.act.Act.TheVariants.{Again};
 ghost use Rattle.xns_agenda.specs.declared.due.Due.TheVariants.{AgainAt};
 
@@ -17,4 +19,17 @@ pub fn a_silent_peer_is_given_up()
 pub fn each_wait_is_twice_the_last()
     ensures due { (w : Waiting) (now : ℕ) → act_at w now ≡ Again → (after_act w now).due ≡ AgainAt (later now w.length) }
     ensures next { (w : Waiting) (now : ℕ) → act_at w now ≡ Again → (after_act w now).length ≡ next_length w.pace w.length }
+{}
+
+/// A clock goes on whatever is told. By steps forward of at most a day it goes as what is told does (`steady`). When what is told goes back
+/// it stands still (`back`), and goes on from there by the next step (`on`). No step, however far, is more than a day (`far`). What is due by
+/// the clock is told as long after what was told last (`told`).
+pub fn a_clock_goes_on()
+    ensures steady { (c : Clock) (now : ℕ) → c.told ≤ now → now ≤ c.told + day → c.latest + (now - c.told) ≤ last_time
+        → time_at c now ≡ c.latest + (now - c.told) }
+    ensures back { (c : Clock) (now : ℕ) → c.latest ≤ last_time → now ≤ c.told → time_at c now ≡ c.latest }
+    ensures on { (c : Clock) (now then : ℕ) → c.latest ≤ last_time → now ≤ c.told → now ≤ then → then ≤ now + day
+        → c.latest + (then - now) ≤ last_time → time_at (told_at c now) then ≡ c.latest + (then - now) }
+    ensures far { (c : Clock) (now : ℕ) → time_at c now ≤ c.latest + day }
+    ensures told { (c : Clock) (span : ℕ) → 0 < span → c.told + span < last_time → by_told c (c.latest + span) ≡ c.told + span }
 {}

@@ -1,11 +1,12 @@
 -- What is fetched of a host is given, or stays.
 use Rattle.std.proofs.Common.{◌≡◌, ◌≢◌, ◌<◌, ◌≤◌, ℕ, List, [], ◌∷◌, length, max, slice_get, Option, Result, Ok, Err, OnErr, ◌⊎◌, false, IfOk, IfSome, Some, None, inl, inr, refl, sym, ap, ◌∙◌, subst, arith}
 use Rattle.std.proofs.lemmas.Bool.{cases_lt}
-use Rattle.xns_host.specs.Deeds.{Deed}
+use Rattle.xns_connection.specs.Deeds.{Deed}
 use Rattle.xns_host.specs.Hosting.{has_guest}
-use Rattle.xns_host.specs.Refusing.{Answers}
-use Rattle.xns_host.specs.Turn.{GivesOut, TellsNext, Turn}
-use Rattle.xns_host.specs.declared.conversation.Conversation.{Conversation}
+use Rattle.xns_host.specs.Refusing.{TellsRefusal}
+use Rattle.xns_host.specs.Turn.{GivesOut, TellsNext, Turn, WakesAt}
+use Rattle.xns_connection.specs.declared.conversation.Conversation.{Conversation}
+use Rattle.xns_connection.specs.declared.refusal.Refusal.{Refusal}
 use Rattle.xns_host.specs.declared.host_fault.HostFault.TheVariants.{NoConnection, NoMemory, NoRoom}
 use Rattle.xns_c.specs.Faults.{host_fault_number, host_told}
 use Rattle.xns_host.specs.declared.host_fault.HostFault.{HostFault}
@@ -15,7 +16,7 @@ use Rattle.xns_host.specs.declared.host.Host.{Host}
 use Rattle.xns_host.specs.declared.outgoing.Outgoing.{Outgoing}
 use Rattle.xns_c.specs.Events.{EventIsGiven}
 use Rattle.xns_c.specs.Given.{IsPut}
-use Rattle.xns_c.specs.Hosts.{FetchesEvent, FetchesPacket, GivesPacket, Turns, answer_of, left_of}
+use Rattle.xns_c.specs.Hosts.{FetchesEvent, FetchesPacket, GivesPacket, Turns, WakesHost, answer_of, left_of, time_or_never}
 use Rattle.xns_c.specs.Results.{ok, nothing, no_memory, no_slot, short_buffer}
 use Rattle.xns_c.specs.declared.event.XnsEvent.{XnsEvent}
 use Rattle.xns_c.specs.declared.kept_host.KeptHost.{KeptHost}
@@ -82,12 +83,12 @@ packet_short p b old new had written way number is room put short unchanged = (
 )
 
 -- what a host did for a call that names a connection, whatever became of the event that is kept
-pub turned : (k n : KeptHost) (host : Host) (now number : ℕ) (deed : Deed) (fault : Conversation → Option HostFault) (answer : Result (Unit {0}) HostFault) (result : ℕ)
+pub turned : (k n : KeptHost) (host : Host) (now number : ℕ) (deed : Deed) (reason : Conversation → Option Refusal) (answer : Result (Unit {0}) HostFault) (result : ℕ)
     → n.host ≡ host → n.packet ≡ k.packet → result ≡ host_told answer → Turn now number deed answer k.host host
     → (has_guest (slice_get k.host.guests.items number) ≡ false → answer ≡ Err (NoConnection number))
-    → ((g : Guest) → slice_get k.host.guests.items number ≡ Some (Some g) → Answers (fault g.connection.conversation) answer)
-    → Turns k n now number deed fault result
-turned k n host now number deed fault answer result same packet told turn none refused = record {
+    → ((g : Guest) → slice_get k.host.guests.items number ≡ Some (Some g) → TellsRefusal (reason g.connection.conversation) answer)
+    → Turns k n now number deed reason result
+turned k n host now number deed reason answer result same packet told turn none refused = record {
   answer = answer;
   told = told;
   turn = subst (λ (h : Host). Turn now number deed answer k.host h) (sym same) turn;
@@ -95,6 +96,10 @@ turned k n host now number deed fault answer result same packet told turn none r
   refused = refused;
   packet = packet;
 }
+
+-- a time that the host told, or never
+pub wakes_host : (h : Host) (at : Option ℕ) (time : ℕ) → WakesAt h at → time ≡ time_or_never at → WakesHost h time
+wakes_host h at time wakes is = record { at = at; wakes = wakes; is = is }
 
 pub unused : ok ≡ no_slot → ⊥
 unused e = omega (arith, e)

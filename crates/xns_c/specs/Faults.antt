@@ -12,8 +12,8 @@ use Rattle.courier_sessions.specs.declared.feed_refusal.FeedRefusal.TheVariants 
 use Rattle.xns_host.specs.declared.host_fault.HostFault.{HostFault}
 use Rattle.xns_host.specs.declared.host_fault.HostFault.TheVariants.{OutOfRange, NoConnection, NoRoom, TooManyServices, Busy, PeerCalls}
 use Rattle.xns_host.specs.declared.host_fault.HostFault.TheVariants.{NoCall, Closing, TooLong, NoMemory}
-use Rattle.xns_host.specs.declared.why.Why.{Why}
-use Rattle.xns_host.specs.declared.why.Why.TheVariants.{Asked, ByPeer, Silent, NotServed, Refused}
+use Rattle.xns_connection.specs.declared.why.Why.{Why}
+use Rattle.xns_connection.specs.declared.why.Why.TheVariants.{Asked, ByPeer, Silent, NotServed, Refused}
 use Rattle.xns_c.specs.Results.{ok, nothing, no_memory, bad_argument, too_long, no_slot, stopped, busy, closing, attention}
 use Rattle.xns_c.specs.Results.{no_connection, too_many_services, peer_calls}
 

@@ -4,15 +4,18 @@ use Rattle.courier_messages.specs.RawCalls.{RawCall}
 use Rattle.courier_sessions.specs.declared.answer.Answer.{Answer}
 use Rattle.courier_sessions.specs.declared.program.Program.{Program}
 use Rattle.xns_idp.specs.declared.address.Address.{Address}
-use Rattle.xns_host.specs.Deeds.{Deed, asked, gave, made}
-use Rattle.xns_host.specs.Refusing.{Answers}
+use Rattle.xns_connection.specs.Deeds.{Deed, asked, gave, made}
+use Rattle.xns_host.specs.Refusing.{TellsRefusal}
 use Rattle.xns_host.specs.Standing.{IsNewHost}
-use Rattle.xns_host.specs.Turn.{ConnectsTo, GivesOut, ServesAt, ServesNot, TakesIn, TellsNext, Turn}
-use Rattle.xns_host.specs.Hosting.{HasNoRoom, IsAllInUse, Wants, has_guest}
-use Rattle.xns_host.specs.Reasons.{call_fault_of, answer_fault_of}
-use Rattle.xns_host.specs.declared.conversation.Conversation.{Conversation}
+use Rattle.xns_host.specs.Turn.{Abandons, ConnectsTo, GivesOut, ServesAt, ServesNot, TakesIn, TellsNext, Turn, WakesAt}
+use Rattle.xns_host.specs.Hosting.{HasNoRoom, IsAllInUse, has_guest}
+use Rattle.xns_host.specs.Numbers.{IsNumberFrom}
+use Rattle.xns_connection.specs.Reasons.{call_fault_of, answer_fault_of}
+use Rattle.xns_connection.specs.declared.conversation.Conversation.{Conversation}
+use Rattle.xns_connection.specs.declared.refusal.Refusal.{Refusal}
 use Rattle.xns_host.specs.declared.event.Event.{Event}
 use Rattle.xns_host.specs.declared.guest.Guest.{Guest}
+use Rattle.xns_host.specs.declared.host.Host.{Host}
 use Rattle.xns_host.specs.declared.host_fault.HostFault.{HostFault}
 use Rattle.xns_host.specs.declared.host_fault.HostFault.TheVariants.{NoConnection}
 use Rattle.xns_host.specs.declared.outgoing.Outgoing.{Outgoing}
@@ -44,15 +47,15 @@ IsNew (Some k) own settings secret = IsNewHost own.network own.host settings sec
 -- ---- calls that name a connection
 
 -- the host made this turn, and the answer is told; what is kept of packets stays
-pub record Turns (k n : KeptHost) (now number : ℕ) (deed : Deed) (fault : Conversation → Option HostFault) (result : ℕ) : Type 0 where
+pub record Turns (k n : KeptHost) (now number : ℕ) (deed : Deed) (reason : Conversation → Option Refusal) (result : ℕ) : Type 0 where
   pub answer : Result (Unit {0}) HostFault
   pub told : result ≡ host_told answer
   pub turn : Turn now number deed answer k.host n.host
   pub none : has_guest (guest_at k number) ≡ false → answer ≡ Err (NoConnection number)
-  pub refused : (g : Guest) → guest_at k number ≡ Some (Some g) → Answers (fault g.connection.conversation) answer
+  pub refused : (g : Guest) → guest_at k number ≡ Some (Some g) → TellsRefusal (reason g.connection.conversation) answer
   pub packet : n.packet ≡ k.packet
 
--- the event that is kept goes where it is of a connection whose call was answered, or that was closed
+-- the event that is kept goes where it is of a connection whose call was answered, or that was closed or abandoned
 abbrev pub unless_of : Option Event → ℕ → Option Event
 unless_of None number = None
 unless_of (Some e) number = if event_number e == number then None else Some e
@@ -74,6 +77,16 @@ pub record AnswersCall (k n : KeptHost) (now number : ℕ) (answer : Option Answ
 -- it was asked to close
 pub record Closes (k n : KeptHost) (now number result : ℕ) : Type 0 where
   pub turns : Turns k n now number asked (λ t. None) result
+  pub event : n.event ≡ kept_after k.event number result
+
+-- the connection is gone, and its event that is kept; or there was none, and the answer is told. A packet that is kept stays
+pub record AbandonsOne (k n : KeptHost) (number result : ℕ) : Type 0 where
+  pub answer : Result (Unit {0}) HostFault
+  pub told : result ≡ host_told answer
+  pub gone : Abandons number answer k.host n.host
+  pub none : has_guest (guest_at k number) ≡ false → answer ≡ Err (NoConnection number)
+  pub some : (g : Guest) → guest_at k number ≡ Some (Some g) → answer ≡ Ok tt
+  pub packet : n.packet ≡ k.packet
   pub event : n.event ≡ kept_after k.event number result
 
 -- ---- other calls
@@ -103,16 +116,30 @@ pub record Receives (k n : KeptHost) (now way : ℕ) (bytes : List ℕ) (result 
   pub takes : TakesIn now way bytes ours k.host n.host
   pub kept : StaysKept k n
 
--- something of the host wants to be asked at this time
-abbrev pub WantsAt : KeptHost → ℕ → Type 0
-WantsAt k time = Wants k.host.strays.waiting k.host.guests.items time
+-- when the host wants to be asked, or never
+abbrev pub time_or_never : Option ℕ → ℕ
+time_or_never None = never
+time_or_never (Some time) = time
 
--- when it wants to be asked: at once where something is kept, and else at the first time that something of the host wants it, or never
+pub record WakesHost (h : Host) (time : ℕ) : Type 0 where
+  pub at : Option ℕ
+  pub wakes : WakesAt h at
+  pub is : time ≡ time_or_never at
+
+-- when it wants to be asked: at once where something is kept, and else when the host does
 pub record Wakes (k : KeptHost) (time : ℕ) : Type 0 where
   pub event : k.event ≢ None → time ≡ 0
   pub packet : k.packet ≢ None → time ≡ 0
-  pub least : (t : ℕ) → WantsAt k t → time ≤ t
-  pub wanted : k.event ≡ None → k.packet ≡ None → (time ≡ never) ⊎ WantsAt k time
+  pub host : k.event ≡ None → k.packet ≡ None → WakesHost k.host time
+
+-- this number is told; where there is none, nothing is written
+abbrev pub NumberIsTold : Option ℕ → (old new result : ℕ) → Type 0
+NumberIsTold None old new result = (result ≡ nothing) × (new ≡ old)
+NumberIsTold (Some number) old new result = (result ≡ ok) × (new ≡ number)
+
+-- the first number from this one on that a connection has is told
+abbrev pub WalksOn : KeptHost → (from old new result : ℕ) → Type 0
+WalksOn k from old new result = (found : Option ℕ) × IsNumberFrom k.host.guests.items from found × NumberIsTold found old new result
 
 -- a number was found, or this is why not
 abbrev pub number_told : Result ℕ HostFault → ℕ

@@ -11,7 +11,7 @@ ghost use Rattle.xns_host.specs.declared.host_fault.HostFault.TheVariants.{NoMem
 ghost use Rattle.xns_host.specs.declared.setting.Setting.{Setting};
 ghost use Rattle.xns_c.specs.Handle.{kept_of};
 ghost use Rattle.xns_c.specs.Heads.{answer_in};
-ghost use Rattle.xns_c.specs.Hosts.{Does, Calls, AnswersCall, Closes, Connects, Serves, Receives, Wakes, FetchesEvent, FetchesPacket};
+ghost use Rattle.xns_c.specs.Hosts.{AbandonsOne, Does, Calls, AnswersCall, Closes, Connects, Serves, Receives, WalksOn, Wakes, FetchesEvent, FetchesPacket};
 ghost use Rattle.xns_c.specs.Hosts.{IsNew, guest_at};
 ghost use Rattle.xns_c.specs.Results.{ok, no_host, no_connection, no_memory, bad_argument};
 ghost use Rattle.xns_c.specs.Settings.{settings_in, never};
@@ -23,7 +23,7 @@ use crate::event::XnsEvent;
 use crate::faults::host_fault_number;
 use crate::host_handle::XnsHost;
 use crate::kept_host::{KeptHost, NEVER};
-use crate::results::{NO_CONNECTION, NO_HOST, OK};
+use crate::results::{NO_CONNECTION, NO_HOST, NOTHING, OK};
 use crate::settings::XnsSettings;
 use courier_sessions::Program;
 use std::alloc::Global;
@@ -121,7 +121,7 @@ pub extern "C" fn xns_host_connect(
     alloc: Global,
     handle: &mut XnsHost,
     now: u64,
-    via: u32,
+    via: u64,
     socket: u16,
     peer: &XnsAddress,
     number: &mut usize,
@@ -210,6 +210,21 @@ pub extern "C" fn xns_host_close(
     result
 }
 
+/// Abandons a connection: it is gone at once, and its closing is not told. An event of it that is kept goes; a packet that is kept stays.
+///
+/// `NO_HOST`; `NO_CONNECTION`.
+#[unsafe(no_mangle)]
+pub extern "C" fn xns_host_abandon(alloc: Global, handle: &mut XnsHost, number: usize) -> u32
+    ensures abandons { Does (kept_of handle.old) (kept_of handle.new) result (λ k n. AbandonsOne k n number result) }
+{
+    let Some(mut kept) = handle.take(alloc) else {
+        return NO_HOST;
+    };
+    let result = kept.abandon(number);
+    handle.put(kept);
+    result
+}
+
 /// Takes in the bytes of a packet that came by this `via`.
 ///
 /// `NO_HOST`; `NOTHING` where it was not for the host, which changes nothing: it is the program's to use.
@@ -218,7 +233,7 @@ pub extern "C" fn xns_host_receive(
     alloc: Global,
     handle: &mut XnsHost,
     now: u64,
-    via: u32,
+    via: u64,
     bytes: &[u8],
 ) -> u32
     ensures receives { Does (kept_of handle.old) (kept_of handle.new) result (λ k n. Receives k n now via bytes.now result) }
@@ -266,7 +281,7 @@ pub extern "C" fn xns_host_next_packet(
     now: u64,
     buffer: &mut [u8],
     written: &mut usize,
-    via: &mut u32,
+    via: &mut u64,
 ) -> u32
     ensures fetches { Does (kept_of handle.old) (kept_of handle.new) result
         (λ k n. FetchesPacket k n now buffer.old buffer.new written.old written.new via.old via.new result) }
@@ -280,7 +295,7 @@ pub extern "C" fn xns_host_next_packet(
     result
 }
 
-/// When `xns_host_next_packet` wants to be called at the latest: 0 at once, 2^64 - 1 never. Never where there is no host.
+/// When the host wants to be asked at the latest, for events and then for packets: 0 at once, 2^64 - 1 never. Never where there is no host.
 #[unsafe(no_mangle)]
 pub extern "C" fn xns_host_wake(alloc: Global, handle: &mut XnsHost) -> u64
     ensures wakes { (k : KeptHost) → kept_of handle.old ≡ Some k → Wakes k result }
@@ -298,6 +313,34 @@ pub extern "C" fn xns_host_connections(alloc: Global, handle: &mut XnsHost) -> u
     ensures same { kept_of handle.new ≡ kept_of handle.old }
 {
     handle.ask(alloc, 0, |kept| kept.host.connections())
+}
+
+/// Tells the first number from this one on that a connection has.
+///
+/// `NO_HOST`; `NOTHING` where none has one.
+#[unsafe(no_mangle)]
+pub extern "C" fn xns_host_number_from(
+    alloc: Global,
+    handle: &mut XnsHost,
+    from: usize,
+    number: &mut usize,
+) -> u32
+    ensures walks { (k : KeptHost) → kept_of handle.old ≡ Some k → WalksOn k from number.old number.new result }
+    ensures none { kept_of handle.old ≡ None → (result ≡ no_host) × (number.new ≡ number.old) }
+    ensures same { kept_of handle.new ≡ kept_of handle.old }
+{
+    let Some(kept) = handle.take(alloc) else {
+        return NO_HOST;
+    };
+    let found = kept.host.number_from(from);
+    handle.put(kept);
+    match found {
+        Some(found) => {
+            *number = found;
+            OK
+        }
+        None => NOTHING,
+    }
 }
 
 /// Whom the connection with this number was opened to, or who opened it.

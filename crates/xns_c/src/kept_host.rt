@@ -10,7 +10,7 @@ ghost use Rattle.xns_host.specs.declared.host_fault.HostFault.TheVariants.{NoMem
 ghost use Rattle.xns_host.specs.declared.outgoing.Outgoing.{Outgoing};
 ghost use Rattle.xns_host.specs.declared.setting.Setting.{Setting};
 ghost use Rattle.xns_c.specs.Heads.{answer_in};
-ghost use Rattle.xns_c.specs.Hosts.{Calls, AnswersCall, Closes, Connects, Serves, Receives, Wakes, FetchesEvent, FetchesPacket};
+ghost use Rattle.xns_c.specs.Hosts.{AbandonsOne, Calls, AnswersCall, Closes, Connects, Serves, Receives, Wakes, FetchesEvent, FetchesPacket};
 ghost use Rattle.xns_c.specs.Hosts.{answer_of, kept_after};
 ghost use Rattle.xns_c.specs.Results.{ok};
 ghost use Rattle.xns_c.specs.Structs.{address_in};
@@ -72,7 +72,7 @@ impl KeptHost {
     pub fn connect(
         &mut self,
         now: u64,
-        via: u32,
+        via: u64,
         socket: u16,
         peer: &XnsAddress,
         number: &mut usize,
@@ -143,8 +143,17 @@ impl KeptHost {
         result
     }
 
+    /// Abandons a connection. What is kept of it goes; a packet that is kept stays.
+    pub fn abandon(&mut self, number: usize) -> u32
+        ensures { AbandonsOne self.old self.new number result }
+    {
+        let result = host_told(self.host.abandon(number));
+        self.let_go(number, result);
+        result
+    }
+
     /// Takes a packet in. `NOTHING`: it was not for the host.
-    pub fn receive(&mut self, now: u64, via: u32, bytes: &[u8]) -> u32
+    pub fn receive(&mut self, now: u64, via: u64, bytes: &[u8]) -> u32
         ensures { Receives self.old self.new now via bytes.now result }
     {
         if self.host.receive(now, via, bytes) {
@@ -199,7 +208,7 @@ impl KeptHost {
         now: u64,
         buffer: &mut [u8],
         written: &mut usize,
-        via: &mut u32,
+        via: &mut u64,
     ) -> u32
         ensures { FetchesPacket self.old self.new now buffer.old buffer.new written.old written.new via.old via.new result }
     {
@@ -218,7 +227,8 @@ impl KeptHost {
         told
     }
 
-    /// When the next packet wants to be asked for at the latest: at once, which is 0, where something is kept.
+    /// When the host wants to be asked at the latest: at once, which is 0, where something is kept.
+    #[tactic(auto, using(crate::proofs::Hosts::wakes_host))]
     pub fn wake(&self) -> u64
         ensures { Wakes self.now result }
     {

@@ -1,6 +1,6 @@
 -- A flow of a whole input begins with its first data packet.
-use Rattle.std.proofs.Common.{◌≡◌, ◌∙◌, ap, sym, refl, subst, ℕ, zero, suc, ◌+◌, ◌==◌, ◌⊎◌, inl, inr, Bool, true, false, cond, List, [], ◌∷◌, ◌++◌, length, drop, append_assoc, append-nil, Option, Some, None}
-use Rattle.std.specs.Prelude.{not, slice_get, slice_set}
+use Rattle.std.proofs.Common.{◌≡◌, ◌∙◌, ap, sym, refl, subst, ℕ, ◌+◌, ◌==◌, ◌⊎◌, inl, inr, Bool, true, false, cond, List, [], ◌∷◌, ◌++◌, length, drop, append_assoc, append-nil, Option, Some, None}
+use Rattle.std.specs.Prelude.{not, slice_get}
 use Rattle.std.proofs.lemmas.Grind.{flat_map-append}
 use Rattle.xns_idp.specs.Packet.{PacketModel}
 use Rattle.xns_spp.specs.Header.{is_system}
@@ -8,23 +8,29 @@ use Rattle.xns_spp.specs.Item.{item_with}
 use Rattle.xns_spp.specs.declared.header.Header.{Header}
 use Rattle.xns_dump.specs.Flows.{flow_of}
 use Rattle.xns_dump.specs.declared.flows.flow.Flow.{Flow}
+use Rattle.xns_calls.specs.Naming.{Programs}
+use Rattle.xns_calls.specs.Anew.{begins_anew}
 use Rattle.xns_calls.specs.Calls.{after_line, known_from, line_taken, text_from}
-use Rattle.xns_calls.specs.Capture.{Known, after_at, after_in, after_new_flow, after_places, after_sequenced, flow_behind, heading_at, new_connection, place_of, scene_in, with_new, with_scene}
-use Rattle.xns_calls.specs.Events.{Event, after_events, captured_event}
-use Rattle.xns_calls.specs.Exchange.{Scene, acknowledged_track, advance_other, after_acknowledge, after_data, after_packet, after_told, begin_track, begun, first_track, new_number, of_other, take_number, told_of}
-use Rattle.xns_calls.specs.Input.{Part, arrival, begins, events_at, events_between, events_from, field_at, field_between, first_field_from, flow_place, is_same, item_events, or_later, part_text, parts_text, place_among, said_texts, text_in, texts_in, told, track_at, track_in}
+use Rattle.xns_calls.specs.Capture.{Known, after_at, after_in, after_new_flow, after_place, after_sequenced, after_there, forgotten, heading_at, is_behind_in, new_connection, place_of, renewed, renewed_there, scene_in, with_closing, with_new, with_scene}
+use Rattle.xns_calls.specs.Events.{Event, acknowledged_event, after_events, captured_event}
+use Rattle.xns_calls.specs.Exchange.{Scene, acknowledged_track, advance_other, advance_own, after_acknowledge, after_data, after_packet, after_told, begin_track, begun, behind_last, ended, first_track, new_number, of_other, seen_from_other, take_number, told_of}
+use Rattle.xns_calls.specs.Input.{Arrival, FlowName, Part, arrival, begins, connection_at, connection_of, ending_events, events_at, events_between, events_from, events_there, field_at, field_between, field_there, first_field_from, is_same, item_events, name_in, next_name, or_later, part_text, parts_text, said_texts, text_in, texts_in, told}
 use Rattle.xns_calls.specs.Numbers.{near}
+use Rattle.xns_calls.specs.Over.{closing_with, side_in}
 use Rattle.xns_calls.specs.Reading.{Told}
 use Rattle.xns_calls.specs.Texts.{flow_line}
 use Rattle.xns_calls.specs.Whole.{flow_text}
+use Rattle.xns_calls.specs.declared.closing.Closing.{Closing}
 use Rattle.xns_calls.specs.declared.connection.Connection.{Connection}
-use Rattle.xns_calls.specs.declared.flow_place.FlowPlace.{FlowPlace}
 use Rattle.xns_calls.specs.declared.heading.Heading.{Heading}
 use Rattle.xns_calls.proofs.Adding.{number_adds}
 use Rattle.xns_calls.proofs.Gaps.{equal_tells}
-use Rattle.xns_calls.proofs.Inputs.{IsAt, acknowledged_is, acknowledged_said, acknowledged_text, added, after_append, behind_text, captured_new, captured_plain, drop_all, far_text, flow_append, flow_at, get_last, get_same, line_is, lines_ran, near_events, number_tells, other_text, own_text, packet_parts, packet_said, packet_text, plain, plain_one, said_text_of, scene_text, stands_own, two_of, two_texts}
-use Rattle.xns_calls.proofs.Others.{get_set}
-use Rattle.xns_calls.proofs.Packets.{acknowledge_own, number_event, packet_other}
+use Rattle.xns_calls.proofs.Happenings.{IsOn, IsPlain, far_ended, far_texts, forgotten_parts, in_text, near_events, new_there, none_new, side_track, stands_own}
+use Rattle.xns_calls.proofs.Inputs.{events_front, line_is, lines_ran, numbered_line}
+use Rattle.xns_calls.proofs.Parts.{acknowledged_is, acknowledged_said, acknowledged_text, added, after_append, behind_text, captured_new, captured_plain, drop_all, ended_parts, ended_text, first_ended, first_ended_said, flow_append, flow_at, number_tells, other_text, own_text, packet_parts, packet_said, plain, plain_one, said_text_of, scene_text, second_ended, second_ended_said, two_of, two_texts}
+use Rattle.xns_calls.proofs.Numbered.{AllKeep, IsNumbered, keep_more, keep_set, scene_number}
+use Rattle.xns_calls.proofs.Others.{get_last, get_same}
+use Rattle.xns_calls.proofs.Packets.{acknowledge_own, ended_other, number_event, packet_other}
 use Rattle.xns_calls.proofs.Places.{place_there}
 use Rattle.xns_calls.specs.declared.origin.Origin.{Origin}
 use Rattle.xns_calls.specs.Origins.{line_origin}
@@ -32,43 +38,43 @@ use Rattle.xns_calls.specs.Origins.{line_origin}
 -- ---- a packet, for a flow that has not begun
 
 -- it does not begin
-record Awaits (i : ℕ) (b : Bool) (before : List ℕ) (k : Known) (happened : List Event) (field : Option ℕ) : Type 0 where
-  none : track_in (flow_at i b) k.connections ≡ None
+record Awaits (m : ℕ) (b : Bool) (before : List ℕ) (k : Known) (happened : List Event) (field : Option ℕ) : Type 0 where
+  none : AllKeep m b k.connections None
   nothing : happened ≡ []
   later : field ≡ None
   parts : List Part
   text : k.text ≡ before ++ parts_text parts
-  own : texts_in (flow_at i b) parts ≡ []
+  own : texts_in (flow_at m b) parts ≡ []
 
 -- it begins
-record Starts (i : ℕ) (b : Bool) (before : List ℕ) (k : Known) (happened : List Event) (field : Option ℕ) : Type 0 where
+record Starts (m : ℕ) (b : Bool) (before : List ℕ) (k : Known) (happened : List Event) (field : Option ℕ) : Type 0 where
   first : ℕ
   has : field ≡ Some first
   start : Told
   track : start.track ≡ first_track first
   events : List Event
   are : plain events ≡ happened
-  stands : IsAt i b k (after_events events start)
+  stands : IsOn m b k (after_events events start)
   heading : Heading
   packet : PacketModel
   header : Header
   parts : List Part
   text : k.text ≡ before ++ parts_text parts
-  own : texts_in (flow_at i b) parts ≡ flow_line heading packet header ++ flow_text events start
+  own : texts_in (flow_at m b) parts ≡ flow_line heading packet header ++ flow_text events start
 
 abbrev Met : ℕ → Bool → List ℕ → Known → List Event → Option ℕ → Type 0
-Met i b before k happened field = Awaits i b before k happened field ⊎ Starts i b before k happened field
+Met m b before k happened field = Awaits m b before k happened field ⊎ Starts m b before k happened field
 
-waits_still : (i : ℕ) (b : Bool) (k : Known) (happened : List Event) (field : Option ℕ) → track_in (flow_at i b) k.connections ≡ None → happened ≡ [] → field ≡ None → Awaits i b k.text k happened field
-waits_still i b k happened field none nothing later = record { none = none; nothing = nothing; later = later; parts = []; text = sym (append-nil k.text); own = refl }
+waits_still : (m : ℕ) (b : Bool) (k : Known) (happened : List Event) (field : Option ℕ) → AllKeep m b k.connections None → happened ≡ [] → field ≡ None → Awaits m b k.text k happened field
+waits_still m b k happened field none nothing later = record { none = none; nothing = nothing; later = later; parts = []; text = sym (append-nil k.text); own = refl }
 
-pub track_own : (i : ℕ) (b : Bool) (c : Connection) (s : Scene) (cs : List Connection) → slice_get cs i ≡ Some c → track_in (flow_at i b) (slice_set cs i (with_scene b s c)) ≡ s.own.track
-track_own i true c s cs e = ap (track_at true) (get_same cs i c (with_scene true s c) e)
-track_own i false c s cs e = ap (track_at false) (get_same cs i c (with_scene false s c) e)
+pub track_own : (b : Bool) (closing : Closing) (c : Connection) (s : Scene) → (side_in b (with_scene b s (with_closing b closing c))).track ≡ s.own.track
+track_own true closing c s = refl
+track_own false closing c s = refl
 
-pub track_behind : (i : ℕ) (q : Bool) (c : Connection) (s : Scene) (cs : List Connection) → slice_get cs i ≡ Some c → track_in (flow_at i (not q)) (slice_set cs i (with_scene q s c)) ≡ s.other.track
-track_behind i true c s cs e = ap (track_at false) (get_same cs i c (with_scene true s c) e)
-track_behind i false c s cs e = ap (track_at true) (get_same cs i c (with_scene false s c) e)
+pub track_behind : (q : Bool) (closing : Closing) (c : Connection) (s : Scene) → (side_in (not q) (with_scene q s (with_closing q closing c))).track ≡ s.other.track
+track_behind true closing c s = refl
+track_behind false closing c s = refl
 
 abbrev item_field : Header → Option ℕ
 item_field f = cond (is_system f) None (Some f.sequence)
@@ -79,22 +85,24 @@ unfolding after_packet
 system_same h packet f content s e =
     let known = after_acknowledge h f.acknowledge s in ap (λ p. cond p known (after_data h packet f content known)) e
 
-own_waits : (n : Origin) (i : ℕ) (b : Bool) (packet : PacketModel) (f : Header) (content : List ℕ) (c : Connection) (k : Known) → slice_get k.connections i ≡ Some c → (scene_in b c k).own.track ≡ None → is_system f ≡ true
-    → Awaits i b k.text (after_in n i b packet f content (Some c) k) (item_events (heading_at n i b) f content None) (item_field f)
-own_waits n i b packet f content c k there none e =
-    let h = heading_at n i b in
+own_waits : (n : Origin) (i : ℕ) (b : Bool) (packet : PacketModel) (f : Header) (content : List ℕ) (c : Connection) (k : Known) → AllKeep c.number b k.connections None → (scene_in b c k).own.track ≡ None → is_system f ≡ true
+    → Awaits c.number b k.text (after_in n i b packet f content c k) (item_events (heading_at n c.number b) f content None) (item_field f)
+own_waits n i b packet f content c k all none e =
+    let m = c.number in
+    let h = heading_at n m b in
     let s = scene_in b c k in
     let known = after_acknowledge h f.acknowledge s in
     let new = after_packet h packet f content s in
     let same : new ≡ known = system_same h packet f content s e in record {
-      none = track_own i b c new k.connections there ∙ ap (λ (x : Scene). x.own.track) same ∙ acknowledge_own h f.acknowledge s ∙ none;
+      none = keep_set m b k.connections i (with_scene b new (with_closing b (closing_with b f c) c)) None all
+          (λ is. track_own b (closing_with b f c) c new ∙ ap (λ (x : Scene). x.own.track) same ∙ acknowledge_own h f.acknowledge s ∙ none);
       nothing = ap (λ p. cond p [] (captured_event h (near (first_track f.sequence).next f.sequence) (item_with f content))) e;
       later = ap (λ p. cond p None (Some f.sequence)) e;
-      parts = packet_parts n i b packet f content s;
-      text = packet_text n i b packet f content s ∙ ap (λ z. z ++ parts_text (packet_parts n i b packet f content s)) (scene_text b c k);
-      own = two_of (text_in (flow_at i b) (told n (flow_at i (not b)) (acknowledged_said n i b f s))) (text_in (flow_at i b) (told n (flow_at i b) (packet_said n i b packet f content s))) [] []
-          (other_text n i b (acknowledged_said n i b f s))
-          (own_text n i b (packet_said n i b packet f content s) ∙ sym (said_text_of n i b packet f content s) ∙ ap (λ (x : Scene). drop (length known.text) x.text) same ∙ drop_all known.text);
+      parts = packet_parts n m b packet f content s;
+      text = in_text n i b packet f content c k;
+      own = two_of (text_in (flow_at m b) (told n (flow_at m (not b)) (acknowledged_said n m b f s))) (text_in (flow_at m b) (told n (flow_at m b) (packet_said n m b packet f content s))) [] []
+          (other_text n m b (acknowledged_said n m b f s))
+          (own_text n m b (packet_said n m b packet f content s) ∙ sym (said_text_of n m b packet f content s) ∙ ap (λ (x : Scene). drop (length known.text) x.text) same ∙ drop_all known.text);
     }
 
 -- and a data packet of its own, with which it begins
@@ -110,9 +118,10 @@ packet_new h packet f content s none e =
     ap (λ p. cond p known (after_data h packet f content known)) e ∙ data_new h packet f content known (acknowledge_own h f.acknowledge s ∙ none)
 
 own_starts : (n : Origin) (i : ℕ) (b : Bool) (packet : PacketModel) (f : Header) (content : List ℕ) (c : Connection) (k : Known) → slice_get k.connections i ≡ Some c → (scene_in b c k).own.track ≡ None → is_system f ≡ false
-    → Starts i b k.text (after_in n i b packet f content (Some c) k) (item_events (heading_at n i b) f content None) (item_field f)
+    → Starts c.number b k.text (after_in n i b packet f content c k) (item_events (heading_at n c.number b) f content None) (item_field f)
 own_starts n i b packet f content c k there none e =
-    let h = heading_at n i b in
+    let m = c.number in
+    let h = heading_at n m b in
     let s = scene_in b c k in
     let known = after_acknowledge h f.acknowledge s in
     let new = after_packet h packet f content s in
@@ -128,34 +137,34 @@ own_starts n i b packet f content c k there none e =
     let after : new ≡ after_told u B = takes ∙ one in
     let z = number_adds h (new_number B.own.track f.sequence) item B in
     let line = flow_line h packet f in
-    let before = acknowledged_said n i b f s in
-    let parts = told n (flow_at i (not b)) before ∷ told n (flow_at i b) (begins packet f ∷ z.said) ∷ [] in record {
+    let before = acknowledged_said n m b f s in
+    let parts = told n (flow_at m (not b)) before ∷ told n (flow_at m b) (begins packet f ∷ z.said) ∷ [] in record {
       first = f.sequence;
       has = ap (λ p. cond p None (Some f.sequence)) e;
       start = start;
       track = refl;
       events = events;
       are = captured_plain h o item ∙ sym (ap (λ p. cond p [] events) e);
-      stands = stands_own i b c new k (after_in n i b packet f content (Some c) k).flows there u (ap (λ (x : Scene). x.own.track) after) (sym (ap (λ (x : Scene). told_of u.track x) after));
+      stands = inl (stands_own i b (closing_with b f c) c new k there u (ap (λ (x : Scene). x.own.track) after) (sym (ap (λ (x : Scene). told_of u.track x) after)));
       heading = h;
       packet = packet;
       header = f;
       parts = parts;
-      text = two_texts s.text known.text new.text (said_texts (of_other h) before) (line ++ said_texts h z.said) (acknowledged_is n i b f s)
+      text = two_texts s.text known.text new.text (said_texts (of_other h) before) (line ++ said_texts h z.said) (acknowledged_is n m b f s)
           (ap (λ (x : Scene). x.text) takes ∙ z.is ∙ append_assoc known.text line (said_texts h z.said))
           ∙ ap (λ x. x ++ parts_text parts) (scene_text b c k);
-      own = two_of (text_in (flow_at i b) (told n (flow_at i (not b)) before)) (text_in (flow_at i b) (told n (flow_at i b) (begins packet f ∷ z.said))) [] (line ++ flow_text events start)
-          (other_text n i b before)
-          (own_text n i b (begins packet f ∷ z.said)
+      own = two_of (text_in (flow_at m b) (told n (flow_at m (not b)) before)) (text_in (flow_at m b) (told n (flow_at m b) (begins packet f ∷ z.said))) [] (line ++ flow_text events start)
+          (other_text n m b before)
+          (own_text n m b (begins packet f ∷ z.said)
           ∙ ap (λ x. line ++ x) (sym (added h B.text (take_number h f item B).text z) ∙ ap (λ (x : Scene). drop (length B.text) x.text) one ∙ sym (captured_new h o item start)));
     }
 
-own_meets : (n : Origin) (i : ℕ) (b : Bool) (packet : PacketModel) (f : Header) (content : List ℕ) (c : Connection) (k : Known) → slice_get k.connections i ≡ Some c → (scene_in b c k).own.track ≡ None
-    → Met i b k.text (after_in n i b packet f content (Some c) k) (item_events (heading_at n i b) f content None) (item_field f)
-own_meets n i b packet f content c k there none = by_system (is_system f) refl
+own_meets : (n : Origin) (i : ℕ) (b : Bool) (packet : PacketModel) (f : Header) (content : List ℕ) (c : Connection) (k : Known) → slice_get k.connections i ≡ Some c → AllKeep c.number b k.connections None
+    → (scene_in b c k).own.track ≡ None → Met c.number b k.text (after_in n i b packet f content c k) (item_events (heading_at n c.number b) f content None) (item_field f)
+own_meets n i b packet f content c k there all none = by_system (is_system f) refl
   where
-    by_system : (p : Bool) → is_system f ≡ p → Met i b k.text (after_in n i b packet f content (Some c) k) (item_events (heading_at n i b) f content None) (item_field f)
-    by_system true e = inl (own_waits n i b packet f content c k there none e)
+    by_system : (p : Bool) → is_system f ≡ p → Met c.number b k.text (after_in n i b packet f content c k) (item_events (heading_at n c.number b) f content None) (item_field f)
+    by_system true e = inl (own_waits n i b packet f content c k all none e)
     by_system false e = inr (own_starts n i b packet f content c k there none e)
 
 -- a packet of the flow behind
@@ -163,200 +172,317 @@ acknowledge_same : (h : Heading) (field : ℕ) (s : Scene) → s.other.track ≡
 unfolding after_acknowledge
 acknowledge_same h field s none = ap (λ o. advance_other h (acknowledged_track o field) s) none
 
-behind_waits : (n : Origin) (i : ℕ) (q : Bool) (packet : PacketModel) (f : Header) (content : List ℕ) (c : Connection) (k : Known) → slice_get k.connections i ≡ Some c → (scene_in q c k).other.track ≡ None
-    → Awaits i (not q) k.text (after_in n i q packet f content (Some c) k) [] None
-behind_waits n i q packet f content c k there none =
-    let h = heading_at n i q in
+behind_waits : (n : Origin) (i : ℕ) (q : Bool) (packet : PacketModel) (f : Header) (content : List ℕ) (c : Connection) (k : Known) → AllKeep c.number (not q) k.connections None → (scene_in q c k).other.track ≡ None
+    → Awaits c.number (not q) k.text (after_in n i q packet f content c k) [] None
+behind_waits n i q packet f content c k all none =
+    let m = c.number in
+    let h = heading_at n m q in
     let s = scene_in q c k in
-    let known = after_acknowledge h f.acknowledge s in
     let new = after_packet h packet f content s in
-    let same : known ≡ s = acknowledge_same h f.acknowledge s none in
-    let P = flow_at i (not q) in record {
-      none = track_behind i q c new k.connections there ∙ packet_other h packet f content s ∙ ap (λ (x : Scene). x.other.track) same ∙ none;
+    let same : after_acknowledge h f.acknowledge s ≡ s = acknowledge_same h f.acknowledge s none in
+    let P = flow_at m (not q) in record {
+      none = keep_set m (not q) k.connections i (with_scene q new (with_closing q (closing_with q f c) c)) None all
+          (λ is. track_behind q (closing_with q f c) c new ∙ packet_other h packet f content s ∙ ap (λ (x : Scene). x.other.track) same ∙ none);
       nothing = refl;
       later = refl;
-      parts = packet_parts n i q packet f content s;
-      text = packet_text n i q packet f content s ∙ ap (λ z. z ++ parts_text (packet_parts n i q packet f content s)) (scene_text q c k);
-      own = two_of (text_in P (told n P (acknowledged_said n i q f s))) (text_in P (told n (flow_at i q) (packet_said n i q packet f content s))) [] []
-          (own_text n i (not q) (acknowledged_said n i q f s) ∙ sym (acknowledged_text n i q f s) ∙ ap (λ (x : Scene). drop (length s.text) x.text) same ∙ drop_all s.text)
-          (behind_text n i q (packet_said n i q packet f content s));
+      parts = packet_parts n m q packet f content s;
+      text = in_text n i q packet f content c k;
+      own = two_of (text_in P (told n P (acknowledged_said n m q f s))) (text_in P (told n (flow_at m q) (packet_said n m q packet f content s))) [] []
+          (own_text n m (not q) (acknowledged_said n m q f s) ∙ sym (acknowledged_text n m q f s) ∙ ap (λ (x : Scene). drop (length s.text) x.text) same ∙ drop_all s.text)
+          (behind_text n m q (packet_said n m q packet f content s));
     }
 
 abbrev near_field : Bool → Bool → Header → Option ℕ
 near_field b q f = cond (is_same b q) (item_field f) None
 
-near_meets : (n : Origin) (i : ℕ) (b q : Bool) (packet : PacketModel) (f : Header) (content : List ℕ) (c : Connection) (k : Known) → slice_get k.connections i ≡ Some c → (scene_in b c k).own.track ≡ None
-    → Met i b k.text (after_in n i q packet f content (Some c) k) (near_events n i b q f content None) (near_field b q f)
-near_meets n i true true packet f content c k there none = own_meets n i true packet f content c k there none
-near_meets n i false false packet f content c k there none = own_meets n i false packet f content c k there none
-near_meets n i true false packet f content c k there none = inl (behind_waits n i false packet f content c k there none)
-near_meets n i false true packet f content c k there none = inl (behind_waits n i true packet f content c k there none)
+near_meets : (n : Origin) (i : ℕ) (b q : Bool) (packet : PacketModel) (f : Header) (content : List ℕ) (c : Connection) (k : Known) → slice_get k.connections i ≡ Some c → AllKeep c.number b k.connections None
+    → (scene_in b c k).own.track ≡ None → Met c.number b k.text (after_in n i q packet f content c k) (near_events n c.number b q f content None) (near_field b q f)
+near_meets n i true true packet f content c k there all none = own_meets n i true packet f content c k there all none
+near_meets n i false false packet f content c k there all none = own_meets n i false packet f content c k there all none
+near_meets n i true false packet f content c k there all none = inl (behind_waits n i false packet f content c k all none)
+near_meets n i false true packet f content c k there all none = inl (behind_waits n i true packet f content c k all none)
 
-far_waits : (n : Origin) (i j : ℕ) (b q : Bool) (packet : PacketModel) (f : Header) (content : List ℕ) (c : Connection) (k : Known) → (i == j) ≡ false → track_in (flow_at i b) k.connections ≡ None
-    → Awaits i b k.text (after_in n j q packet f content (Some c) k) [] None
-far_waits n i j b q packet f content c k far none =
-    let s = scene_in q c k in record {
-      none = ap (track_at b) (get_set k.connections i j (with_scene q (after_packet (heading_at n j q) packet f content s) c) (number_tells i j far)) ∙ none;
+far_waits : (n : Origin) (m i : ℕ) (b q : Bool) (packet : PacketModel) (f : Header) (content : List ℕ) (c : Connection) (k : Known) → (m == c.number) ≡ false → (m ≡ c.number → ⊥) → AllKeep m b k.connections None
+    → Awaits m b k.text (after_in n i q packet f content c k) [] None
+far_waits n m i b q packet f content c k far other all =
+    let s = scene_in q c k in
+    let new = after_packet (heading_at n c.number q) packet f content s in record {
+      none = keep_set m b k.connections i (with_scene q new (with_closing q (closing_with q f c) c)) None all (λ is. absurd (other (sym is ∙ scene_number q new (closing_with q f c) c)));
       nothing = refl;
       later = refl;
-      parts = packet_parts n j q packet f content s;
-      text = packet_text n j q packet f content s ∙ ap (λ z. z ++ parts_text (packet_parts n j q packet f content s)) (scene_text q c k);
-      own = two_of (text_in (flow_at i b) (told n (flow_at j (not q)) (acknowledged_said n j q f s))) (text_in (flow_at i b) (told n (flow_at j q) (packet_said n j q packet f content s))) [] []
-          (far_text n i j b (not q) (acknowledged_said n j q f s) far) (far_text n i j b q (packet_said n j q packet f content s) far);
+      parts = packet_parts n c.number q packet f content s;
+      text = in_text n i q packet f content c k;
+      own = far_texts n m b q packet f content c.number s far;
     }
 
-none_there : (i : ℕ) (b : Bool) (c : Connection) (k : Known) → slice_get k.connections i ≡ Some c → track_in (flow_at i b) k.connections ≡ None → (scene_in b c k).own.track ≡ None
-none_there i true c k there none = sym (ap (track_at true) there) ∙ none
-none_there i false c k there none = sym (ap (track_at false) there) ∙ none
-
-at_meets : (n : Origin) (i j : ℕ) (b q : Bool) (packet : PacketModel) (f : Header) (content : List ℕ) (c : Connection) (k : Known) → slice_get k.connections j ≡ Some c → track_in (flow_at i b) k.connections ≡ None
-    → Met i b k.text (after_at n j q packet f content k) (events_between (flow_at i b) (flow_at j q) (heading_at n i b) f content None) (field_between (flow_at i b) (flow_at j q) f)
-unfolding after_at
-at_meets n i j b q packet f content c k there none =
-    subst (λ o. Met i b k.text (after_in n j q packet f content o k) (events_between (flow_at i b) (flow_at j q) (heading_at n i b) f content None) (field_between (flow_at i b) (flow_at j q) f)) (sym there)
-    (by_place (i == j) refl)
+at_meets : (n : Origin) (m i : ℕ) (b q : Bool) (packet : PacketModel) (f : Header) (content : List ℕ) (c : Connection) (k : Known) → slice_get k.connections i ≡ Some c → AllKeep m b k.connections None
+    → Met m b k.text (after_in n i q packet f content c k) (events_between (flow_at m b) (flow_at c.number q) (heading_at n m b) f content (side_in b c).track) (field_between (flow_at m b) (flow_at c.number q) f)
+at_meets n m i b q packet f content c k there all = by_number (m == c.number) refl
   where
-    at_own : (m : ℕ) → i ≡ m → slice_get k.connections m ≡ Some c → Met i b k.text (after_in n m q packet f content (Some c) k) (near_events n i b q f content None) (near_field b q f)
-    at_own m same is =
-        subst (λ x. Met i b k.text (after_in n x q packet f content (Some c) k) (near_events n i b q f content None) (near_field b q f)) same
-        (let here : slice_get k.connections i ≡ Some c = ap (slice_get k.connections) same ∙ is in near_meets n i b q packet f content c k here (none_there i b c k here none))
-
-    by_place : (p : Bool) → (i == j) ≡ p
-        → Met i b k.text (after_in n j q packet f content (Some c) k) (cond p (near_events n i b q f content None) []) (cond p (near_field b q f) None)
-    by_place true e = at_own j (equal_tells i j e) there
-    by_place false e = inl (far_waits n i j b q packet f content c k e none)
+    by_number : (p : Bool) → (m == c.number) ≡ p
+        → Met m b k.text (after_in n i q packet f content c k) (cond p (near_events n m b q f content (side_in b c).track) []) (cond p (near_field b q f) None)
+    by_number true e =
+        let same : m ≡ c.number = equal_tells m c.number e in
+        let none : (side_in b c).track ≡ None = all i c there (sym same) in
+        subst (λ o. Met m b k.text (after_in n i q packet f content c k) (near_events n m b q f content o) (near_field b q f)) (sym none)
+        (subst (λ g. Met g b k.text (after_in n i q packet f content c k) (near_events n g b q f content None) (near_field b q f)) (sym same)
+        (near_meets n i b q packet f content c k there (subst (λ g. AllKeep g b k.connections None) same all) (side_track b c k ∙ none)))
+    by_number false e = inl (far_waits n m i b q packet f content c k e (number_tells m c.number e) all)
 
 -- ---- where its connection stands
 
-none_more : (b : Bool) (cs : List Connection) (flow : Flow) (i : ℕ) → track_at b (slice_get cs i) ≡ None → track_at b (slice_get (cs ++ new_connection flow ∷ []) i) ≡ None
-none_more true [] flow zero e = refl
-none_more false [] flow zero e = refl
-none_more b [] flow (suc i) e = refl
-none_more b (c ∷ cs) flow zero e = e
-none_more b (c ∷ cs) flow (suc i) e = none_more b cs flow i e
+fresh_meets : IsPlain → (n : Origin) (m i : ℕ) (b : Bool) (flow : Flow) (packet : PacketModel) (f : Header) (content : List ℕ) (number : ℕ) (k : Known) → slice_get k.connections i ≡ Some (new_connection number flow) → AllKeep m b k.connections None
+    → Met m b k.text (after_at n i flow packet f content k) (events_between (flow_at m b) (flow_at number false) (heading_at n m b) f content None) (field_between (flow_at m b) (flow_at number false) f)
+fresh_meets plain_places n m i b flow packet f content number k there all =
+    let c = new_connection number flow in
+    subst (λ k'. Met m b k.text k' (events_between (flow_at m b) (flow_at number false) (heading_at n m b) f content None) (field_between (flow_at m b) (flow_at number false) f)) (sym (new_there plain_places n i flow packet f content number k there))
+    (subst (λ o. Met m b k.text (after_in n i false packet f content c k) (events_between (flow_at m b) (flow_at number false) (heading_at n m b) f content o) (field_between (flow_at m b) (flow_at number false) f)) (none_new b number flow)
+    (at_meets n m i b false packet f content c k there all))
 
 nothing_left : {A : Type 0} (p q : Bool) (x : A) → cond p (cond q x x) x ≡ x
 nothing_left true true x = refl
 nothing_left true false x = refl
 nothing_left false q x = refl
 
-new_meets : (n : Origin) (i : ℕ) (b : Bool) (packet : PacketModel) (f : Header) (content : List ℕ) (k : Known) → track_in (flow_at i b) k.connections ≡ None
-    → Met i b k.text (after_new_flow n packet f content k) (events_between (flow_at i b) (flow_at (length k.connections) false) (heading_at n i b) f content None) (field_between (flow_at i b) (flow_at (length k.connections) false) f)
-new_meets n i b packet f content k none = by_system (is_system f) refl
+new_meets : IsPlain → (n : Origin) (m : ℕ) (b : Bool) (flow : Flow) (packet : PacketModel) (f : Header) (content : List ℕ) (k : Known) → AllKeep m b k.connections None
+    → Met m b k.text (after_new_flow n flow packet f content k) (events_between (flow_at m b) (next_name k) (heading_at n m b) f content None) (field_between (flow_at m b) (next_name k) f)
+new_meets plain_places n m b flow packet f content k all = by_system (is_system f) refl
   where
-    count : ℕ
-    count = length k.connections
+    by_system : (p : Bool) → is_system f ≡ p
+        → Met m b k.text (cond p k (after_at n (length k.connections) flow packet f content (with_new flow k))) (events_between (flow_at m b) (next_name k) (heading_at n m b) f content None) (field_between (flow_at m b) (next_name k) f)
+    by_system true e =
+        let h = heading_at n m b in
+        let items = captured_event h (near (first_track f.sequence).next f.sequence) (item_with f content) in
+        inl (waits_still m b k (events_between (flow_at m b) (next_name k) h f content None) (field_between (flow_at m b) (next_name k) f) all
+        (ap (λ r. cond (m == k.count + 1) (cond (is_same b false) (cond r [] items) []) []) e ∙ nothing_left (m == k.count + 1) (is_same b false) [])
+        (ap (λ r. cond (m == k.count + 1) (cond (is_same b false) (cond r None (Some f.sequence)) None) None) e ∙ nothing_left (m == k.count + 1) (is_same b false) None))
+    by_system false e =
+        fresh_meets plain_places n m (length k.connections) b flow packet f content (k.count + 1) (with_new flow k) (get_last k.connections (new_connection (k.count + 1) flow))
+        (keep_more m b k.connections (new_connection (k.count + 1) flow) None all (λ is. none_new b (k.count + 1) flow))
 
+-- ---- a connection that begins anew
+
+ended_none : (h : Heading) (s : Scene) → s.own.track ≡ None → ended h s ≡ s
+unfolding ended
+ended_none h s none = ap (λ o. advance_own h (behind_last o) s) none
+
+unsaid : (n : Origin) (m : ℕ) (b : Bool) (c : Connection) (k : Known) → m ≡ c.number → (side_in b c).track ≡ None → texts_in (flow_at m b) (ended_parts n m (scene_in false c k)) ≡ []
+unsaid n m false c k same none =
+    let s = scene_in false c k in
+    let P = flow_at m false in
+    two_of (text_in P (told n P (first_ended_said n m s))) (text_in P (told n (flow_at m true) (second_ended_said n m s))) [] []
+    (own_text n m false (first_ended_said n m s) ∙ sym (first_ended n m s) ∙ ap (λ (x : Scene). drop (length s.text) x.text) (ended_none (heading_at n m false) s none) ∙ drop_all s.text)
+    (other_text n m false (second_ended_said n m s))
+unsaid n m true c k same none =
+    let s = scene_in false c k in
+    let s' = seen_from_other (ended (heading_at n m false) s) in
+    let P = flow_at m true in
+    two_of (text_in P (told n (flow_at m false) (first_ended_said n m s))) (text_in P (told n P (second_ended_said n m s))) [] []
+    (other_text n m true (first_ended_said n m s))
+    (own_text n m true (second_ended_said n m s) ∙ sym (second_ended n m s)
+    ∙ ap (λ (x : Scene). drop (length s'.text) x.text) (ended_none (heading_at n m true) s' (ended_other (heading_at n m false) s ∙ none)) ∙ drop_all s'.text)
+
+forget_waits : (n : Origin) (m i : ℕ) (b : Bool) (flow : Flow) (c : Connection) (k : Known) → slice_get k.connections i ≡ Some c → AllKeep m b k.connections None
+    → Awaits m b k.text (forgotten n i flow c k) (ending_events (flow_at m b) (heading_at n m b) c) None
+forget_waits n m i b flow c k there all = by_number (m == c.number) refl
+  where
+    still_none : AllKeep m b (forgotten n i flow c k).connections None
+    still_none = keep_set m b k.connections i (new_connection (k.count + 1) flow) None all (λ is. none_new b (k.count + 1) flow)
+
+    by_number : (p : Bool) → (m == c.number) ≡ p → Awaits m b k.text (forgotten n i flow c k) (cond p (acknowledged_event (heading_at n m b) (behind_last (side_in b c).track)) []) None
+    by_number true e =
+        let same : m ≡ c.number = equal_tells m c.number e in
+        let none : (side_in b c).track ≡ None = all i c there (sym same) in record {
+          none = still_none;
+          nothing = ap (λ o. acknowledged_event (heading_at n m b) (behind_last o)) none;
+          later = refl;
+          parts = forgotten_parts n c k;
+          text = ended_text n c.number (scene_in false c k);
+          own = ap (λ g. texts_in (flow_at m b) (ended_parts n g (scene_in false c k))) (sym same) ∙ unsaid n m b c k same none;
+        }
+    by_number false e = record {
+      none = still_none;
+      nothing = refl;
+      later = refl;
+      parts = forgotten_parts n c k;
+      text = ended_text n c.number (scene_in false c k);
+      own = far_ended n m b c.number (scene_in false c k) e;
+    }
+
+joined_text : (a b c : List ℕ) (xs ys : List Part) → b ≡ a ++ parts_text xs → c ≡ b ++ parts_text ys → c ≡ a ++ parts_text (xs ++ ys)
+joined_text a b c xs ys e f =
+    f ∙ ap (λ z. z ++ parts_text ys) e ∙ append_assoc a (parts_text xs) (parts_text ys) ∙ ap (λ z. a ++ z) (sym (flat_map-append part_text xs ys))
+
+met_behind : (m : ℕ) (b : Bool) (before : List ℕ) (k k' : Known) (xs ys : List Event) (field : Option ℕ) → Awaits m b before k xs None → Met m b k.text k' ys field → Met m b before k' (xs ++ ys) field
+met_behind m b before k k' xs ys field w (inl v) = inl (record {
+  none = v.none;
+  nothing = ap (λ z. z ++ ys) w.nothing ∙ v.nothing;
+  later = v.later;
+  parts = w.parts ++ v.parts;
+  text = joined_text before k.text k'.text w.parts v.parts w.text v.text;
+  own = flat_map-append (text_in (flow_at m b)) w.parts v.parts ∙ ap (λ z. z ++ texts_in (flow_at m b) v.parts) w.own ∙ v.own;
+})
+met_behind m b before k k' xs ys field w (inr v) = inr (record {
+  first = v.first;
+  has = v.has;
+  start = v.start;
+  track = v.track;
+  events = v.events;
+  are = v.are ∙ sym (ap (λ z. z ++ ys) w.nothing);
+  stands = v.stands;
+  heading = v.heading;
+  packet = v.packet;
+  header = v.header;
+  parts = w.parts ++ v.parts;
+  text = joined_text before k.text k'.text w.parts v.parts w.text v.text;
+  own = flat_map-append (text_in (flow_at m b)) w.parts v.parts ∙ ap (λ z. z ++ texts_in (flow_at m b) v.parts) w.own ∙ v.own;
+})
+
+place_meets : IsPlain → (n : Origin) (m i : ℕ) (b : Bool) (packet : PacketModel) (f : Header) (content : List ℕ) (c : Connection) (k : Known) → slice_get k.connections i ≡ Some c → AllKeep m b k.connections None
+    → Met m b k.text (after_at n i (flow_of packet f) packet f content (renewed n i (flow_of packet f) f k)) (events_there (flow_at m b) (heading_at n m b) (packet, f, content) (Some c) k)
+    (field_there (flow_at m b) (packet, f, content) (Some c) k)
+unfolding renewed after_at
+place_meets plain_places n m i b packet f content c k there all =
+    subst (λ o. Met m b k.text (after_at n i flow packet f content (renewed_there n i flow f o k)) (events_there (flow_at m b) (heading_at n m b) (packet, f, content) (Some c) k)
+    (field_there (flow_at m b) (packet, f, content) (Some c) k)) (sym there)
+    (by_anew (begins_anew f c))
+  where
     flow : Flow
     flow = flow_of packet f
 
-    by_system : (p : Bool) → is_system f ≡ p
-        → Met i b k.text (cond p k (after_at n count false packet f content (with_new flow k))) (events_between (flow_at i b) (flow_at count false) (heading_at n i b) f content None) (field_between (flow_at i b) (flow_at count false) f)
-    by_system true e =
-        let h = heading_at n i b in
-        let items = captured_event h (near (first_track f.sequence).next f.sequence) (item_with f content) in
-        inl (waits_still i b k (events_between (flow_at i b) (flow_at count false) h f content None) (field_between (flow_at i b) (flow_at count false) f) none
-        (ap (λ r. cond (i == count) (cond (is_same b false) (cond r [] items) []) []) e ∙ nothing_left (i == count) (is_same b false) [])
-        (ap (λ r. cond (i == count) (cond (is_same b false) (cond r None (Some f.sequence)) None) None) e ∙ nothing_left (i == count) (is_same b false) None))
-    by_system false e =
-        at_meets n i count b false packet f content (new_connection flow) (with_new flow k) (get_last k.connections (new_connection flow)) (none_more b k.connections flow i none)
+    by_anew : (p : Bool)
+        → Met m b k.text (after_at n i flow packet f content (cond p (forgotten n i flow c k) k))
+        (cond p (ending_events (flow_at m b) (heading_at n m b) c ++ events_between (flow_at m b) (next_name k) (heading_at n m b) f content None)
+        (events_between (flow_at m b) (name_in flow c) (heading_at n m b) f content (side_in b c).track))
+        (cond p (field_between (flow_at m b) (next_name k) f) (field_between (flow_at m b) (name_in flow c) f))
+    by_anew true =
+        let w = forget_waits n m i b flow c k there all in
+        met_behind m b k.text (forgotten n i flow c k) (after_at n i flow packet f content (forgotten n i flow c k)) (ending_events (flow_at m b) (heading_at n m b) c)
+        (events_between (flow_at m b) (next_name k) (heading_at n m b) f content None) (field_between (flow_at m b) (next_name k) f) w
+        (fresh_meets plain_places n m i b flow packet f content (k.count + 1) (forgotten n i flow c k) (get_same k.connections i c (new_connection (k.count + 1) flow) there) w.none)
+    by_anew false = there_meets
+      where
+        there_meets : Met m b k.text (after_at n i flow packet f content k) (events_between (flow_at m b) (name_in flow c) (heading_at n m b) f content (side_in b c).track) (field_between (flow_at m b) (name_in flow c) f)
+        there_meets =
+            subst (λ o. Met m b k.text (after_there n i flow packet f content o k) (events_between (flow_at m b) (name_in flow c) (heading_at n m b) f content (side_in b c).track) (field_between (flow_at m b) (name_in flow c) f)) (sym there)
+            (at_meets n m i b (is_behind_in flow c) packet f content c k there all)
 
-sequenced_meets : (n : Origin) (i : ℕ) (b : Bool) (packet : PacketModel) (f : Header) (content : List ℕ) (k : Known) → track_in (flow_at i b) k.connections ≡ None
-    → Met i b k.text (after_sequenced n packet f content k) (events_between (flow_at i b) (flow_place packet f k.connections) (heading_at n i b) f content None) (field_between (flow_at i b) (flow_place packet f k.connections) f)
+sequenced_meets : IsPlain → (n : Origin) (m : ℕ) (b : Bool) (packet : PacketModel) (f : Header) (content : List ℕ) (k : Known) → AllKeep m b k.connections None
+    → Met m b k.text (after_sequenced n packet f content k) (events_there (flow_at m b) (heading_at n m b) (packet, f, content) (connection_of packet f k.connections) k)
+    (field_there (flow_at m b) (packet, f, content) (connection_of packet f k.connections) k)
 unfolding after_sequenced
-sequenced_meets n i b packet f content k none = by_places (place_of (flow_of packet f) k.connections) (place_of (flow_behind (flow_of packet f)) k.connections) refl refl
+sequenced_meets plain_places n m b packet f content k all = by_place (place_of (flow_of packet f) k.connections) refl
   where
-    by_places : (x y : Option ℕ) → place_of (flow_of packet f) k.connections ≡ x → place_of (flow_behind (flow_of packet f)) k.connections ≡ y
-        → Met i b k.text (after_places n packet f content x y k) (events_between (flow_at i b) (place_among (length k.connections) x y) (heading_at n i b) f content None)
-        (field_between (flow_at i b) (place_among (length k.connections) x y) f)
-    by_places (Some j) y ex ey = let w = place_there (flow_of packet f) k.connections j ex in at_meets n i j b false packet f content w.0 k w.1 none
-    by_places None (Some j) ex ey = let w = place_there (flow_behind (flow_of packet f)) k.connections j ey in at_meets n i j b true packet f content w.0 k w.1 none
-    by_places None None ex ey = new_meets n i b packet f content k none
+    by_place : (o : Option ℕ) → place_of (flow_of packet f) k.connections ≡ o
+        → Met m b k.text (after_place n (flow_of packet f) packet f content o k) (events_there (flow_at m b) (heading_at n m b) (packet, f, content) (connection_at o k.connections) k)
+        (field_there (flow_at m b) (packet, f, content) (connection_at o k.connections) k)
+    by_place (Some i) at =
+        let w = place_there (flow_of packet f) k.connections i at in
+        subst (λ o. Met m b k.text (after_at n i (flow_of packet f) packet f content (renewed n i (flow_of packet f) f k)) (events_there (flow_at m b) (heading_at n m b) (packet, f, content) o k)
+        (field_there (flow_at m b) (packet, f, content) o k)) (sym w.1)
+        (place_meets plain_places n m i b packet f content w.0 k w.1 all)
+    by_place None at = new_meets plain_places n m b (flow_of packet f) packet f content k all
 
 -- ---- a line
 
-line_meets : (n i : ℕ) (b : Bool) (k : Known) → track_in (flow_at i b) k.connections ≡ None → (line : List ℕ)
-    → Met i b k.text (after_line n line k) (events_at (flow_at i b) (line_origin n) (arrival line) k.connections) (field_at (flow_at i b) (arrival line) k.connections)
-line_meets n i b k none line =
-    line_is (λ k' o. Met i b k.text k' (events_at (flow_at i b) (line_origin n) o k.connections) (field_at (flow_at i b) o k.connections)) n k
-    (λ part quiet.
-    inl (record { none = none; nothing = refl; later = refl; parts = part ∷ []; text = ap (λ z. k.text ++ z) (sym (append-nil (part_text part))); own = ap (λ z. z ++ []) (quiet (flow_at i b)) }))
-    (inl (waits_still i b k [] None none refl refl))
-    (λ x. subst (λ o. Met i b k.text (after_sequenced (line_origin n) x.0 x.1 x.2 k) (events_between (flow_at i b) (flow_place x.0 x.1 k.connections) (heading_at (line_origin n) i b) x.1 x.2 o) (field_between (flow_at i b) (flow_place x.0 x.1 k.connections) x.1)) (sym none)
-    (sequenced_meets (line_origin n) i b x.0 x.1 x.2 k none))
-    line
+module _ (programs : Programs) where
+  line_meets : IsPlain → (n m : ℕ) (b : Bool) (k : Known) → AllKeep m b k.connections None → (line : List ℕ)
+      → Met m b k.text (after_line programs n line k) (events_at (flow_at m b) (line_origin programs n) (arrival line) k) (field_at (flow_at m b) (arrival line) k)
+  line_meets plain_places n m b k all line =
+      line_is programs (λ k' o. Met m b k.text k' (events_at (flow_at m b) (line_origin programs n) o k) (field_at (flow_at m b) o k)) n k
+      (λ part quiet.
+      inl (record { none = all; nothing = refl; later = refl; parts = part ∷ []; text = ap (λ z. k.text ++ z) (sym (append-nil (part_text part))); own = ap (λ z. z ++ []) (quiet (flow_at m b)) }))
+      (inl (waits_still m b k [] None all refl refl))
+      (λ x. sequenced_meets plain_places (line_origin programs n) m b x.0 x.1 x.2 k all)
+      line
 
 -- ---- all lines
 
-pub record Began (i : ℕ) (b : Bool) (text : List ℕ) (k : Known) (happened : List Event) (first : ℕ) : Type 0 where
+there_front : (p : FlowName) (a : Arrival) (o : Option Connection) (k : Known) → field_there p a o (record k { text = [] }) ≡ field_there p a o k
+there_front p a None k = refl
+there_front p a (Some c) k = refl
+
+field_front : (p : FlowName) (o : Option Arrival) (k : Known) → field_at p o (record k { text = [] }) ≡ field_at p o k
+field_front p None k = refl
+field_front p (Some a) k = there_front p a (connection_of a.0 a.1 k.connections) k
+
+front_meets : (p : FlowName) (n : Origin) (o : Option Arrival) (k k' : Known) → Met p.connection p.is_behind [] k' (events_at p n o (record k { text = [] })) (field_at p o (record k { text = [] }))
+    → Met p.connection p.is_behind [] k' (events_at p n o k) (field_at p o k)
+front_meets p n o k k' met =
+    subst (λ x. Met p.connection p.is_behind [] k' (events_at p n o k) x) (field_front p o k)
+    (subst (λ x. Met p.connection p.is_behind [] k' x (field_at p o (record k { text = [] }))) (events_front p n o k) met)
+
+pub record Began (m : ℕ) (b : Bool) (text : List ℕ) (k : Known) (happened : List Event) (first : ℕ) : Type 0 where
   pub start : Told
   pub track : start.track ≡ first_track first
   pub events : List Event
   pub are : plain events ≡ happened
-  pub stands : IsAt i b k (after_events events start)
+  pub stands : IsOn m b k (after_events events start)
   pub heading : Heading
   pub packet : PacketModel
   pub header : Header
   pub parts : List Part
   pub is : text ≡ parts_text parts
-  pub own : texts_in (flow_at i b) parts ≡ flow_line heading packet header ++ flow_text events start
+  pub own : texts_in (flow_at m b) parts ≡ flow_line heading packet header ++ flow_text events start
 
-pub lines_met : (n i : ℕ) (b : Bool) (k : Known) → track_in (flow_at i b) k.connections ≡ None → (lines : List (List ℕ)) (first : ℕ) → first_field_from (flow_at i b) n k lines ≡ Some first
-    → Began i b (text_from n k lines) (known_from n k lines) (events_from (flow_at i b) n k lines) first
-lines_met n i b k none [] first e = (cc)
-lines_met n i b k none (line ∷ lines) first e = by_meeting (line_meets n i b (record k { text = [] }) none line) (λ quiet is. lines_met (n + 1) i b (line_taken n line k) quiet lines first is)
-  where
-    P : FlowPlace
-    P = flow_at i b
+module _ (programs : Programs) where
+  pub lines_met : IsPlain → (n m : ℕ) (b : Bool) (k : Known) → IsNumbered k.connections k.count → AllKeep m b k.connections None → (lines : List (List ℕ)) (first : ℕ) → first_field_from programs (flow_at m b) n k lines ≡ Some first
+      → Began m b (text_from programs n k lines) (known_from programs n k lines) (events_from programs (flow_at m b) n k lines) first
+  lines_met plain_places n m b k numbered none [] first e = (cc)
+  lines_met plain_places n m b k numbered none (line ∷ lines) first e =
+      by_meeting (front_meets (flow_at m b) (line_origin programs n) (arrival line) k (line_taken programs n line k) (line_meets programs plain_places n m b (record k { text = [] }) none line)) (λ quiet is. lines_met plain_places (n + 1) m b (line_taken programs n line k) (numbered_line programs n k line numbered) quiet lines first is)
+    where
+      P : FlowName
+      P = flow_at m b
 
-    next : Known
-    next = line_taken n line k
+      next : Known
+      next = line_taken programs n line k
 
-    later : Option ℕ
-    later = first_field_from P (n + 1) next lines
+      later : Option ℕ
+      later = first_field_from programs P (n + 1) next lines
 
-    here : List Event
-    here = events_at P (line_origin n) (arrival line) k.connections
+      here : List Event
+      here = events_at P (line_origin programs n) (arrival line) k
 
-    rest : List Event
-    rest = events_from P (n + 1) next lines
+      rest : List Event
+      rest = events_from programs P (n + 1) next lines
 
-    after : List ℕ
-    after = text_from (n + 1) next lines
+      after : List ℕ
+      after = text_from programs (n + 1) next lines
 
-    by_meeting : Met i b [] next here (field_at P (arrival line) k.connections) → (track_in P next.connections ≡ None → later ≡ Some first → Began i b after (known_from (n + 1) next lines) rest first)
-        → Began i b (next.text ++ after) (known_from (n + 1) next lines) (here ++ rest) first
-    by_meeting (inl w) more =
-        let v = more w.none (sym (ap (λ o. or_later o later) w.later) ∙ e) in record {
-          start = v.start;
-          track = v.track;
-          events = v.events;
-          are = v.are ∙ sym (ap (λ z. z ++ rest) w.nothing);
-          stands = v.stands;
-          heading = v.heading;
-          packet = v.packet;
-          header = v.header;
-          parts = w.parts ++ v.parts;
-          is = ap (λ z. z ++ after) w.text ∙ ap (λ z. parts_text w.parts ++ z) v.is ∙ sym (flat_map-append part_text w.parts v.parts);
-          own = flat_map-append (text_in P) w.parts v.parts ∙ ap (λ z. z ++ texts_in P v.parts) w.own ∙ v.own;
-        }
-    by_meeting (inr w) more =
-        let some : Some w.first ≡ Some first = sym (ap (λ o. or_later o later) w.has) ∙ e in
-        let same : w.first ≡ first = (cc) in
-        let v = lines_ran (n + 1) i b next (after_events w.events w.start) w.stands lines in
-        let line_text = flow_line w.heading w.packet w.header in record {
-          start = w.start;
-          track = w.track ∙ ap first_track same;
-          events = w.events ++ v.events;
-          are = flat_map-append plain_one w.events v.events ∙ ap (λ z. z ++ plain v.events) w.are ∙ ap (λ z. here ++ z) v.are;
-          stands = subst (IsAt i b (known_from (n + 1) next lines)) (sym (after_append w.events v.events w.start)) v.stands;
-          heading = w.heading;
-          packet = w.packet;
-          header = w.header;
-          parts = w.parts ++ v.parts;
-          is = ap (λ z. z ++ after) w.text ∙ ap (λ z. parts_text w.parts ++ z) v.is ∙ sym (flat_map-append part_text w.parts v.parts);
-          own = flat_map-append (text_in P) w.parts v.parts ∙ ap (λ z. z ++ texts_in P v.parts) w.own
-              ∙ ap (λ z. (line_text ++ flow_text w.events w.start) ++ z) v.own
-              ∙ append_assoc line_text (flow_text w.events w.start) (flow_text v.events (after_events w.events w.start))
-              ∙ ap (λ z. line_text ++ z) (sym (flow_append w.events v.events w.start));
-        }
+      by_meeting : Met m b [] next here (field_at P (arrival line) k) → (AllKeep m b next.connections None → later ≡ Some first → Began m b after (known_from programs (n + 1) next lines) rest first)
+          → Began m b (next.text ++ after) (known_from programs (n + 1) next lines) (here ++ rest) first
+      by_meeting (inl w) more =
+          let v = more w.none (sym (ap (λ o. or_later o later) w.later) ∙ e) in record {
+            start = v.start;
+            track = v.track;
+            events = v.events;
+            are = v.are ∙ sym (ap (λ z. z ++ rest) w.nothing);
+            stands = v.stands;
+            heading = v.heading;
+            packet = v.packet;
+            header = v.header;
+            parts = w.parts ++ v.parts;
+            is = ap (λ z. z ++ after) w.text ∙ ap (λ z. parts_text w.parts ++ z) v.is ∙ sym (flat_map-append part_text w.parts v.parts);
+            own = flat_map-append (text_in P) w.parts v.parts ∙ ap (λ z. z ++ texts_in P v.parts) w.own ∙ v.own;
+          }
+      by_meeting (inr w) more =
+          let some : Some w.first ≡ Some first = sym (ap (λ o. or_later o later) w.has) ∙ e in
+          let same : w.first ≡ first = (cc) in
+          let v = lines_ran programs plain_places (n + 1) m b next (after_events w.events w.start) (numbered_line programs n k line numbered) w.stands lines in
+          let line_text = flow_line w.heading w.packet w.header in record {
+            start = w.start;
+            track = w.track ∙ ap first_track same;
+            events = w.events ++ v.events;
+            are = flat_map-append plain_one w.events v.events ∙ ap (λ z. z ++ plain v.events) w.are ∙ ap (λ z. here ++ z) v.are;
+            stands = subst (IsOn m b (known_from programs (n + 1) next lines)) (sym (after_append w.events v.events w.start)) v.stands;
+            heading = w.heading;
+            packet = w.packet;
+            header = w.header;
+            parts = w.parts ++ v.parts;
+            is = ap (λ z. z ++ after) w.text ∙ ap (λ z. parts_text w.parts ++ z) v.is ∙ sym (flat_map-append part_text w.parts v.parts);
+            own = flat_map-append (text_in P) w.parts v.parts ∙ ap (λ z. z ++ texts_in P v.parts) w.own
+                ∙ ap (λ z. (line_text ++ flow_text w.events w.start) ++ z) v.own
+                ∙ append_assoc line_text (flow_text w.events w.start) (flow_text v.events (after_events w.events w.start))
+                ∙ ap (λ z. line_text ++ z) (sym (flow_append w.events v.events w.start));
+          }

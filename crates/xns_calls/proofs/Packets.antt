@@ -11,13 +11,13 @@ use Rattle.xns_spp.specs.declared.item.Item.{Item}
 use Rattle.xns_calls.specs.declared.heading.Heading.{Heading}
 use Rattle.xns_calls.specs.declared.track.Track.{Track}
 use Rattle.xns_calls.specs.Events.{acknowledged_event, after_events, brought_if, captured_event, own_events}
-use Rattle.xns_calls.specs.Exchange.{Scene, acknowledged, acknowledged_track, advance_other, advance_track, advanced, after_acknowledge, after_data, after_new, after_number, after_packet, after_told, begin_track, begun, new_number, of_other, seen_from_other, take_in_track, take_number, told_of, unless_repeat, up_to}
+use Rattle.xns_calls.specs.Exchange.{Scene, acknowledged, acknowledged_track, advance_other, advance_own, advance_track, advanced, after_acknowledge, after_data, after_new, after_number, after_packet, after_told, begin_track, begun, behind_last, ended, new_number, of_other, seen_from_other, take_in_track, take_number, told_of, unless_repeat, up_to}
 use Rattle.xns_calls.specs.Numbers.{near}
 use Rattle.xns_calls.specs.Queue.{last_number}
 use Rattle.xns_calls.proofs.Gaps.{item_event, lt_false}
 
 -- a flow that is put back as it was
-put_back : (s : Scene) (track : Track) → s.own.track ≡ Some track → after_told (told_of track s) s ≡ s
+pub put_back : (s : Scene) (track : Track) → s.own.track ≡ Some track → after_told (told_of track s) s ≡ s
 put_back s track e = ap (λ (o : Option Track). record s { own = record s.own { track = o } }) (sym e)
 
 -- ---- what the flow behind keeps of a packet
@@ -29,6 +29,15 @@ track_other h n (Some track) s = refl
 pub advanced_other : (h : Heading) (n : ℕ) (s : Scene) → (advanced h n s).other.track ≡ s.other.track
 unfolding advanced
 advanced_other h n s = track_other h n s.own.track s
+
+own_other : (h : Heading) (o : Option ℕ) (s : Scene) → (advance_own h o s).other.track ≡ s.other.track
+own_other h None s = refl
+own_other h (Some n) s = advanced_other h n s
+
+-- so is the end
+pub ended_other : (h : Heading) (s : Scene) → (ended h s).other.track ≡ s.other.track
+unfolding ended
+ended_other h s = own_other h (behind_last s.own.track) s
 
 taken_other : (h : Heading) (n : ℕ) (item : Item) (o : Option Track) (s : Scene) → (take_in_track h n item o s).other.track ≡ s.other.track
 taken_other h n item None s = refl

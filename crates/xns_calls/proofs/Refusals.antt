@@ -1,5 +1,5 @@
 -- The flag is set exactly where the text has the word `refused`.
-use Rattle.std.proofs.Common.{◌≡◌, ◌∙◌, ap, sym, refl, ℕ, zero, suc, length, ◌+◌, ◌-◌, ◌*◌, ◌/◌, ◌%◌, ◌==◌, ◌||◌, Bool, true, false, cond, List, [], ◌∷◌, ◌++◌, codes, Option, Some, None, Result, Ok, Err}
+use Rattle.std.proofs.Common.{◌≡◌, ◌∙◌, ap, sym, refl, subst, ℕ, zero, suc, length, ◌+◌, ◌-◌, ◌*◌, ◌/◌, ◌%◌, ◌==◌, ◌||◌, Bool, true, false, cond, List, [], ◌∷◌, ◌++◌, codes, Option, Some, None, Result, Ok, Err}
 use Rattle.std.proofs.Math.Bool.{or-false, or_assoc}
 use Rattle.std.specs.Prelude.{nat_lt, slice_get}
 use Rattle.hex.specs.Hex.{decode_of}
@@ -21,25 +21,29 @@ use Rattle.xns_dump.specs.Dump.Line.{digits_of}
 use Rattle.xns_dump.specs.Flows.{flow_of}
 use Rattle.xns_dump.specs.Laws.{IsLoud, IsQuiet, JoinedTextsSayRefused, OnlyRefusalsSayRefused, says_refused}
 use Rattle.xns_captures.specs.Captures.{NumberedPacket, packets_of}
+use Rattle.std.specs.Fmt.{decimal}
+use Rattle.xns_dump.specs.Layers.Courier.{callee_text}
 use Rattle.xns_calls.specs.Numbers.{most_early}
 use Rattle.xns_calls.specs.Calls.{after_body, after_bytes, after_digits, after_found, after_header, after_line, calls_text, end_count, has_refusal, has_refused, known_from, known_with_end, line_taken, nothing_known, text_from, text_with_end}
-use Rattle.xns_calls.specs.Capture.{Known, after_at, after_end, after_in, after_places, after_sequenced, ended_at, ended_flow, ended_in, flow_behind, heading_at, place_of, scene_in, with_new}
-use Rattle.xns_calls.specs.Exchange.{Scene, acknowledged, advance_other, advance_own, behind_last, ended, advance_track, advanced, after_acknowledge, after_data, after_new, after_number, after_packet, begin_track, begun, new_number, of_other, seen_from_other, take_in_track, told_of}
+use Rattle.xns_calls.specs.Anew.{begins_anew}
+use Rattle.xns_calls.specs.Capture.{Known, after_at, after_end, after_in, after_place, after_sequenced, after_there, ended_there, forgotten, heading_at, is_behind_in, place_of, renewed, renewed_there, scene_in, with_new}
+use Rattle.xns_calls.specs.Exchange.{Scene, acknowledged, advance_other, advance_own, behind_last, ended, advance_track, advanced, after_acknowledge, after_data, after_new, after_number, after_packet, begin_track, begun, both_ended, new_number, of_other, seen_from_other, take_in_track, told_of}
 use Rattle.xns_calls.specs.Reading.{Told, after_heard, brought, brought_over, is_due, item_read, passed, past, read_next, said_item, with_kept_item}
 use Rattle.xns_calls.specs.Speech.{heard_of}
-use Rattle.xns_calls.specs.Telling.{heard_text, is_fault, message_line}
-use Rattle.xns_calls.specs.Texts.{answer_end, answer_text, call_text, end_text, flow_line, heading_text, line_or_dash, missing_line, refused_line, words_end}
+use Rattle.xns_calls.specs.Naming.{Programs, named_abort, named_call, named_return}
+use Rattle.xns_calls.specs.Telling.{answer_line, call_line, call_of, heard_text, is_fault, message_line}
+use Rattle.xns_calls.specs.Texts.{answer_end, answer_front, call_end, call_front, end_text, flow_line, heading_text, line_or_dash, missing_line, refused_line, words_behind}
 use Rattle.xns_calls.specs.declared.unanswered.Calls.{Calls}
 use Rattle.xns_calls.specs.declared.connection.Connection.{Connection}
 use Rattle.xns_calls.specs.declared.early.Early.{Early}
-use Rattle.xns_calls.specs.declared.flow_place.FlowPlace.{FlowPlace}
+use Rattle.xns_dump.specs.declared.flows.flow.Flow.{Flow}
 use Rattle.xns_calls.specs.declared.heading.Heading.{Heading}
 use Rattle.xns_calls.specs.declared.heard.Heard.{Heard}
 use Rattle.xns_calls.specs.declared.heard.Heard.TheVariants as heard
 use Rattle.xns_calls.specs.declared.track.Track.{Track}
 use Rattle.xns_calls.specs.declared.origin.Origin.{Origin}
 use Rattle.xns_calls.specs.Origins.{frame_origin, line_origin}
-use Rattle.xns_calls.specs.Files.{calls_capture_text, has_file_refusal, known_behind, last_frame, packet_end_count, packet_taken, packets_known_with_end, packets_refused, packets_text_with_end, text_behind}
+use Rattle.xns_calls.specs.Files.{calls_capture_text, has_file_refusal, known_behind, last_after, last_frame, packet_end_count, packet_taken, packets_known_with_end, packets_refused, packets_text_with_end, text_behind}
 use Rattle.xns_calls.specs.declared.times.Times.{Times}
 use Rattle.xns_calls.specs.TimeTexts.{digits_text, fraction_text, from_to_text, seconds_text, time_text, took, took_since, took_text}
 use Rattle.xns_calls.specs.declared.origin.ShownTime.{ShownTime}
@@ -86,7 +90,7 @@ module _ (joined : JoinedTextsSayRefused) (only : OnlyRefusalsSayRefused) where
 
   how_long_is : (o : Option Waiting) (time : ShownTime) → IsQuiet (took o time)
   how_long_is None time = record { skips = λ ys. refl }
-  how_long_is (Some waiting) time = took_since_is waiting.origin.time time
+  how_long_is (Some waiting) time = took_since_is waiting.time time
 
   took_is : (o : Option Waiting) (time : ShownTime) → IsQuiet (took_text o time)
   unfolding took_text
@@ -110,33 +114,74 @@ module _ (joined : JoinedTextsSayRefused) (only : OnlyRefusalsSayRefused) where
   unfolding missing_line
   missing_is h a b = joined.quiet _ _ (joined.quiet _ _ (joined.quiet _ _ (heading_is h) (joined.quiet (codes " missing ") _ (record { skips = λ ys. refl }) (only.number a))) (joined.quiet (codes " to ") _ (record { skips = λ ys. refl }) (only.number (b - 1)))) (record { skips = λ ys. refl })
 
-  words_are : (name ws : List ℕ) → IsQuiet name → IsQuiet (words_end name ws)
-  unfolding words_end
-  words_are name ws h = joined.quiet _ _ (joined.quiet name _ h (only.words ws)) (record { skips = λ ys. refl })
+  words_are : (name ws : List ℕ) → IsQuiet name → IsQuiet (words_behind name ws)
+  words_are name ws h = joined.quiet name _ h (only.words ws)
 
-  end_words_are : (name ws : List ℕ) (o : Option Waiting) (time : ShownTime) → IsQuiet name → IsQuiet (answer_end name ws o time)
+  front_is : (h : Heading) (t : ℕ) → IsQuiet (call_front h t)
+  unfolding call_front
+  front_is h t = joined.quiet _ _ (heading_is h) (joined.quiet (codes " call ") _ (record { skips = λ ys. refl }) (only.number t))
+
+  plain_end_is : IsQuiet (call_end None)
+  unfolding call_end
+  plain_end_is = record { skips = λ ys. refl }
+
+  end_took_is : (o : Option Waiting) (time : ShownTime) → IsQuiet (answer_end o time None)
   unfolding answer_end
-  end_words_are name ws o time h = joined.quiet _ _ (joined.quiet _ _ (joined.quiet name _ h (only.words ws)) (took_is o time)) (record { skips = λ ys. refl })
-
-  call_is : (h : Heading) (t p v q : ℕ) → IsQuiet (call_text h t p v q)
-  unfolding call_text
-  call_is h t p v q = joined.quiet _ _ (joined.quiet _ _ (heading_is h) (joined.quiet (codes " call ") _ (record { skips = λ ys. refl }) (only.number t))) (only.callee p v q)
+  end_took_is o time = joined.quiet _ _ (joined.quiet _ _ (took_is o time) (record { skips = λ ys. refl })) (record { skips = λ ys. refl })
 
   dash_is : (o : Option Waiting) → IsQuiet (line_or_dash o)
-  dash_is (Some waiting) = only.number waiting.origin.number
+  dash_is (Some waiting) = only.number waiting.number
   dash_is None = record { skips = λ ys. refl }
 
-  answer_is : (h : Heading) (name : List ℕ) (t : ℕ) (o : Option Waiting) → IsQuiet name → IsQuiet (answer_text h name t o)
-  unfolding answer_text
+  answer_is : (h : Heading) (name : List ℕ) (t : ℕ) (o : Option Waiting) → IsQuiet name → IsQuiet (answer_front h name t o)
+  unfolding answer_front
   answer_is h name t o q = joined.quiet _ _ (joined.quiet _ _ (joined.quiet _ _ (heading_is h) (joined.quiet name _ q (only.number t))) (record { skips = λ ys. refl })) (dash_is o)
 
-  message_is : (h : Heading) (calls : Calls) (m : Message) → IsQuiet (message_line h calls m)
-  message_is h calls (Call t p v q ws) = joined.quiet _ _ (call_is h t p v q) (words_are _ ws (record { skips = λ ys. refl }))
-  message_is h calls (Reject t reason ws) =
-      joined.quiet _ _ (joined.quiet _ _ (answer_is h _ t _ (record { skips = λ ys. refl })) (joined.quiet (codes " reason ") _ (record { skips = λ ys. refl }) (only.number reason))) (end_words_are _ ws _ _ (record { skips = λ ys. refl }))
-  message_is h calls (Return t ws) = joined.quiet _ _ (answer_is h _ t _ (record { skips = λ ys. refl })) (end_words_are _ ws _ _ (record { skips = λ ys. refl }))
-  message_is h calls (Abort t error ws) =
-      joined.quiet _ _ (joined.quiet _ _ (answer_is h _ t _ (record { skips = λ ys. refl })) (joined.quiet (codes " error ") _ (record { skips = λ ys. refl }) (only.number error))) (end_words_are _ ws _ _ (record { skips = λ ys. refl }))
+  call_line_is : (h : Heading) (t : ℕ) (numbers : List ℕ) → IsQuiet numbers → IsQuiet (call_line h t numbers None)
+  call_line_is h t numbers q = joined.quiet _ _ (joined.quiet _ _ (front_is h t) q) plain_end_is
+
+  answer_line_is : (h : Heading) (name : List ℕ) (t : ℕ) (o : Option Waiting) (numbers : List ℕ) → IsQuiet name → IsQuiet numbers → IsQuiet (answer_line h name t o numbers None)
+  answer_line_is h name t o numbers n q = joined.quiet _ _ (joined.quiet _ _ (answer_is h name t o n) q) (end_took_is o h.origin.time)
+
+  -- without programs nothing is named
+  call_unnamed : (programs : Programs) → programs ≡ None → (p v q : ℕ) (ws : List ℕ) → None ≡ named_call programs p v q ws
+  call_unnamed None none p v q ws = refl
+  call_unnamed (Some x) none p v q ws = (cc)
+
+  return_unnamed : (programs : Programs) → programs ≡ None → (o : Option Waiting) (ws : List ℕ) → None ≡ named_return programs o ws
+  return_unnamed None none o ws = refl
+  return_unnamed (Some x) none o ws = (cc)
+
+  abort_unnamed : (programs : Programs) → programs ≡ None → (o : Option Waiting) (error : ℕ) (ws : List ℕ) → None ≡ named_abort programs o error ws
+  abort_unnamed None none o error ws = refl
+  abort_unnamed (Some x) none o error ws = (cc)
+
+  -- a line of the output that names nothing
+  abbrev IsPlain : Heading → Type 0
+  IsPlain h = h.origin.programs ≡ None
+
+  error_is : (kind name : List ℕ) (n : ℕ) (ws : List ℕ) → IsQuiet kind → IsQuiet name → IsQuiet (kind ++ decimal n ++ words_behind name ws)
+  error_is kind name n ws h k = joined.quiet _ _ (joined.quiet kind _ h (only.number n)) (words_are name ws k)
+
+  message_is : (h : Heading) (plain : IsPlain h) (calls : Calls) (m : Message) → IsQuiet (message_line h calls m)
+  message_is h plain calls (Call t p v q ws) =
+      let numbers = callee_text p v q ++ words_behind (codes " args ") ws in
+      subst (λ shown. IsQuiet (call_line h t numbers shown)) (call_unnamed h.origin.programs plain p v q ws)
+      (call_line_is h t numbers (joined.quiet _ _ (only.callee p v q) (words_are (codes " args ") ws (record { skips = λ ys. refl }))))
+  message_is h plain calls (Reject t reason ws) =
+      answer_line_is h (codes " reject ") t (call_of calls.asked t) _ (record { skips = λ ys. refl })
+      (error_is (codes " reason ") (codes " words ") reason ws (record { skips = λ ys. refl }) (record { skips = λ ys. refl }))
+  message_is h plain calls (Return t ws) =
+      let of = call_of calls.asked t in
+      let numbers = words_behind (codes " results ") ws in
+      subst (λ shown. IsQuiet (answer_line h (codes " return ") t of numbers shown)) (return_unnamed h.origin.programs plain of ws)
+      (answer_line_is h (codes " return ") t of numbers (record { skips = λ ys. refl }) (words_are (codes " results ") ws (record { skips = λ ys. refl })))
+  message_is h plain calls (Abort t error ws) =
+      let of = call_of calls.asked t in
+      let numbers = codes " error " ++ decimal error ++ words_behind (codes " args ") ws in
+      subst (λ shown. IsQuiet (answer_line h (codes " abort ") t of numbers shown)) (abort_unnamed h.origin.programs plain of error ws)
+      (answer_line_is h (codes " abort ") t of numbers (record { skips = λ ys. refl })
+      (error_is (codes " error ") (codes " args ") error ws (record { skips = λ ys. refl }) (record { skips = λ ys. refl })))
 
   refused_is : (h : Heading) (fault : SessionFault) → IsLoud (refused_line h fault)
   unfolding refused_line
@@ -204,54 +249,54 @@ module _ (joined : JoinedTextsSayRefused) (only : OnlyRefusalsSayRefused) where
   unfolding passed
   passed_says b h n t s = cases (SaysTold b) (nat_lt t.track.next n) (past h n t) t (says_quiet b t.text _ t.is_refused s (missing_is h t.track.next n)) s
 
-  heard_tells : (h : Heading) (calls : Calls) (x : Heard) → Tells (is_fault x) (heard_text h calls x)
+  heard_tells : (h : Heading) (plain : IsPlain h) (calls : Calls) (x : Heard) → Tells (is_fault x) (heard_text h calls x)
   unfolding Tells
-  heard_tells h calls heard.Nothing = record { skips = λ ys. refl }
-  heard_tells h calls (heard.Message m) = message_is h calls m
-  heard_tells h calls (heard.Fault fault) = refused_is h fault
+  heard_tells h plain calls heard.Nothing = record { skips = λ ys. refl }
+  heard_tells h plain calls (heard.Message m) = message_is h plain calls m
+  heard_tells h plain calls (heard.Fault fault) = refused_is h fault
 
-  said_says : (b : Bool) (h : Heading) (item : Item) (t : Told) → SaysTold b t → SaysTold b (said_item h item t)
+  said_says : (b : Bool) (h : Heading) (plain : IsPlain h) (item : Item) (t : Told) → SaysTold b t → SaysTold b (said_item h item t)
   unfolding said_item after_heard
-  said_says b h item t s = says_more b t.text _ t.is_refused _ s (heard_tells h t.calls (heard_of t.track.speech item))
+  said_says b h plain item t s = says_more b t.text _ t.is_refused _ s (heard_tells h plain t.calls (heard_of t.track.speech item))
 
-  next_says : (b : Bool) (h : Heading) (n : ℕ) (item : Item) (t : Told) → SaysTold b t → SaysTold b (read_next h n item t)
-  next_says b h n item t s =
-      let onwards : Told = record t { track = record t.track { next = n } } in cases (SaysTold b) (item.stream == 0) (said_item h item onwards) onwards (said_says b h item onwards s) s
+  next_says : (b : Bool) (h : Heading) (plain : IsPlain h) (n : ℕ) (item : Item) (t : Told) → SaysTold b t → SaysTold b (read_next h n item t)
+  next_says b h plain n item t s =
+      let onwards : Told = record t { track = record t.track { next = n } } in cases (SaysTold b) (item.stream == 0) (said_item h item onwards) onwards (said_says b h plain item onwards s) s
 
-  read_says : (b : Bool) (h : Heading) (early : Early) (t : Told) → SaysTold b t → SaysTold b (item_read h early t)
+  read_says : (b : Bool) (h : Heading) (plain : IsPlain h) (early : Early) (t : Told) → SaysTold b t → SaysTold b (item_read h early t)
   unfolding item_read
-  read_says b h early t s = next_says b h (early.number + 1) early.item (passed h early.number t) (passed_says b h early.number t s)
+  read_says b h plain early t s = next_says b h plain (early.number + 1) early.item (passed h early.number t) (passed_says b h early.number t s)
 
-  over_says : (b : Bool) (h : Heading) (n : ℕ) (es : List Early) (t : Told) → SaysTold b t → SaysTold b (brought_over h n es t)
-  over_says b h n [] t s = passed_says b h n t s
-  over_says b h n (early ∷ rest) t s =
+  over_says : (b : Bool) (h : Heading) (plain : IsPlain h) (n : ℕ) (es : List Early) (t : Told) → SaysTold b t → SaysTold b (brought_over h n es t)
+  over_says b h plain n [] t s = passed_says b h n t s
+  over_says b h plain n (early ∷ rest) t s =
       let left : Told = record t { track = record t.track { early = rest } } in
-      cases (SaysTold b) (is_due n early t) (brought_over h n rest (item_read h early left)) (passed h n t) (over_says b h n rest (item_read h early left) (read_says b h early left s)) (passed_says b h n t s)
+      cases (SaysTold b) (is_due n early t) (brought_over h n rest (item_read h early left)) (passed h n t) (over_says b h plain n rest (item_read h early left) (read_says b h plain early left s)) (passed_says b h n t s)
 
-  brought_says : (b : Bool) (h : Heading) (n : ℕ) (t : Told) → SaysTold b t → SaysTold b (brought h n t)
+  brought_says : (b : Bool) (h : Heading) (plain : IsPlain h) (n : ℕ) (t : Told) → SaysTold b t → SaysTold b (brought h n t)
   unfolding brought
-  brought_says b h n t s = over_says b h n t.track.early t s
+  brought_says b h plain n t s = over_says b h plain n t.track.early t s
 
   -- ---- a connection
 
   abbrev SaysScene : Bool → Scene → Type 0
   SaysScene b s = Says b s.text s.is_refused
 
-  track_says : (b : Bool) (h : Heading) (n : ℕ) (o : Option Track) (s : Scene) → SaysScene b s → SaysScene b (advance_track h n o s)
-  track_says b h n None s k = k
-  track_says b h n (Some track) s k = brought_says b h n (told_of track s) k
+  track_says : (b : Bool) (h : Heading) (plain : IsPlain h) (n : ℕ) (o : Option Track) (s : Scene) → SaysScene b s → SaysScene b (advance_track h n o s)
+  track_says b h plain n None s k = k
+  track_says b h plain n (Some track) s k = brought_says b h plain n (told_of track s) k
 
-  advanced_says : (b : Bool) (h : Heading) (n : ℕ) (s : Scene) → SaysScene b s → SaysScene b (advanced h n s)
+  advanced_says : (b : Bool) (h : Heading) (plain : IsPlain h) (n : ℕ) (s : Scene) → SaysScene b s → SaysScene b (advanced h n s)
   unfolding advanced
-  advanced_says b h n s k = track_says b h n s.own.track s k
+  advanced_says b h plain n s k = track_says b h plain n s.own.track s k
 
-  other_says : (b : Bool) (h : Heading) (o : Option ℕ) (s : Scene) → SaysScene b s → SaysScene b (advance_other h o s)
-  other_says b h None s k = k
-  other_says b h (Some n) s k = advanced_says b (of_other h) n (seen_from_other s) k
+  other_says : (b : Bool) (h : Heading) (plain : IsPlain h) (o : Option ℕ) (s : Scene) → SaysScene b s → SaysScene b (advance_other h o s)
+  other_says b h plain None s k = k
+  other_says b h plain (Some n) s k = advanced_says b (of_other h) plain n (seen_from_other s) k
 
-  acknowledge_says : (b : Bool) (h : Heading) (field : ℕ) (s : Scene) → SaysScene b s → SaysScene b (after_acknowledge h field s)
+  acknowledge_says : (b : Bool) (h : Heading) (plain : IsPlain h) (field : ℕ) (s : Scene) → SaysScene b s → SaysScene b (after_acknowledge h field s)
   unfolding after_acknowledge
-  acknowledge_says b h field s k = other_says b h (acknowledged s.other field) s k
+  acknowledge_says b h plain field s k = other_says b h plain (acknowledged s.other field) s k
 
   begin_says : (b : Bool) (h : Heading) (p : PacketModel) (f : Header) (o : Option Track) (s : Scene) → SaysScene b s → SaysScene b (begin_track h p f o s)
   begin_says b h p f (Some track) s k = k
@@ -261,101 +306,110 @@ module _ (joined : JoinedTextsSayRefused) (only : OnlyRefusalsSayRefused) where
   unfolding begun
   begun_says b h p f s k = begin_says b h p f s.own.track s k
 
-  taken_says : (b : Bool) (h : Heading) (n : ℕ) (item : Item) (o : Option Track) (s : Scene) → SaysScene b s → SaysScene b (take_in_track h n item o s)
-  taken_says b h n item None s k = k
-  taken_says b h n item (Some track) s k =
-      let moved = brought h (n - most_early) (told_of track s) in brought_says b h 0 (with_kept_item n item moved) (brought_says b h (n - most_early) (told_of track s) k)
+  taken_says : (b : Bool) (h : Heading) (plain : IsPlain h) (n : ℕ) (item : Item) (o : Option Track) (s : Scene) → SaysScene b s → SaysScene b (take_in_track h n item o s)
+  taken_says b h plain n item None s k = k
+  taken_says b h plain n item (Some track) s k =
+      let moved = brought h (n - most_early) (told_of track s) in brought_says b h plain 0 (with_kept_item n item moved) (brought_says b h plain (n - most_early) (told_of track s) k)
 
-  new_says : (b : Bool) (h : Heading) (n : ℕ) (item : Item) (s : Scene) → SaysScene b s → SaysScene b (after_new h n item s)
+  new_says : (b : Bool) (h : Heading) (plain : IsPlain h) (n : ℕ) (item : Item) (s : Scene) → SaysScene b s → SaysScene b (after_new h n item s)
   unfolding after_new
-  new_says b h n item s k = taken_says b h n item s.own.track s k
+  new_says b h plain n item s k = taken_says b h plain n item s.own.track s k
 
-  number_says : (b : Bool) (h : Heading) (o : Option ℕ) (item : Item) (s : Scene) → SaysScene b s → SaysScene b (after_number h o item s)
-  number_says b h None item s k = k
-  number_says b h (Some n) item s k = new_says b h n item s k
+  number_says : (b : Bool) (h : Heading) (plain : IsPlain h) (o : Option ℕ) (item : Item) (s : Scene) → SaysScene b s → SaysScene b (after_number h o item s)
+  number_says b h plain None item s k = k
+  number_says b h plain (Some n) item s k = new_says b h plain n item s k
 
-  data_says : (b : Bool) (h : Heading) (p : PacketModel) (f : Header) (content : List ℕ) (s : Scene) → SaysScene b s → SaysScene b (after_data h p f content s)
+  data_says : (b : Bool) (h : Heading) (plain : IsPlain h) (p : PacketModel) (f : Header) (content : List ℕ) (s : Scene) → SaysScene b s → SaysScene b (after_data h p f content s)
   unfolding after_data
-  data_says b h p f content s k =
-      let u = begun h p f s in number_says b h (new_number u.own.track f.sequence) (item_with f content) u (begun_says b h p f s k)
+  data_says b h plain p f content s k =
+      let u = begun h p f s in number_says b h plain (new_number u.own.track f.sequence) (item_with f content) u (begun_says b h p f s k)
 
-  packet_says : (b : Bool) (h : Heading) (p : PacketModel) (f : Header) (content : List ℕ) (s : Scene) → SaysScene b s → SaysScene b (after_packet h p f content s)
+  packet_says : (b : Bool) (h : Heading) (plain : IsPlain h) (p : PacketModel) (f : Header) (content : List ℕ) (s : Scene) → SaysScene b s → SaysScene b (after_packet h p f content s)
   unfolding after_packet
-  packet_says b h p f content s k =
+  packet_says b h plain p f content s k =
       let u = after_acknowledge h f.acknowledge s in
-      let ok = acknowledge_says b h f.acknowledge s k in cases (SaysScene b) (is_system f) u (after_data h p f content u) ok (data_says b h p f content u ok)
+      let ok = acknowledge_says b h plain f.acknowledge s k in cases (SaysScene b) (is_system f) u (after_data h p f content u) ok (data_says b h plain p f content u ok)
 
   -- ---- a line
 
   abbrev SaysKnown : Bool → Known → Type 0
   SaysKnown b k = Says b k.text k.is_refused
 
-  in_says : (b : Bool) (n : Origin) (i : ℕ) (q : Bool) (p : PacketModel) (f : Header) (content : List ℕ) (o : Option Connection) (k : Known) → SaysKnown b k → SaysKnown b (after_in n i q p f content o k)
-  in_says b n i q p f content None k s = s
-  in_says b n i true p f content (Some c) k s = packet_says b (heading_at n i true) p f content (scene_in true c k) s
-  in_says b n i false p f content (Some c) k s = packet_says b (heading_at n i false) p f content (scene_in false c k) s
+  there_says : (b : Bool) (n : Origin) (plain : n.programs ≡ None) (i : ℕ) (flow : Flow) (p : PacketModel) (f : Header) (content : List ℕ) (o : Option Connection) (k : Known) → SaysKnown b k → SaysKnown b (after_there n i flow p f content o k)
+  there_says b n plain i flow p f content None k s = s
+  there_says b n plain i flow p f content (Some c) k s = in_says (is_behind_in flow c)
+    where
+      in_says : (q : Bool) → SaysKnown b (after_in n i q p f content c k)
+      in_says true = packet_says b (heading_at n c.number true) plain p f content (scene_in true c k) s
+      in_says false = packet_says b (heading_at n c.number false) plain p f content (scene_in false c k) s
 
-  at_says : (b : Bool) (n : Origin) (i : ℕ) (q : Bool) (p : PacketModel) (f : Header) (content : List ℕ) (k : Known) → SaysKnown b k → SaysKnown b (after_at n i q p f content k)
+  at_says : (b : Bool) (n : Origin) (plain : n.programs ≡ None) (i : ℕ) (flow : Flow) (p : PacketModel) (f : Header) (content : List ℕ) (k : Known) → SaysKnown b k → SaysKnown b (after_at n i flow p f content k)
   unfolding after_at
-  at_says b n i q p f content k s = in_says b n i q p f content (slice_get k.connections i) k s
+  at_says b n plain i flow p f content k s = there_says b n plain i flow p f content (slice_get k.connections i) k s
 
-  places_say : (b : Bool) (n : Origin) (p : PacketModel) (f : Header) (content : List ℕ) (o u : Option ℕ) (k : Known) → SaysKnown b k → SaysKnown b (after_places n p f content o u k)
-  places_say b n p f content (Some i) u k s = at_says b n i false p f content k s
-  places_say b n p f content None (Some i) k s = at_says b n i true p f content k s
-  places_say b n p f content None None k s =
-      cases (SaysKnown b) (is_system f) k _ s (at_says b n _ false p f content (with_new (flow_of p f) k) s)
+  own_says : (b : Bool) (h : Heading) (plain : IsPlain h) (o : Option ℕ) (s : Scene) → SaysScene b s → SaysScene b (advance_own h o s)
+  own_says b h plain None s k = k
+  own_says b h plain (Some n) s k = advanced_says b h plain n s k
 
-  sequenced_says : (b : Bool) (n : Origin) (p : PacketModel) (f : Header) (content : List ℕ) (k : Known) → SaysKnown b k → SaysKnown b (after_sequenced n p f content k)
+  ended_says : (b : Bool) (h : Heading) (plain : IsPlain h) (s : Scene) → SaysScene b s → SaysScene b (ended h s)
+  unfolding ended
+  ended_says b h plain s k = own_says b h plain (behind_last s.own.track) s k
+
+  both_say : (b : Bool) (h : Heading) (plain : IsPlain h) (s : Scene) → SaysScene b s → SaysScene b (both_ended h s)
+  unfolding both_ended
+  both_say b h plain s k = ended_says b (of_other h) plain (seen_from_other (ended h s)) (ended_says b h plain s k)
+
+  renewed_says : (b : Bool) (n : Origin) (plain : n.programs ≡ None) (i : ℕ) (flow : Flow) (f : Header) (k : Known) → SaysKnown b k → SaysKnown b (renewed n i flow f k)
+  unfolding renewed
+  renewed_says b n plain i flow f k s = by_connection (slice_get k.connections i)
+    where
+      by_connection : (o : Option Connection) → SaysKnown b (renewed_there n i flow f o k)
+      by_connection None = s
+      by_connection (Some c) =
+          cases (SaysKnown b) (begins_anew f c) (forgotten n i flow c k) k (both_say b (heading_at n c.number false) plain (scene_in false c k) s) s
+
+  place_says : (b : Bool) (n : Origin) (plain : n.programs ≡ None) (flow : Flow) (p : PacketModel) (f : Header) (content : List ℕ) (o : Option ℕ) (k : Known) → SaysKnown b k → SaysKnown b (after_place n flow p f content o k)
+  place_says b n plain flow p f content (Some i) k s = at_says b n plain i flow p f content (renewed n i flow f k) (renewed_says b n plain i flow f k s)
+  place_says b n plain flow p f content None k s =
+      cases (SaysKnown b) (is_system f) k _ s (at_says b n plain _ flow p f content (with_new flow k) s)
+
+  sequenced_says : (b : Bool) (n : Origin) (plain : n.programs ≡ None) (p : PacketModel) (f : Header) (content : List ℕ) (k : Known) → SaysKnown b k → SaysKnown b (after_sequenced n p f content k)
   unfolding after_sequenced
-  sequenced_says b n p f content k s = places_say b n p f content (place_of (flow_of p f) k.connections) (place_of (flow_behind (flow_of p f)) k.connections) k s
+  sequenced_says b n plain p f content k s = place_says b n plain (flow_of p f) p f content (place_of (flow_of p f) k.connections) k s
 
-  header_says : (b : Bool) (n : Origin) (p : PacketModel) (r : Result (Header × List ℕ) SppFault) (k : Known) → SaysKnown b k → SaysKnown b (after_header n p r k)
-  header_says b n p (Ok found) k s = cases (SaysKnown b) (found.0.target_id == 0) k (after_sequenced n p found.0 found.1 k) s (sequenced_says b n p found.0 found.1 k s)
-  header_says b n p (Err fault) k s = says_loud b k.text _ k.is_refused s (joined.loud_behind _ _ (time_is n.time) (only.header n.number fault))
+  header_says : (b : Bool) (n : Origin) (plain : n.programs ≡ None) (p : PacketModel) (r : Result (Header × List ℕ) SppFault) (k : Known) → SaysKnown b k → SaysKnown b (after_header n p r k)
+  header_says b n plain p (Ok found) k s = cases (SaysKnown b) (found.0.target_id == 0) k (after_sequenced n p found.0 found.1 k) s (sequenced_says b n plain p found.0 found.1 k s)
+  header_says b n plain p (Err fault) k s = says_loud b k.text _ k.is_refused s (joined.loud_behind _ _ (time_is n.time) (only.header n.number fault))
 
-  body_says : (b : Bool) (n : Origin) (p : PacketModel) (k : Known) → SaysKnown b k → SaysKnown b (after_body n p k)
+  body_says : (b : Bool) (n : Origin) (plain : n.programs ≡ None) (p : PacketModel) (k : Known) → SaysKnown b k → SaysKnown b (after_body n p k)
   unfolding after_body
-  body_says b n p k s = cases (SaysKnown b) (p.kind == 5) (after_header n p (header_of p.body) k) k (header_says b n p (header_of p.body) k s) s
+  body_says b n plain p k s = cases (SaysKnown b) (p.kind == 5) (after_header n p (header_of p.body) k) k (header_says b n plain p (header_of p.body) k s) s
 
-  found_says : (b : Bool) (n : Origin) (r : Result (PacketModel × ℕ) IdpFault) (k : Known) → SaysKnown b k → SaysKnown b (after_found n r k)
-  found_says b n (Ok found) k s = body_says b n found.0 k s
-  found_says b n (Err fault) k s = says_loud b k.text _ k.is_refused s (joined.loud_behind _ _ (time_is n.time) (only.packet n.number fault))
+  found_says : (b : Bool) (n : Origin) (plain : n.programs ≡ None) (r : Result (PacketModel × ℕ) IdpFault) (k : Known) → SaysKnown b k → SaysKnown b (after_found n r k)
+  found_says b n plain (Ok found) k s = body_says b n plain found.0 k s
+  found_says b n plain (Err fault) k s = says_loud b k.text _ k.is_refused s (joined.loud_behind _ _ (time_is n.time) (only.packet n.number fault))
 
-  bytes_say : (b : Bool) (n : Origin) (bytes : List ℕ) (k : Known) → SaysKnown b k → SaysKnown b (after_bytes n bytes k)
+  bytes_say : (b : Bool) (n : Origin) (plain : n.programs ≡ None) (bytes : List ℕ) (k : Known) → SaysKnown b k → SaysKnown b (after_bytes n bytes k)
   unfolding after_bytes
-  bytes_say b n bytes k s = found_says b n (packet_of bytes) k s
+  bytes_say b n plain bytes k s = found_says b n plain (packet_of bytes) k s
 
-  digits_say : (b : Bool) (n : ℕ) (r : Result (List ℕ) FromHexError) (k : Known) → SaysKnown b k → SaysKnown b (after_digits n r k)
-  digits_say b n (Ok bytes) k s = bytes_say b (line_origin n) bytes k s
+  digits_say : (b : Bool) (n : ℕ) (r : Result (List ℕ) FromHexError) (k : Known) → SaysKnown b k → SaysKnown b (after_digits None n r k)
+  digits_say b n (Ok bytes) k s = bytes_say b (line_origin None n) refl bytes k s
   digits_say b n (Err error) k s = says_loud b k.text _ k.is_refused s (only.hex n error)
 
-  line_says : (b : Bool) (n : ℕ) (line : List ℕ) (k : Known) → SaysKnown b k → SaysKnown b (after_line n line k)
+  line_says : (b : Bool) (n : ℕ) (line : List ℕ) (k : Known) → SaysKnown b k → SaysKnown b (after_line None n line k)
   unfolding after_line
   line_says b n line k s = digits_say b n (decode_of (digits_of line)) k s
 
   -- ---- the end
 
-  own_says : (b : Bool) (h : Heading) (o : Option ℕ) (s : Scene) → SaysScene b s → SaysScene b (advance_own h o s)
-  own_says b h None s k = k
-  own_says b h (Some n) s k = advanced_says b h n s k
-
-  ended_says : (b : Bool) (h : Heading) (s : Scene) → SaysScene b s → SaysScene b (ended h s)
-  unfolding ended
-  ended_says b h s k = own_says b h (behind_last s.own.track) s k
-
-  end_in_says : (b : Bool) (n : Origin) (i : ℕ) (q : Bool) (o : Option Connection) (k : Known) → SaysKnown b k → SaysKnown b (ended_in n (record { place = i; is_behind = q }) o k)
-  end_in_says b n i q None k s = s
-  end_in_says b n i true (Some c) k s = ended_says b (heading_at n i true) (scene_in true c k) s
-  end_in_says b n i false (Some c) k s = ended_says b (heading_at n i false) (scene_in false c k) s
-
-  flow_says : (b : Bool) (n : Origin) (o : Option FlowPlace) (k : Known) → SaysKnown b k → SaysKnown b (ended_flow n o k)
-  unfolding ended_at
-  flow_says b n None k s = s
-  flow_says b n (Some flow) k s = end_in_says b n flow.place flow.is_behind (slice_get k.connections flow.place) k s
-
-  end_says : (b : Bool) (n : Origin) (part : ℕ) (k : Known) → SaysKnown b k → SaysKnown b (after_end n part k)
+  end_says : (b : Bool) (n : Origin) (plain : n.programs ≡ None) (part : ℕ) (k : Known) → SaysKnown b k → SaysKnown b (after_end n part k)
   unfolding after_end
-  end_says b n part k s = flow_says b n (slice_get k.flows part) k s
+  end_says b n plain part k s = by_connection (slice_get k.connections part)
+    where
+      by_connection : (o : Option Connection) → SaysKnown b (ended_there n part o k)
+      by_connection None = s
+      by_connection (Some c) = both_say b (heading_at n c.number false) plain (scene_in false c k) s
 
   -- ---- the whole
 
@@ -363,26 +417,30 @@ module _ (joined : JoinedTextsSayRefused) (only : OnlyRefusalsSayRefused) where
   unfolding Tells
   none_said b = record { new = false; flag_is = sym (or-false b); tells = record { skips = λ ys. refl } }
 
-  lines_say : (n : ℕ) (k : Known) (lines : List (List ℕ)) → Says k.is_refused (text_from n k lines) (known_from n k lines).is_refused
+  lines_say : (n : ℕ) (k : Known) (lines : List (List ℕ)) → Says k.is_refused (text_from None n k lines) (known_from None n k lines).is_refused
   lines_say n k [] = none_said k.is_refused
-  lines_say n k (line ∷ lines) = says_on (line_says k.is_refused n line (record k { text = [] }) (none_said k.is_refused)) (lines_say (n + 1) (line_taken n line k) lines)
+  lines_say n k (line ∷ lines) = says_on (line_says k.is_refused n line (record k { text = [] }) (none_said k.is_refused)) (lines_say (n + 1) (line_taken None n line k) lines)
 
-  ends_say : (lines : List (List ℕ)) (part : ℕ) → Says false (text_with_end lines part) (has_refused lines part)
+  ends_say : (lines : List (List ℕ)) (part : ℕ) → Says false (text_with_end None lines part) (has_refused None lines part)
   ends_say lines zero = lines_say 1 nothing_known lines
   ends_say lines (suc part) =
-      let k = known_with_end lines part in
-      says_on (ends_say lines part) (end_says k.is_refused (line_origin (length lines)) part (record k { text = [] }) (none_said k.is_refused))
+      let k = known_with_end None lines part in
+      says_on (ends_say lines part) (end_says k.is_refused (line_origin None (length lines)) refl part (record k { text = [] }) (none_said k.is_refused))
 
-  packets_say : (times : Times) (k : Known) (packets : List NumberedPacket) → Says k.is_refused (text_behind times k packets) (known_behind times k packets).is_refused
+  packets_say : (times : Times) (k : Known) (packets : List NumberedPacket) → Says k.is_refused (text_behind None times k packets) (known_behind None times k packets).is_refused
   packets_say times k [] = none_said k.is_refused
   packets_say times k (packet ∷ packets) =
-      says_on (bytes_say k.is_refused (frame_origin times packet.0) packet.1 (record k { text = [] }) (none_said k.is_refused)) (packets_say times (packet_taken times packet k) packets)
+      says_on (bytes_say k.is_refused (frame_origin None times packet.0) refl packet.1 (record k { text = [] }) (none_said k.is_refused)) (packets_say times (packet_taken None times packet k) packets)
 
-  file_ends_say : (times : Times) (packets : List NumberedPacket) (part : ℕ) → Says false (packets_text_with_end times packets part) (packets_refused times packets part)
+  last_plain : (times : Times) (n : Origin) (packets : List NumberedPacket) → n.programs ≡ None → (last_after None times n packets).programs ≡ None
+  last_plain times n [] plain = plain
+  last_plain times n (packet ∷ packets) plain = last_plain times (frame_origin None times packet.0) packets refl
+
+  file_ends_say : (times : Times) (packets : List NumberedPacket) (part : ℕ) → Says false (packets_text_with_end None times packets part) (packets_refused None times packets part)
   file_ends_say times packets zero = packets_say times nothing_known packets
   file_ends_say times packets (suc part) =
-      let k = packets_known_with_end times packets part in
-      says_on (file_ends_say times packets part) (end_says k.is_refused (last_frame times packets) part (record k { text = [] }) (none_said k.is_refused))
+      let k = packets_known_with_end None times packets part in
+      says_on (file_ends_say times packets part) (end_says k.is_refused (last_frame None times packets) (last_plain times (line_origin None 0) packets refl) part (record k { text = [] }) (none_said k.is_refused))
 
   tells_is : (c : Bool) (xs : List ℕ) → Tells c xs → says_refused xs ≡ c
   unfolding Tells
@@ -392,8 +450,8 @@ module _ (joined : JoinedTextsSayRefused) (only : OnlyRefusalsSayRefused) where
   says_it : {xs : List ℕ} {flag : Bool} → Says false xs flag → says_refused xs ≡ flag
   says_it {xs} s = tells_is s.new xs s.tells ∙ sym s.flag_is
 
-  pub text_says : (input : List ℕ) → says_refused (calls_text input) ≡ has_refusal input
-  text_says input = says_it (ends_say (lines_of input) (end_count (lines_of input)))
+  pub text_says : (input : List ℕ) → says_refused (calls_text None input) ≡ has_refusal None input
+  text_says input = says_it (ends_say (lines_of input) (end_count None (lines_of input)))
 
-  pub capture_says : (times : Times) (file : List ℕ) → says_refused (calls_capture_text times file) ≡ has_file_refusal times file
-  capture_says times file = says_it (file_ends_say times (packets_of file) (packet_end_count times (packets_of file)))
+  pub capture_says : (times : Times) (file : List ℕ) → says_refused (calls_capture_text None times file) ≡ has_file_refusal None times file
+  capture_says times file = says_it (file_ends_say times (packets_of file) (packet_end_count None times (packets_of file)))

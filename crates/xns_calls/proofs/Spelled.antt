@@ -4,62 +4,64 @@ use Rattle.hex.specs.Hex.{decode_of}
 use Rattle.xns_captures.specs.Captures.{NumberedPacket}
 use Rattle.xns_dump.specs.Dump.Capture.{SpellFrom}
 use Rattle.xns_dump.specs.Dump.Line.{digits_of}
+use Rattle.xns_calls.specs.Naming.{Programs}
 use Rattle.xns_calls.specs.Calls.{end_count, has_refused, known_from, known_of, known_with_end, line_taken, nothing_known, text_from, text_with_end, after_line}
 use Rattle.xns_calls.specs.Capture.{Known, after_end}
 use Rattle.xns_calls.specs.Files.{known_behind, last_after, last_frame, packet_end_count, packet_taken, packets_known, packets_known_with_end, packets_refused, packets_text_with_end, text_behind}
 use Rattle.xns_calls.specs.Origins.{line_origin}
 use Rattle.xns_calls.specs.declared.times.Times.TheVariants.{Hidden}
 
--- a line does what the packet does that it spells
-taken_same : (n : ℕ) (line : List ℕ) (packet : NumberedPacket) (k : Known) → packet.0.number ≡ n → decode_of (digits_of line) ≡ Ok packet.1 → packet_taken Hidden packet k ≡ line_taken n line k
-unfolding after_line
-taken_same n line packet k number e = rw (number, e) refl
+module _ (programs : Programs) where
+  -- a line does what the packet does that it spells
+  taken_same : (n : ℕ) (line : List ℕ) (packet : NumberedPacket) (k : Known) → packet.0.number ≡ n → decode_of (digits_of line) ≡ Ok packet.1 → packet_taken programs Hidden packet k ≡ line_taken programs n line k
+  unfolding after_line
+  taken_same n line packet k number e = rw (number, e) refl
 
-known_same : (n : ℕ) (k : Known) (lines : List (List ℕ)) (packets : List NumberedPacket) → SpellFrom n lines packets → known_behind Hidden k packets ≡ known_from n k lines
-known_same n k [] [] h = refl
-known_same n k [] (packet ∷ packets) h = absurd h
-known_same n k (line ∷ lines) [] h = absurd h
-known_same n k (line ∷ lines) (packet ∷ packets) h =
-    ap (λ known. known_behind Hidden known packets) (taken_same n line packet k h.0 h.1) ∙ known_same (n + 1) (line_taken n line k) lines packets h.2
+  known_same : (n : ℕ) (k : Known) (lines : List (List ℕ)) (packets : List NumberedPacket) → SpellFrom n lines packets → known_behind programs Hidden k packets ≡ known_from programs n k lines
+  known_same n k [] [] h = refl
+  known_same n k [] (packet ∷ packets) h = absurd h
+  known_same n k (line ∷ lines) [] h = absurd h
+  known_same n k (line ∷ lines) (packet ∷ packets) h =
+      ap (λ known. known_behind programs Hidden known packets) (taken_same n line packet k h.0 h.1) ∙ known_same (n + 1) (line_taken programs n line k) lines packets h.2
 
-text_same : (n : ℕ) (k : Known) (lines : List (List ℕ)) (packets : List NumberedPacket) → SpellFrom n lines packets → text_behind Hidden k packets ≡ text_from n k lines
-text_same n k [] [] h = refl
-text_same n k [] (packet ∷ packets) h = absurd h
-text_same n k (line ∷ lines) [] h = absurd h
-text_same n k (line ∷ lines) (packet ∷ packets) h =
-    ap (λ (known : Known). known.text ++ text_behind Hidden known packets) (taken_same n line packet k h.0 h.1)
-    ∙ ap (λ rest. (line_taken n line k).text ++ rest) (text_same (n + 1) (line_taken n line k) lines packets h.2)
+  text_same : (n : ℕ) (k : Known) (lines : List (List ℕ)) (packets : List NumberedPacket) → SpellFrom n lines packets → text_behind programs Hidden k packets ≡ text_from programs n k lines
+  text_same n k [] [] h = refl
+  text_same n k [] (packet ∷ packets) h = absurd h
+  text_same n k (line ∷ lines) [] h = absurd h
+  text_same n k (line ∷ lines) (packet ∷ packets) h =
+      ap (λ (known : Known). known.text ++ text_behind programs Hidden known packets) (taken_same n line packet k h.0 h.1)
+      ∙ ap (λ rest. (line_taken programs n line k).text ++ rest) (text_same (n + 1) (line_taken programs n line k) lines packets h.2)
 
--- the last packet has the number of the last line
-last_same : (n : ℕ) (lines : List (List ℕ)) (packets : List NumberedPacket) → SpellFrom (n + 1) lines packets → last_after Hidden (line_origin n) packets ≡ line_origin (n + length lines)
-last_same n [] [] h = ap line_origin (let e : n ≡ n + 0 = omega arith in e)
-last_same n [] (packet ∷ packets) h = absurd h
-last_same n (line ∷ lines) [] h = absurd h
-last_same n (line ∷ lines) (packet ∷ packets) h =
-    ap (λ m. last_after Hidden (line_origin m) packets) h.0 ∙ last_same (n + 1) lines packets h.2
-    ∙ ap line_origin (let e : (n + 1) + length lines ≡ n + length (line ∷ lines) = omega arith in e)
+  -- the last packet has the number of the last line
+  last_same : (n : ℕ) (lines : List (List ℕ)) (packets : List NumberedPacket) → SpellFrom (n + 1) lines packets → last_after programs Hidden (line_origin programs n) packets ≡ line_origin programs (n + length lines)
+  last_same n [] [] h = ap (line_origin programs) (let e : n ≡ n + 0 = omega arith in e)
+  last_same n [] (packet ∷ packets) h = absurd h
+  last_same n (line ∷ lines) [] h = absurd h
+  last_same n (line ∷ lines) (packet ∷ packets) h =
+      ap (λ m. last_after programs Hidden (line_origin programs m) packets) h.0 ∙ last_same (n + 1) lines packets h.2
+      ∙ ap (line_origin programs) (let e : (n + 1) + length lines ≡ n + length (line ∷ lines) = omega arith in e)
 
-module _ (lines : List (List ℕ)) (packets : List NumberedPacket) (h : SpellFrom 1 lines packets) where
-  known_all : packets_known Hidden packets ≡ known_of lines
-  known_all = known_same 1 nothing_known lines packets h
+  module _ (lines : List (List ℕ)) (packets : List NumberedPacket) (h : SpellFrom 1 lines packets) where
+    known_all : packets_known programs Hidden packets ≡ known_of programs lines
+    known_all = known_same 1 nothing_known lines packets h
 
-  last_all : last_frame Hidden packets ≡ line_origin (length lines)
-  last_all = last_same 0 lines packets h ∙ ap line_origin (let e : 0 + length lines ≡ length lines = omega arith in e)
+    last_all : last_frame programs Hidden packets ≡ line_origin programs (length lines)
+    last_all = last_same 0 lines packets h ∙ ap (line_origin programs) (let e : 0 + length lines ≡ length lines = omega arith in e)
 
-  known_end : (part : ℕ) → packets_known_with_end Hidden packets part ≡ known_with_end lines part
-  known_end zero = known_all
-  known_end (suc part) =
-      ap₂ (λ n (k : Known). after_end n part (record k { text = [] })) last_all (known_end part)
+    known_end : (part : ℕ) → packets_known_with_end programs Hidden packets part ≡ known_with_end programs lines part
+    known_end zero = known_all
+    known_end (suc part) =
+        ap₂ (λ n (k : Known). after_end n part (record k { text = [] })) last_all (known_end part)
 
-  text_end : (part : ℕ) → packets_text_with_end Hidden packets part ≡ text_with_end lines part
-  text_end zero = text_same 1 nothing_known lines packets h
-  text_end (suc part) = ap₂ (λ text (k : Known). text ++ k.text) (text_end part) (known_end (suc part))
+    text_end : (part : ℕ) → packets_text_with_end programs Hidden packets part ≡ text_with_end programs lines part
+    text_end zero = text_same 1 nothing_known lines packets h
+    text_end (suc part) = ap₂ (λ text (k : Known). text ++ k.text) (text_end part) (known_end (suc part))
 
-  ends : packet_end_count Hidden packets ≡ end_count lines
-  ends = ap (λ (k : Known). length k.flows) known_all
+    ends : packet_end_count programs Hidden packets ≡ end_count programs lines
+    ends = ap (λ (k : Known). length k.connections) known_all
 
-  pub same_text : packets_text_with_end Hidden packets (packet_end_count Hidden packets) ≡ text_with_end lines (end_count lines)
-  same_text = ap (packets_text_with_end Hidden packets) ends ∙ text_end (end_count lines)
+    pub same_text : packets_text_with_end programs Hidden packets (packet_end_count programs Hidden packets) ≡ text_with_end programs lines (end_count programs lines)
+    same_text = ap (packets_text_with_end programs Hidden packets) ends ∙ text_end (end_count programs lines)
 
-  pub same_refused : packets_refused Hidden packets (packet_end_count Hidden packets) ≡ has_refused lines (end_count lines)
-  same_refused = ap (packets_refused Hidden packets) ends ∙ ap (λ (k : Known). k.is_refused) (known_end (end_count lines))
+    pub same_refused : packets_refused programs Hidden packets (packet_end_count programs Hidden packets) ≡ has_refused programs lines (end_count programs lines)
+    same_refused = ap (packets_refused programs Hidden packets) ends ∙ ap (λ (k : Known). k.is_refused) (known_end (end_count programs lines))

@@ -1,19 +1,20 @@
 -- Where a packet wants memory.
-use Rattle.std.proofs.Common.{◌≡◌, ◌∙◌, ap, sym, refl, ℕ, Bool, true, false, List, Option, Some, None, Result, Ok, Err}
+use Rattle.std.proofs.Common.{◌≡◌, ◌∙◌, ap, sym, refl, ℕ, Bool, true, false, Option, Some, None, Result, Ok, Err}
 use Rattle.std.specs.Option.{is_some}
 use Rattle.std.specs.Prelude.{OnErr, not, slice_get, ◌||◌, ◌&&◌}
 use Rattle.xns_idp.specs.Packet.{PacketModel}
 use Rattle.xns_lines.specs.declared.page.Page.{Page}
 use Rattle.xns_spp.specs.Header.{is_system}
 use Rattle.xns_spp.specs.declared.header.Header.{Header}
-use Rattle.xns_calls.specs.Capture.{Known, begins_flow, scene_in, side_in, wants_at, wants_end, wants_end_in, wants_in}
-use Rattle.xns_calls.specs.Exchange.{Scene, acknowledged, after_acknowledge, begin_track, begun, behind_last, brings_new, new_number, scene, wants_memory}
+use Rattle.xns_calls.specs.Anew.{begins_anew}
+use Rattle.xns_calls.specs.Capture.{Known, is_behind_in, scene_in, wants_at, wants_end, wants_there}
+use Rattle.xns_calls.specs.Exchange.{Scene, acknowledged, after_acknowledge, begin_track, begun, behind_last, brings_new, ended, new_number, scene, wants_memory}
 use Rattle.xns_calls.specs.declared.connection.Connection.{Connection}
-use Rattle.xns_calls.specs.declared.flow_place.FlowPlace.{FlowPlace}
+use Rattle.xns_dump.specs.declared.flows.flow.Flow.{Flow}
 use Rattle.xns_calls.specs.declared.heading.Heading.{Heading}
 use Rattle.xns_calls.specs.declared.side.Side.{Side}
 use Rattle.xns_calls.specs.declared.track.Track.{Track}
-use Rattle.xns_calls.proofs.Packets.{acknowledge_own}
+use Rattle.xns_calls.proofs.Packets.{acknowledge_own, ended_other}
 
 -- a flow that has not begun does so
 pub none_brings : (own : Side) (field : ℕ) → own.track ≡ None → brings_new own.track field ≡ true
@@ -46,23 +47,26 @@ or_right false q e = e
 pub acknowledged_wants : (f : Header) (own other : Side) (page : Page) → is_some (acknowledged other f.acknowledge) ≡ true → wants_memory f (scene own other page) ≡ true
 acknowledged_wants f own other page e = or_left (is_some (acknowledged other f.acknowledge)) (not (is_system f) && brings_new own.track f.sequence) e
 
--- a flow that begins wants memory
-pub begun_wants : (f : Header) (own other : Side) (page : Page) → begins_flow f own.track ≡ true → wants_memory f (scene own other page) ≡ true
-begun_wants f own other page e = or_right (is_some (acknowledged other f.acknowledge)) (not (is_system f) && brings_new own.track f.sequence) (by_track own.track e)
-  where
-    by_track : (o : Option Track) → begins_flow f o ≡ true → (not (is_system f) && brings_new o f.sequence) ≡ true
-    by_track None h = ap (λ p. p && true) h
-    by_track (Some track) h = (cc)
-
 -- so does one to the connection at a place
-pub at_wants : (i : ℕ) (is_behind : Bool) (f : Header) (connection : Connection) (k : Known) → slice_get k.connections i ≡ Some connection → wants_memory f (scene_in is_behind connection k) ≡ true
-    → wants_at i is_behind f k ≡ true
-at_wants i is_behind f connection k at e = ap (λ o. wants_in is_behind f o k) at ∙ e
+pub at_wants : (i : ℕ) (flow : Flow) (f : Header) (connection : Connection) (k : Known) → slice_get k.connections i ≡ Some connection
+    → wants_memory f (scene_in (is_behind_in flow connection) connection k) ≡ true → wants_at i flow f k ≡ true
+at_wants i flow f connection k at e =
+    ap (λ o. wants_there flow f o k) at ∙ or_right (begins_anew f connection) (wants_memory f (scene_in (is_behind_in flow connection) connection k)) e
 
--- so does the end of a flow that keeps items
-pub end_wants : (flow : FlowPlace) (connection : Connection) (connections : List Connection) → slice_get connections flow.place ≡ Some connection
-    → is_some (behind_last (side_in flow.is_behind connection).track) ≡ true → wants_end (Some flow) connections ≡ true
-end_wants flow connection connections at e = ap (λ o. wants_end_in flow.is_behind o) at ∙ e
+-- so does the end of a connection of which a flow keeps items
+pub end_wants : (connection : Connection) (o : Option Connection) → o ≡ Some connection
+    → (is_some (behind_last connection.first.track) || is_some (behind_last connection.second.track)) ≡ true → wants_end o ≡ true
+end_wants connection o at e = ap wants_end at ∙ e
+
+pub first_wants : (a b : Option Track) → is_some (behind_last a) ≡ true → (is_some (behind_last a) || is_some (behind_last b)) ≡ true
+first_wants a b e = or_left (is_some (behind_last a)) (is_some (behind_last b)) e
+
+-- the end of the first flow leaves what the second keeps
+pub second_wants : (h : Heading) (first second first' second' : Side) (page page' : Page) → scene first' second' page' ≡ ended h (scene first second page) → is_some (behind_last second'.track) ≡ true
+    → (is_some (behind_last first.track) || is_some (behind_last second.track)) ≡ true
+second_wants h first second first' second' page page' e wants =
+    let same : second'.track ≡ second.track = ap (λ (x : Scene). x.other.track) e ∙ ended_other h (scene first second page) in
+    or_right (is_some (behind_last first.track)) (is_some (behind_last second.track)) (ap (λ o. is_some (behind_last o)) (sym same) ∙ wants)
 
 -- what is new behind that was new before
 pub data_wants : (h : Heading) (f : Header) (own other own' other' : Side) (page page' : Page) → scene own' other' page' ≡ after_acknowledge h f.acknowledge (scene own other page) → is_system f ≡ false

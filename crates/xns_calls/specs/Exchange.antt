@@ -168,3 +168,7 @@ advance_own heading (Some number) s = advanced heading number s
 -- the flow is brought behind the last item that it keeps, as by an acknowledgement of all of them
 unfoldable pub ended : Heading → Scene → Scene
 ended heading s = advance_own heading (behind_last s.own.track) s
+
+-- both flows of a connection are, first the one that began first
+unfoldable pub both_ended : Heading → Scene → Scene
+both_ended heading s = seen_from_other (ended (of_other heading) (seen_from_other (ended heading s)))

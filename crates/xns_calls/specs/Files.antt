@@ -6,74 +6,77 @@ use Rattle.xns_lines.specs.Printing.{text_to_end}
 use Rattle.xns_captures.specs.declared.file_fault.FileFault.{FileFault}
 use Rattle.xns_calls.specs.Calls.{after_bytes, nothing_known}
 use Rattle.xns_calls.specs.Capture.{Keeps, Known, after_end}
+use Rattle.xns_calls.specs.Naming.{Programs}
 use Rattle.xns_calls.specs.Origins.{frame_origin, line_origin}
 use Rattle.xns_calls.specs.declared.origin.Origin.{Origin}
 use Rattle.xns_calls.specs.declared.printer.CallsPrinter.{CallsPrinter}
 use Rattle.xns_calls.specs.declared.times.Times.{Times}
 
 -- a packet, of which nothing is printed yet
-abbrev pub packet_taken : Times → NumberedPacket → Known → Known
-packet_taken times packet k = after_bytes (frame_origin times packet.0) packet.1 (record k { text = [] })
+abbrev pub packet_taken : Programs → Times → NumberedPacket → Known → Known
+packet_taken programs times packet k = after_bytes (frame_origin programs times packet.0) packet.1 (record k { text = [] })
 
 -- what is known behind packets
-abbrev pub known_behind : Times → Known → List NumberedPacket → Known
-known_behind times k [] = k
-known_behind times k (packet ∷ packets) = known_behind times (packet_taken times packet k) packets
+abbrev pub known_behind : Programs → Times → Known → List NumberedPacket → Known
+known_behind programs times k [] = k
+known_behind programs times k (packet ∷ packets) = known_behind programs times (packet_taken programs times packet k) packets
 
 -- the text of packets, behind those that made this known
-abbrev pub text_behind : Times → Known → List NumberedPacket → List ℕ
-text_behind times k [] = []
-text_behind times k (packet ∷ packets) = (packet_taken times packet k).text ++ text_behind times (packet_taken times packet k) packets
+abbrev pub text_behind : Programs → Times → Known → List NumberedPacket → List ℕ
+text_behind programs times k [] = []
+text_behind programs times k (packet ∷ packets) = (packet_taken programs times packet k).text ++ text_behind programs times (packet_taken programs times packet k) packets
 
-abbrev pub packets_known : Times → List NumberedPacket → Known
-packets_known times packets = known_behind times nothing_known packets
+abbrev pub packets_known : Programs → Times → List NumberedPacket → Known
+packets_known programs times packets = known_behind programs times nothing_known packets
 
-abbrev pub packets_text : Times → List NumberedPacket → List ℕ
-packets_text times packets = text_behind times nothing_known packets
+abbrev pub packets_text : Programs → Times → List NumberedPacket → List ℕ
+packets_text programs times packets = text_behind programs times nothing_known packets
 
 -- ---- the end of the file
 
 -- the frame of the last packet, or this one
-abbrev pub last_after : Times → Origin → List NumberedPacket → Origin
-last_after times n [] = n
-last_after times n (packet ∷ packets) = last_after times (frame_origin times packet.0) packets
+abbrev pub last_after : Programs → Times → Origin → List NumberedPacket → Origin
+last_after programs times n [] = n
+last_after programs times n (packet ∷ packets) = last_after programs times (frame_origin programs times packet.0) packets
 
-abbrev pub last_frame : Times → List NumberedPacket → Origin
-last_frame times packets = last_after times (line_origin 0) packets
+abbrev pub last_frame : Programs → Times → List NumberedPacket → Origin
+last_frame programs times packets = last_after programs times (line_origin programs 0) packets
 
--- what is known once so many flows, in the order in which they began, are brought behind the last item that they keep
-abbrev pub packets_known_with_end : Times → List NumberedPacket → ℕ → Known
-packets_known_with_end times packets zero = packets_known times packets
-packets_known_with_end times packets (suc part) =
-    after_end (last_frame times packets) part (record (packets_known_with_end times packets part) { text = [] })
+-- what is known once the flows of so many connections, in the order in which those of their ends first began, are brought behind the last
+-- item that they keep
+abbrev pub packets_known_with_end : Programs → Times → List NumberedPacket → ℕ → Known
+packets_known_with_end programs times packets zero = packets_known programs times packets
+packets_known_with_end programs times packets (suc part) =
+    after_end (last_frame programs times packets) part (record (packets_known_with_end programs times packets part) { text = [] })
 
 -- what is printed then; it has the number and the time of the last packet's frame
-abbrev pub packets_text_with_end : Times → List NumberedPacket → ℕ → List ℕ
-packets_text_with_end times packets zero = packets_text times packets
-packets_text_with_end times packets (suc part) = packets_text_with_end times packets part ++ (packets_known_with_end times packets (suc part)).text
+abbrev pub packets_text_with_end : Programs → Times → List NumberedPacket → ℕ → List ℕ
+packets_text_with_end programs times packets zero = packets_text programs times packets
+packets_text_with_end programs times packets (suc part) = packets_text_with_end programs times packets part ++ (packets_known_with_end programs times packets (suc part)).text
 
-abbrev pub packets_refused : Times → List NumberedPacket → ℕ → Bool
-packets_refused times packets part = (packets_known_with_end times packets part).is_refused
+abbrev pub packets_refused : Programs → Times → List NumberedPacket → ℕ → Bool
+packets_refused programs times packets part = (packets_known_with_end programs times packets part).is_refused
 
--- all flows that began are brought so
-abbrev pub packet_end_count : Times → List NumberedPacket → ℕ
-packet_end_count times packets = length (packets_known times packets).flows
+-- those of all connections are brought so
+abbrev pub packet_end_count : Programs → Times → List NumberedPacket → ℕ
+packet_end_count programs times packets = length (packets_known programs times packets).connections
 
 -- ---- the whole
 
 -- what is printed for a file
-abbrev pub calls_capture_text : Times → List ℕ → List ℕ
-calls_capture_text times file = text_to_end (packets_text_with_end times) (packet_end_count times) (packets_of file)
+abbrev pub calls_capture_text : Programs → Times → List ℕ → List ℕ
+calls_capture_text programs times file = text_to_end (packets_text_with_end programs times) (packet_end_count programs times) (packets_of file)
 
 -- whether something was refused
-abbrev pub has_file_refusal : Times → List ℕ → Bool
-has_file_refusal times file = packets_refused times (packets_of file) (packet_end_count times (packets_of file))
+abbrev pub has_file_refusal : Programs → Times → List ℕ → Bool
+has_file_refusal programs times file = packets_refused programs times (packets_of file) (packet_end_count programs times (packets_of file))
 
 -- the printer has printed these packets, and so many parts of the end
-pub record HasPrintedPackets (times : Times) (printer : CallsPrinter) (packets : List NumberedPacket) (part : ℕ) : Type 0 where
-  pub keeps : Keeps printer.capture (packets_known_with_end times packets part)
-  pub last : printer.last ≡ last_frame times packets
+pub record HasPrintedPackets (programs : Programs) (times : Times) (printer : CallsPrinter) (packets : List NumberedPacket) (part : ℕ) : Type 0 where
+  pub named : printer.programs ≡ programs
+  pub keeps : Keeps printer.capture (packets_known_with_end programs times packets part)
+  pub last : printer.last ≡ last_frame programs times packets
 
 -- after a fault the text of the packets before it is written
-abbrev pub FileStopsIn : Times → FileFault → List ℕ → Option (List ℕ) → Option (List ℕ) → Type 0
-FileStopsIn times = printing.StopsIn (packets_text_with_end times) (packet_end_count times)
+abbrev pub FileStopsIn : Programs → Times → FileFault → List ℕ → Option (List ℕ) → Option (List ℕ) → Type 0
+FileStopsIn programs times = printing.StopsIn (packets_text_with_end programs times) (packet_end_count programs times)

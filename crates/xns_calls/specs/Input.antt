@@ -1,5 +1,5 @@
 -- A flow of a whole input: what happens to it, line by line, and the parts that the text is made of.
-use Rattle.std.specs.Prelude.{◌≡◌, ℕ, ◌+◌, ◌==◌, not, Bool, true, false, if◌then◌else◌, List, [], ◌∷◌, ◌++◌, length, slice_get}
+use Rattle.std.specs.Prelude.{◌≡◌, ℕ, ◌+◌, ◌==◌, not, Bool, true, false, if◌then◌else◌, List, [], ◌∷◌, ◌++◌, slice_get}
 use Rattle.std.specs.Prelude.{Option, Some, None, Result, Ok, Err}
 use Rattle.std.specs.List.{flat_map}
 use Rattle.hex.specs.Hex.{decode_of}
@@ -19,17 +19,20 @@ use Rattle.xns_dump.specs.Flows.{flow_of}
 use Rattle.xns_dump.specs.Layers.Packets.{idp_refusal}
 use Rattle.xns_dump.specs.Layers.Sequenced.{header_refusal}
 use Rattle.xns_calls.specs.Calls.{line_taken, nothing_known}
-use Rattle.xns_calls.specs.Capture.{Known, flow_behind, heading_at, place_of, side_in}
+use Rattle.xns_calls.specs.Anew.{begins_anew}
+use Rattle.xns_calls.specs.Capture.{Known, heading_at, is_behind_in, place_of}
 use Rattle.xns_calls.specs.Events.{Event, acknowledged_event, captured_event}
-use Rattle.xns_calls.specs.Exchange.{first_track}
+use Rattle.xns_calls.specs.Exchange.{behind_last, first_track}
+use Rattle.xns_calls.specs.Naming.{Programs}
 use Rattle.xns_calls.specs.Numbers.{near}
 use Rattle.xns_calls.specs.Origins.{line_origin}
+use Rattle.xns_calls.specs.Over.{side_in}
 use Rattle.xns_calls.specs.Telling.{message_line}
 use Rattle.xns_calls.specs.Texts.{flow_line, missing_line, refused_line}
 use Rattle.xns_calls.specs.TimeTexts.{time_text}
 use Rattle.xns_calls.specs.Whole.{SaysConversation, of_courier}
 use Rattle.xns_calls.specs.declared.connection.Connection.{Connection}
-use Rattle.xns_calls.specs.declared.flow_place.FlowPlace.{FlowPlace}
+use Rattle.xns_dump.specs.declared.flows.flow.Flow.{Flow}
 use Rattle.xns_calls.specs.declared.heading.Heading.{Heading}
 use Rattle.xns_calls.specs.declared.origin.Origin.{Origin}
 use Rattle.xns_calls.specs.declared.track.Track.{Track}
@@ -57,29 +60,32 @@ in_bytes (Err error) = None
 unfoldable pub arrival : List ℕ → Option Arrival
 arrival line = in_bytes (decode_of (digits_of line))
 
--- ---- where its flow stands
+-- ---- of which flow it is
 
-abbrev pub place_among : ℕ → Option ℕ → Option ℕ → FlowPlace
-place_among count (Some i) place = record { place = i; is_behind = false }
-place_among count None (Some i) = record { place = i; is_behind = true }
-place_among count None None = record { place = count; is_behind = false }
+-- a flow as the text names it: the number of its connection, and whether it is the one that begins behind the other
+pub record FlowName : Type 0 where
+  pub connection : ℕ
+  pub is_behind : Bool
 
--- the place of a packet's flow: in the connection that began with it or with the flow behind it, or else in a new one
-abbrev pub flow_place : PacketModel → Header → List Connection → FlowPlace
-flow_place packet f connections =
-    place_among (length connections) (place_of (flow_of packet f) connections) (place_of (flow_behind (flow_of packet f)) connections)
+-- the flow that begins the next connection
+abbrev pub next_name : Known → FlowName
+next_name k = record { connection = k.count + 1; is_behind = false }
+
+-- the flow's name in its connection
+abbrev pub name_in : Flow → Connection → FlowName
+name_in flow connection = record { connection = connection.number; is_behind = is_behind_in flow connection }
+
+abbrev pub connection_at : Option ℕ → List Connection → Option Connection
+connection_at None connections = None
+connection_at (Some i) connections = slice_get connections i
+
+-- the connection that there is of a packet's flow
+abbrev pub connection_of : PacketModel → Header → List Connection → Option Connection
+connection_of packet f connections = connection_at (place_of (flow_of packet f) connections) connections
 
 abbrev pub is_same : Bool → Bool → Bool
 is_same true b = b
 is_same false b = not b
-
-abbrev pub track_at : Bool → Option Connection → Option Track
-track_at is_behind None = None
-track_at is_behind (Some connection) = (side_in is_behind connection).track
-
--- what is kept of the flow at a place, once it has begun
-abbrev pub track_in : FlowPlace → List Connection → Option Track
-track_in p connections = track_at p.is_behind (slice_get connections p.place)
 
 -- ---- what happens to a flow
 
@@ -97,46 +103,63 @@ abbrev pub acknowledge_events : Heading → Header → Option Track → List Eve
 acknowledge_events h f None = []
 acknowledge_events h f (Some track) = acknowledged_event h (near track.next f.acknowledge)
 
--- what a packet of flow q is to flow p
-abbrev pub events_between : FlowPlace → FlowPlace → Heading → Header → List ℕ → Option Track → List Event
+-- what a packet of flow q is to flow p, of which this is kept
+abbrev pub events_between : FlowName → FlowName → Heading → Header → List ℕ → Option Track → List Event
 events_between p q h f content track =
-    if p.place == q.place then (if is_same p.is_behind q.is_behind then item_events h f content track else acknowledge_events h f track)
+    if p.connection == q.connection then (if is_same p.is_behind q.is_behind then item_events h f content track else acknowledge_events h f track)
     else []
 
-abbrev pub events_at : FlowPlace → Origin → Option Arrival → List Connection → List Event
-events_at p n None connections = []
-events_at p n (Some a) connections =
-    events_between p (flow_place a.0 a.1 connections) (heading_at n p.place p.is_behind) a.1 a.2 (track_in p connections)
+-- where a connection begins anew, its flows are brought behind the last item that they keep, as by an acknowledgement of all of them
+abbrev pub ending_events : FlowName → Heading → Connection → List Event
+ending_events p h connection =
+    if p.connection == connection.number then acknowledged_event h (behind_last (side_in p.is_behind connection).track) else []
 
-abbrev pub events_from : FlowPlace → ℕ → Known → List (List ℕ) → List Event
-events_from p n k [] = []
-events_from p n k (line ∷ lines) = events_at p (line_origin n) (arrival line) k.connections ++ events_from p (n + 1) (line_taken n line k) lines
+abbrev pub events_there : FlowName → Heading → Arrival → Option Connection → Known → List Event
+events_there p h a None k = events_between p (next_name k) h a.1 a.2 None
+events_there p h a (Some connection) k =
+    if begins_anew a.1 connection then ending_events p h connection ++ events_between p (next_name k) h a.1 a.2 None
+    else events_between p (name_in (flow_of a.0 a.1) connection) h a.1 a.2 (side_in p.is_behind connection).track
+
+abbrev pub events_at : FlowName → Origin → Option Arrival → Known → List Event
+events_at p n None k = []
+events_at p n (Some a) k = events_there p (heading_at n p.connection p.is_behind) a (connection_of a.0 a.1 k.connections) k
+
+abbrev pub events_from : Programs → FlowName → ℕ → Known → List (List ℕ) → List Event
+events_from programs p n k [] = []
+events_from programs p n k (line ∷ lines) = events_at p (line_origin programs n) (arrival line) k ++ events_from programs p (n + 1) (line_taken programs n line k) lines
 
 -- what happens in all lines
-abbrev pub events_in : FlowPlace → List (List ℕ) → List Event
-events_in p lines = events_from p 1 nothing_known lines
+abbrev pub events_in : Programs → FlowName → List (List ℕ) → List Event
+events_in programs p lines = events_from programs p 1 nothing_known lines
 
 -- ---- the field of its first item
 
-abbrev pub field_between : FlowPlace → FlowPlace → Header → Option ℕ
+abbrev pub field_between : FlowName → FlowName → Header → Option ℕ
 field_between p q f =
-    if p.place == q.place then (if is_same p.is_behind q.is_behind then (if is_system f then None else Some f.sequence) else None) else None
+    if p.connection == q.connection then (if is_same p.is_behind q.is_behind then (if is_system f then None else Some f.sequence) else None)
+    else None
 
-abbrev pub field_at : FlowPlace → Option Arrival → List Connection → Option ℕ
-field_at p None connections = None
-field_at p (Some a) connections = field_between p (flow_place a.0 a.1 connections) a.1
+abbrev pub field_there : FlowName → Arrival → Option Connection → Known → Option ℕ
+field_there p a None k = field_between p (next_name k) a.1
+field_there p a (Some connection) k =
+    if begins_anew a.1 connection then field_between p (next_name k) a.1
+    else field_between p (name_in (flow_of a.0 a.1) connection) a.1
+
+abbrev pub field_at : FlowName → Option Arrival → Known → Option ℕ
+field_at p None k = None
+field_at p (Some a) k = field_there p a (connection_of a.0 a.1 k.connections) k
 
 abbrev pub or_later : Option ℕ → Option ℕ → Option ℕ
 or_later (Some field) later = Some field
 or_later None later = later
 
-abbrev pub first_field_from : FlowPlace → ℕ → Known → List (List ℕ) → Option ℕ
-first_field_from p n k [] = None
-first_field_from p n k (line ∷ lines) =
-    or_later (field_at p (arrival line) k.connections) (first_field_from p (n + 1) (line_taken n line k) lines)
+abbrev pub first_field_from : Programs → FlowName → ℕ → Known → List (List ℕ) → Option ℕ
+first_field_from programs p n k [] = None
+first_field_from programs p n k (line ∷ lines) =
+    or_later (field_at p (arrival line) k) (first_field_from programs p (n + 1) (line_taken programs n line k) lines)
 
-abbrev pub first_field : FlowPlace → List (List ℕ) → Option ℕ
-first_field p lines = first_field_from p 1 nothing_known lines
+abbrev pub first_field : Programs → FlowName → List (List ℕ) → Option ℕ
+first_field programs p lines = first_field_from programs p 1 nothing_known lines
 
 -- ---- the parts of the text
 
@@ -159,13 +182,13 @@ said_texts h said = flat_map (said_text h) said
 
 -- what is said of a flow at a line of the input, or why that line or its packet was refused
 pub data Part : Type 0 where
-  told : Origin → FlowPlace → List Said → Part
+  told : Origin → FlowName → List Said → Part
   bad_hex : ℕ → FromHexError → Part
   bad_packet : Origin → IdpFault → Part
   bad_header : Origin → SppFault → Part
 
 abbrev pub part_text : Part → List ℕ
-part_text (told n q said) = said_texts (heading_at n q.place q.is_behind) said
+part_text (told n q said) = said_texts (heading_at n q.connection q.is_behind) said
 part_text (bad_hex n error) = hex_refusal n error
 part_text (bad_packet n fault) = time_text n.time ++ idp_refusal n.number fault
 part_text (bad_header n fault) = time_text n.time ++ header_refusal n.number fault
@@ -174,18 +197,18 @@ abbrev pub parts_text : List Part → List ℕ
 parts_text parts = flat_map part_text parts
 
 -- what a part says of a flow
-abbrev pub text_in : FlowPlace → Part → List ℕ
+abbrev pub text_in : FlowName → Part → List ℕ
 text_in p (told n q said) =
-    if p.place == q.place then (if is_same p.is_behind q.is_behind then said_texts (heading_at n q.place q.is_behind) said else []) else []
+    if p.connection == q.connection then (if is_same p.is_behind q.is_behind then said_texts (heading_at n q.connection q.is_behind) said else []) else []
 text_in p (bad_hex n error) = []
 text_in p (bad_packet n fault) = []
 text_in p (bad_header n fault) = []
 
-abbrev pub texts_in : FlowPlace → List Part → List ℕ
+abbrev pub texts_in : FlowName → List Part → List ℕ
 texts_in p parts = flat_map (text_in p) parts
 
 -- the text is made of parts, of which those of the flow say that it begins, and then the conversation of its items
-pub record TellsConversation (p : FlowPlace) (items : List Item) (text : List ℕ) : Type 0 where
+pub record TellsConversation (p : FlowName) (items : List Item) (text : List ℕ) : Type 0 where
   pub parts : List Part
   pub all : text ≡ parts_text parts
   pub heading : Heading

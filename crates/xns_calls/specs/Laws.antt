@@ -1,5 +1,5 @@
 -- What the laws say: of what is heard, and of items that had not come.
-use Rattle.std.specs.Prelude.{◌≡◌, ◌≢◌, ℕ, ◌+◌, ◌%◌, ◌≤◌, ◌<◌, ◌⊎◌, List, [], ◌++◌, ◌||◌, length, map, slice_get, IfOk, codes, Some}
+use Rattle.std.specs.Prelude.{◌≡◌, ◌≢◌, ℕ, ◌+◌, ◌%◌, ◌≤◌, ◌<◌, ◌⊎◌, List, [], ◌++◌, ◌||◌, false, length, map, option_map, slice_get, IfOk, codes, None, Some}
 use Rattle.std.specs.Ordering.{is_eq}
 use Rattle.xns_idp.specs.Packet.{PacketModel}
 use Rattle.xns_spp.specs.Ends.{most_pending}
@@ -14,20 +14,22 @@ use Rattle.xns_dump.specs.Dump.Line.{has_word}
 use Rattle.xns_dump.specs.Flows.{flow_of, is_flow}
 use Rattle.xns_dump.specs.declared.flows.flow.Flow.{Flow}
 use Rattle.xns_lines.specs.Lines.{lines_of}
-use Rattle.xns_calls.specs.Calls.{calls_text, has_refusal}
+use Rattle.xns_calls.specs.Calls.{calls_text, has_refusal, known_from, known_of}
 use Rattle.xns_calls.specs.Capture.{Known, after_sequenced, flow_behind, place_of}
 use Rattle.xns_calls.specs.Events.{AreWithinReach, Event, IsAmong, acknowledged_event, after_event, after_events, after_whole_event}
 use Rattle.xns_calls.specs.Events.{after_whole_events, captured, captured_in, own_events, with_captured}
 use Rattle.xns_calls.specs.Files.{calls_capture_text, has_file_refusal}
 use Rattle.xns_calls.specs.Exchange.{Scene, after_acknowledge, after_packet, after_told, first_track, of_other, seen_from_other}
 use Rattle.xns_calls.specs.Exchange.{take_number, told_of}
-use Rattle.xns_calls.specs.Input.{TellsConversation, events_in, first_field}
+use Rattle.xns_calls.specs.Input.{FlowName, TellsConversation, events_in, first_field}
 use Rattle.xns_calls.specs.Keys.{IsFlow, connection_key, key_cmp}
 use Rattle.xns_calls.specs.Listening.{AreFaultless, heard_at_lines, message_lines, messages_heard, said_items}
+use Rattle.xns_calls.specs.Living.{IsNotAnswered, is_answered}
+use Rattle.xns_calls.specs.Naming.{Programs}
 use Rattle.xns_calls.specs.Numbers.{near}
 use Rattle.xns_calls.specs.Reading.{Told}
 use Rattle.xns_calls.specs.Whole.{IsWhole, SaysConversation, flow_text, of_courier}
-use Rattle.xns_calls.specs.declared.flow_place.FlowPlace.{FlowPlace}
+use Rattle.xns_calls.specs.declared.connection.Connection.{Connection}
 use Rattle.xns_calls.specs.declared.heading.Heading.{Heading}
 use Rattle.xns_calls.specs.declared.origin.Origin.{Origin}
 use Rattle.xns_calls.specs.declared.speech.Speech.{Speech}
@@ -48,10 +50,12 @@ pub record HeardMessagesArePrinted : Type 0 where
   pub messages : (items : List (Heading × Item)) (speech : Speech)
       → map (λ x. x.1) (heard_at_lines speech items) ≡ messages_heard speech (map (λ x. x.1) items)
 
--- the answer of `calls` is true exactly where its text has the word `refused`: of lines, and of a capture, with times or without
+-- where no programs are given, the answer of `calls` is true exactly where its text has the word `refused`: of lines, and of a capture,
+-- with times or without. A name of a program, or a string, could be that word
 pub record TheAnswerSaysRefused : Type 0 where
-  pub lines : (input : List ℕ) → has_word (codes "refused") (calls_text input) ≡ has_refusal input
-  pub capture : (times : Times) (file : List ℕ) → has_word (codes "refused") (calls_capture_text times file) ≡ has_file_refusal times file
+  pub lines : (input : List ℕ) → has_word (codes "refused") (calls_text None input) ≡ has_refusal None input
+  pub capture : (times : Times) (file : List ℕ)
+      → has_word (codes "refused") (calls_capture_text None times file) ≡ has_file_refusal None times file
 
 -- what a data packet does to its flow is the event of its item, with the number that its field stands for
 abbrev pub AnItemIsAnEvent : Type 0
@@ -111,15 +115,30 @@ WholeFlowsSayTheirConversation = (items : List Item) (events : List Event) (fiel
 -- of an input with whatever lines and flows: where each item of a flow stands in it so, its text tells of that flow that it begins and then
 -- its conversation, and nothing else up to the first fault
 abbrev pub InputsTellTheirConversations : Type 0
-InputsTellTheirConversations = (input : List ℕ) (p : FlowPlace) (items : List Item) (field : ℕ)
-    → first_field p (lines_of input) ≡ Some field → field < most_pending → IsWhole items (events_in p (lines_of input))
-    → TellsConversation p items (calls_text input)
+InputsTellTheirConversations = (programs : Programs) (input : List ℕ) (p : FlowName) (items : List Item) (field : ℕ)
+    → first_field programs p (lines_of input) ≡ Some field → field < most_pending → IsWhole items (events_in programs p (lines_of input))
+    → TellsConversation p items (calls_text programs input)
 
--- a packet to a known identifier changes no connection but that of its flow or of the flow behind it
+-- a packet to a known identifier changes no connection but that of its flow
 abbrev pub OtherConnectionsStay : Type 0
 OtherConnectionsStay = (n : Origin) (packet : PacketModel) (f : Header) (content : List ℕ) (k : Known) (i : ℕ) → i < length k.connections
-    → place_of (flow_of packet f) k.connections ≢ Some i → place_of (flow_behind (flow_of packet f)) k.connections ≢ Some i
+    → place_of (flow_of packet f) k.connections ≢ Some i
     → slice_get (after_sequenced n packet f content k).connections i ≡ slice_get k.connections i
+
+-- behind whatever lines, the connections that are kept have numbers of their own, up to the number of those that have begun
+pub record ConnectionsHaveNumbers : Type 0 where
+  pub below : (programs : Programs) (lines : List (List ℕ)) (i : ℕ) (c : Connection)
+      → slice_get (known_of programs lines).connections i ≡ Some c → c.number ≤ (known_of programs lines).count
+  pub own : (programs : Programs) (lines : List (List ℕ)) (i j : ℕ) (c d : Connection)
+      → slice_get (known_of programs lines).connections i ≡ Some c → slice_get (known_of programs lines).connections j ≡ Some d
+      → c.number ≡ d.number → i ≡ j
+
+-- a connection of which no flow has an item of datastream 255, EndReply, keeps its place and its number, whatever comes: it begins never anew
+abbrev pub LivingConnectionsAreKept : Type 0
+LivingConnectionsAreKept = (programs : Programs) (i n : ℕ) (k : Known) (connection : Connection) (lines : List (List ℕ))
+    → slice_get k.connections i ≡ Some connection
+    → is_answered connection ≡ false → IsNotAnswered programs i n k lines
+    → option_map (λ c. c.number) (slice_get (known_from programs n k lines).connections i) ≡ Some connection.number
 
 -- two flows have one key exactly where one is the other, or the flow behind it
 abbrev pub OneKeyServesBothDirections : Type 0
@@ -128,5 +147,7 @@ OneKeyServesBothDirections = (a b : Flow) → IsFlow a → IsFlow b
 
 -- a capture says what lines say that spell its packets, where no times are wanted
 pub record CapturesSayWhatLinesSay : Type 0 where
-  pub text : (input file : List ℕ) → SpellsPackets input file → calls_capture_text Hidden file ≡ calls_text input
-  pub refused : (input file : List ℕ) → SpellsPackets input file → has_file_refusal Hidden file ≡ has_refusal input
+  pub text : (programs : Programs) (input file : List ℕ) → SpellsPackets input file
+      → calls_capture_text programs Hidden file ≡ calls_text programs input
+  pub refused : (programs : Programs) (input file : List ℕ) → SpellsPackets input file
+      → has_file_refusal programs Hidden file ≡ has_refusal programs input

@@ -3,12 +3,14 @@ use Rattle.std.specs.Prelude.{ℕ, ◌==◌, Bool, true, false, if◌then◌else
 use Rattle.std.specs.Fmt.{decimal}
 use Rattle.courier_messages.specs.declared.message.Message.{Message}
 use Rattle.courier_messages.specs.declared.message.Message.TheVariants.{Call, Reject, Return, Abort}
+use Rattle.xns_dump.specs.Layers.Courier.{callee_text}
 use Rattle.xns_calls.specs.declared.unanswered.Calls.{Calls}
 use Rattle.xns_calls.specs.declared.heading.Heading.{Heading}
 use Rattle.xns_calls.specs.declared.heard.Heard.{Heard}
 use Rattle.xns_calls.specs.declared.heard.Heard.TheVariants as heard
 use Rattle.xns_calls.specs.declared.waiting.Waiting.{Waiting}
-use Rattle.xns_calls.specs.Texts.{answer_end, answer_text, call_text, refused_line, words_end}
+use Rattle.xns_calls.specs.Naming.{ShownModel, named_abort, named_call, named_or, named_return}
+use Rattle.xns_calls.specs.Texts.{answer_end, answer_front, call_end, call_front, refused_line, words_behind}
 
 abbrev pub call_if : ℕ → Waiting → Option Waiting
 call_if transaction waiting = if waiting.transaction == transaction then Some waiting else None
@@ -23,19 +25,29 @@ abbrev pub call_left : Option Waiting → ℕ → Option Waiting
 call_left None transaction = None
 call_left (Some waiting) transaction = if waiting.transaction == transaction then None else Some waiting
 
--- the line of a message
+-- an answer to the call that waits, behind what it is: what it says by name, or else by numbers
+abbrev pub answer_line : Heading → List ℕ → ℕ → Option Waiting → List ℕ → ShownModel → List ℕ
+answer_line heading name transaction of numbers shown =
+    answer_front heading name transaction of ++ named_or numbers shown ++ answer_end of heading.origin.time shown
+
+abbrev pub call_line : Heading → ℕ → List ℕ → ShownModel → List ℕ
+call_line heading transaction numbers shown = call_front heading transaction ++ named_or numbers shown ++ call_end shown
+
+-- the line of a message; a reject has no name
 abbrev pub message_line : Heading → Calls → Message → List ℕ
 message_line heading calls (Call transaction program version procedure words) =
-    call_text heading transaction program version procedure ++ words_end (codes " args ") words
+    call_line heading transaction (callee_text program version procedure ++ words_behind (codes " args ") words)
+    (named_call heading.origin.programs program version procedure words)
 message_line heading calls (Reject transaction reason words) =
-    answer_text heading (codes " reject ") transaction (call_of calls.asked transaction) ++ (codes " reason " ++ decimal reason)
-    ++ answer_end (codes " words ") words (call_of calls.asked transaction) heading.origin.time
+    answer_line heading (codes " reject ") transaction (call_of calls.asked transaction)
+    (codes " reason " ++ decimal reason ++ words_behind (codes " words ") words) None
 message_line heading calls (Return transaction words) =
-    answer_text heading (codes " return ") transaction (call_of calls.asked transaction)
-    ++ answer_end (codes " results ") words (call_of calls.asked transaction) heading.origin.time
+    answer_line heading (codes " return ") transaction (call_of calls.asked transaction) (words_behind (codes " results ") words)
+    (named_return heading.origin.programs (call_of calls.asked transaction) words)
 message_line heading calls (Abort transaction error words) =
-    answer_text heading (codes " abort ") transaction (call_of calls.asked transaction) ++ (codes " error " ++ decimal error)
-    ++ answer_end (codes " args ") words (call_of calls.asked transaction) heading.origin.time
+    answer_line heading (codes " abort ") transaction (call_of calls.asked transaction)
+    (codes " error " ++ decimal error ++ words_behind (codes " args ") words)
+    (named_abort heading.origin.programs (call_of calls.asked transaction) error words)
 
 abbrev pub after_answer : Calls → ℕ → Calls
 after_answer calls transaction = record calls { asked = call_left calls.asked transaction }
@@ -43,7 +55,14 @@ after_answer calls transaction = record calls { asked = call_left calls.asked tr
 -- a call is the flow's call without an answer, and an answer answers that of the flow behind
 abbrev pub after_message : Heading → Calls → Message → Calls
 after_message heading calls (Call transaction program version procedure words) = record calls {
-  own = Some (record { transaction = transaction; origin = heading.origin });
+  own = Some (record {
+    transaction = transaction;
+    program = program;
+    version = version;
+    procedure = procedure;
+    number = heading.origin.number;
+    time = heading.origin.time;
+  });
 }
 after_message heading calls (Reject transaction reason words) = after_answer calls transaction
 after_message heading calls (Return transaction words) = after_answer calls transaction

@@ -8,8 +8,8 @@ use Rattle.xns_idp.specs.Packet.{PacketModel}
 use Rattle.xns_idp.specs.declared.address.Address.{Address}
 use Rattle.xns_spp.specs.declared.header.Header.{Header}
 use Rattle.xns_lines.specs.Text.{hex_word, words_text}
-use Rattle.xns_dump.specs.Layers.Courier.{callee_text}
 use Rattle.xns_dump.specs.Layers.Text.{address_text}
+use Rattle.xns_calls.specs.Naming.{ShownModel, unread_text}
 use Rattle.xns_calls.specs.TimeTexts.{time_text, took_text}
 use Rattle.xns_calls.specs.declared.heading.Heading.{Heading}
 use Rattle.xns_calls.specs.declared.origin.ShownTime.{ShownTime}
@@ -39,27 +39,30 @@ unfoldable pub missing_line : Heading → ℕ → ℕ → List ℕ
 missing_line heading first behind = heading_text heading ++ (codes " missing " ++ decimal first) ++ (codes " to " ++ decimal (behind - 1))
     ++ codes "\n"
 
--- words behind what they are, at the end of a line
-unfoldable pub words_end : List ℕ → List ℕ → List ℕ
-words_end name words = name ++ words_text words ++ codes "\n"
-
--- the same, and how long a call took
-unfoldable pub answer_end : List ℕ → List ℕ → Option Waiting → ShownTime → List ℕ
-answer_end name words of time = name ++ words_text words ++ took_text of time ++ codes "\n"
+-- words behind what they are
+abbrev pub words_behind : List ℕ → List ℕ → List ℕ
+words_behind name words = name ++ words_text words
 
 -- the front of a call
-unfoldable pub call_text : Heading → ℕ → ℕ → ℕ → ℕ → List ℕ
-call_text heading transaction program version procedure = heading_text heading ++ (codes " call " ++ decimal transaction)
-    ++ callee_text program version procedure
+unfoldable pub call_front : Heading → ℕ → List ℕ
+call_front heading transaction = heading_text heading ++ (codes " call " ++ decimal transaction)
+
+-- behind what a call says: why it is not named
+unfoldable pub call_end : ShownModel → List ℕ
+call_end shown = unread_text shown ++ codes "\n"
 
 -- the number of the line or frame of a call, or a dash
 abbrev pub line_or_dash : Option Waiting → List ℕ
-line_or_dash (Some waiting) = decimal waiting.origin.number
+line_or_dash (Some waiting) = decimal waiting.number
 line_or_dash None = codes "-"
 
 -- the front of an answer
-unfoldable pub answer_text : Heading → List ℕ → ℕ → Option Waiting → List ℕ
-answer_text heading name transaction of = heading_text heading ++ (name ++ decimal transaction) ++ codes " of " ++ line_or_dash of
+unfoldable pub answer_front : Heading → List ℕ → ℕ → Option Waiting → List ℕ
+answer_front heading name transaction of = heading_text heading ++ (name ++ decimal transaction) ++ codes " of " ++ line_or_dash of
+
+-- behind what an answer says: how long its call took, and why it is not named
+unfoldable pub answer_end : Option Waiting → ShownTime → ShownModel → List ℕ
+answer_end of time shown = took_text of time ++ unread_text shown ++ codes "\n"
 
 -- why what was said is no message or no version range; no other fault comes of items of datastream 0
 unfoldable pub reason_text : SessionFault → List ℕ

@@ -36,7 +36,7 @@ took_since _ _ = codes "-"
 
 abbrev pub took : Option Waiting → ShownTime → List ℕ
 took None time = codes "-"
-took (Some waiting) time = took_since waiting.origin.time time
+took (Some waiting) time = took_since waiting.time time
 
 -- behind an answer: how long its call took, or a dash
 unfoldable pub took_text : Option Waiting → ShownTime → List ℕ

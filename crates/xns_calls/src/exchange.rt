@@ -30,13 +30,13 @@ use xns_spp::{Header, MOST_PENDING};
 fn advance(
     scratch: &mut Scratch,
     page: &mut Page,
-    heading: Heading,
+    heading: Heading<'_>,
     own: &mut Side,
     other: &mut Side,
     number: u64,
 ) -> Result<(), AllocError>
     ensures front { page.new.text.front ≡ page.old.text.front }
-    ensures scene { OnOk result (scene own.new other.new page.new ≡ advanced heading number (scene own.old other.old page.old)) }
+    ensures scene { OnOk result (scene own.new other.new page.new ≡ advanced heading.entry number (scene own.old other.old page.old)) }
 {
     let Some(track) = &mut own.track else {
         return Ok(());
@@ -85,7 +85,7 @@ fn begun(alloc: Global, field: u16) -> Track
 fn begin(
     alloc: Global,
     page: &mut Page,
-    heading: Heading,
+    heading: Heading<'_>,
     own: &mut Side,
     packet: &Packet<'_>,
     header: &Header,
@@ -93,7 +93,7 @@ fn begin(
     ensures front { page.new.text.front ≡ page.old.text.front }
     ensures memory { OnErr result (own.old.track ≡ None) }
     ensures scene { OnOk result ((other : Side) → scene own.new other page.new
-        ≡ begun_of heading (packet_model packet.now) header.now (scene own.old other page.old)) }
+        ≡ begun_of heading.entry (packet_model packet.now) header.now (scene own.old other page.old)) }
 {
     if own.track.is_none() {
         append_flow_line(&mut page.text, heading, packet, header)?;
@@ -103,7 +103,7 @@ fn begin(
 }
 
 /// The number of an item of a flow that has begun, where it is no repeat.
-fn new_number_in(track: &Track, field: u16) -> Option<u64>
+pub fn new_number_in(track: &Track, field: u16) -> Option<u64>
     ensures value { result ≡ new_number_of (Some track.now) field }
     ensures bound { IfSome result (λ number. number < most_numbers) }
 {
@@ -128,7 +128,7 @@ fn new_number(side: &Side, field: u16) -> Option<u64>
 fn take_new(
     scratch: &mut Scratch,
     page: &mut Page,
-    heading: Heading,
+    heading: Heading<'_>,
     own: &mut Side,
     other: &mut Side,
     number: u64,
@@ -138,7 +138,7 @@ fn take_new(
     requires { number < most_numbers }
     ensures front { page.new.text.front ≡ page.old.text.front }
     ensures scene { OnOk result (scene own.new other.new page.new
-        ≡ after_new heading number (item_with header.now content.now) (scene own.old other.old page.old)) }
+        ≡ after_new heading.entry number (item_with header.now content.now) (scene own.old other.old page.old)) }
 {
     let Some(track) = &mut own.track else {
         return Ok(());
@@ -160,14 +160,14 @@ fn take_new(
 fn take_acknowledge(
     scratch: &mut Scratch,
     page: &mut Page,
-    heading: Heading,
+    heading: Heading<'_>,
     own: &mut Side,
     other: &mut Side,
     field: u16,
 ) -> Result<(), AllocError>
     ensures front { page.new.text.front ≡ page.old.text.front }
     ensures memory { OnErr result (is_some (acknowledged_of other.old field) ≡ true) }
-    ensures scene { OnOk result (scene own.new other.new page.new ≡ after_acknowledge heading field (scene own.old other.old page.old)) }
+    ensures scene { OnOk result (scene own.new other.new page.new ≡ after_acknowledge heading.entry field (scene own.old other.old page.old)) }
 {
     let Some(number) = acknowledged(other, field) else {
         return Ok(());
@@ -180,7 +180,7 @@ fn take_acknowledge(
 fn take_data(
     scratch: &mut Scratch,
     page: &mut Page,
-    heading: Heading,
+    heading: Heading<'_>,
     own: &mut Side,
     other: &mut Side,
     packet: &Packet<'_>,
@@ -190,7 +190,7 @@ fn take_data(
     ensures front { page.new.text.front ≡ page.old.text.front }
     ensures memory { OnErr result (brings_new own.old.track header.now.sequence ≡ true) }
     ensures scene { OnOk result (scene own.new other.new page.new
-        ≡ after_data heading (packet_model packet.now) header.now content.now (scene own.old other.old page.old)) }
+        ≡ after_data heading.entry (packet_model packet.now) header.now content.now (scene own.old other.old page.old)) }
 {
     begin(scratch.alloc, page, heading, own, packet, header)?;
     let Some(number) = new_number(own, header.sequence) else {
@@ -205,7 +205,7 @@ fn take_data(
 pub fn take_packet(
     scratch: &mut Scratch,
     page: &mut Page,
-    heading: Heading,
+    heading: Heading<'_>,
     own: &mut Side,
     other: &mut Side,
     packet: &Packet<'_>,
@@ -215,7 +215,7 @@ pub fn take_packet(
     ensures front { page.new.text.front ≡ page.old.text.front }
     ensures memory { OnErr result (wants_memory header.now (scene own.old other.old page.old) ≡ true) }
     ensures scene { OnOk result (scene own.new other.new page.new
-        ≡ after_packet heading (packet_model packet.now) header.now content.now (scene own.old other.old page.old)) }
+        ≡ after_packet heading.entry (packet_model packet.now) header.now content.now (scene own.old other.old page.old)) }
 {
     take_acknowledge(scratch, page, heading, own, other, header.acknowledge)?;
     if header.control & SYSTEM != 0 {
@@ -238,13 +238,13 @@ fn behind_last(side: &Side) -> Option<u64>
 pub fn end_flow(
     scratch: &mut Scratch,
     page: &mut Page,
-    heading: Heading,
+    heading: Heading<'_>,
     own: &mut Side,
     other: &mut Side,
 ) -> Result<(), AllocError>
     ensures front { page.new.text.front ≡ page.old.text.front }
     ensures memory { OnErr result (is_some (behind_last_of own.old.track) ≡ true) }
-    ensures scene { OnOk result (scene own.new other.new page.new ≡ ended heading (scene own.old other.old page.old)) }
+    ensures scene { OnOk result (scene own.new other.new page.new ≡ ended heading.entry (scene own.old other.old page.old)) }
 {
     let Some(number) = behind_last(own) else {
         return Ok(());

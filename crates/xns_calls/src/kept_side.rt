@@ -1,10 +1,9 @@
 //! The flow of a connection that begins behind the other.
-ghost use Rattle.std.specs.Prelude.{◌≡◌, IfOk, OnErr, OnOk, true};
+ghost use Rattle.std.specs.Prelude.{◌≡◌, ◌||◌, IfOk, OnErr, OnOk, true};
 ghost use Rattle.std.specs.Option.{is_some};
 ghost use Rattle.xns_idp.specs.Packet.{packet_model};
 ghost use Rattle.xns_spp.specs.Header.{is_system};
-ghost use Rattle.xns_calls.specs.Capture.{begins_flow};
-ghost use Rattle.xns_calls.specs.Exchange.{after_packet, behind_last, ended, no_side, scene, wants_memory};
+ghost use Rattle.xns_calls.specs.Exchange.{after_packet, behind_last, both_ended, brings_new, ended, no_side, scene, wants_memory};
 
 use crate::exchange::{end_flow, take_packet};
 use crate::heading::Heading;
@@ -48,7 +47,7 @@ fn boxed_none(alloc: Global) -> Result<Box<Side>, AllocError>
 fn take_alone(
     scratch: &mut Scratch,
     page: &mut Page,
-    heading: Heading,
+    heading: Heading<'_>,
     own: &mut Side,
     packet: &Packet<'_>,
     header: &Header,
@@ -57,7 +56,7 @@ fn take_alone(
     ensures front { page.new.text.front ≡ page.old.text.front }
     ensures memory { OnErr result (wants_memory header.now (scene own.old no_side page.old) ≡ true) }
     ensures scene { OnOk result (scene own.new no_side page.new
-        ≡ after_packet heading (packet_model packet.now) header.now content.now (scene own.old no_side page.old)) }
+        ≡ after_packet heading.entry (packet_model packet.now) header.now content.now (scene own.old no_side page.old)) }
 {
     let mut other = Side::none();
     take_packet(
@@ -69,7 +68,7 @@ fn take_alone(
 fn take_before(
     scratch: &mut Scratch,
     page: &mut Page,
-    heading: Heading,
+    heading: Heading<'_>,
     other: &mut Side,
     packet: &Packet<'_>,
     header: &Header,
@@ -79,7 +78,7 @@ fn take_before(
     ensures front { page.new.text.front ≡ page.old.text.front }
     ensures memory { OnErr result (wants_memory header.now (scene no_side other.old page.old) ≡ true) }
     ensures scene { OnOk result (scene no_side other.new page.new
-        ≡ after_packet heading (packet_model packet.now) header.now content.now (scene no_side other.old page.old)) }
+        ≡ after_packet heading.entry (packet_model packet.now) header.now content.now (scene no_side other.old page.old)) }
 {
     let mut own = Side::none();
     take_packet(
@@ -91,12 +90,12 @@ fn take_before(
 fn end_alone(
     scratch: &mut Scratch,
     page: &mut Page,
-    heading: Heading,
+    heading: Heading<'_>,
     own: &mut Side,
 ) -> Result<(), AllocError>
     ensures front { page.new.text.front ≡ page.old.text.front }
     ensures memory { OnErr result (is_some (behind_last own.old.track) ≡ true) }
-    ensures scene { OnOk result (scene own.new no_side page.new ≡ ended heading (scene own.old no_side page.old)) }
+    ensures scene { OnOk result (scene own.new no_side page.new ≡ ended heading.entry (scene own.old no_side page.old)) }
 {
     let mut other = Side::none();
     end_flow(scratch, page, heading, own, &mut other)
@@ -110,13 +109,23 @@ impl KeptSide {
         KeptSide { side: None }
     }
 
-    /// Whether a packet of the flow begins it.
-    pub fn begins(&self, header: &Header) -> bool
-        ensures { result ≡ begins_flow header.now self.now.track }
+    /// Whether it has begun.
+    pub fn has_begun(&self) -> bool
+        ensures { result ≡ is_some self.now.track }
     {
         match &self.side {
-            None => header.control & SYSTEM == 0,
-            Some(side) => side.as_ref().begins(header),
+            None => false,
+            Some(side) => side.as_ref().has_begun(),
+        }
+    }
+
+    /// Whether an item with this field begins the flow, or is no repeat.
+    pub fn brings_new(&self, field: u16) -> bool
+        ensures { result ≡ brings_new self.now.track field }
+    {
+        match &self.side {
+            None => true,
+            Some(side) => side.as_ref().brings_new(field),
         }
     }
 
@@ -125,7 +134,7 @@ impl KeptSide {
         &mut self,
         scratch: &mut Scratch,
         page: &mut Page,
-        heading: Heading,
+        heading: Heading<'_>,
         first: &mut Side,
         packet: &Packet<'_>,
         header: &Header,
@@ -134,7 +143,7 @@ impl KeptSide {
         ensures front { page.new.text.front ≡ page.old.text.front }
         ensures memory { OnErr result (wants_memory header.now (scene self.old first.old page.old) ≡ true) }
         ensures scene { OnOk result (scene self.new first.new page.new
-            ≡ after_packet heading (packet_model packet.now) header.now content.now (scene self.old first.old page.old)) }
+            ≡ after_packet heading.entry (packet_model packet.now) header.now content.now (scene self.old first.old page.old)) }
     {
         match &mut self.side {
             Some(side) => take_packet(
@@ -173,7 +182,7 @@ impl KeptSide {
         &mut self,
         scratch: &mut Scratch,
         page: &mut Page,
-        heading: Heading,
+        heading: Heading<'_>,
         first: &mut Side,
         packet: &Packet<'_>,
         header: &Header,
@@ -182,7 +191,7 @@ impl KeptSide {
         ensures front { page.new.text.front ≡ page.old.text.front }
         ensures memory { OnErr result (wants_memory header.now (scene first.old self.old page.old) ≡ true) }
         ensures scene { OnOk result (scene first.new self.new page.new
-            ≡ after_packet heading (packet_model packet.now) header.now content.now (scene first.old self.old page.old)) }
+            ≡ after_packet heading.entry (packet_model packet.now) header.now content.now (scene first.old self.old page.old)) }
     {
         match &mut self.side {
             Some(side) => take_packet(
@@ -201,16 +210,16 @@ impl KeptSide {
 
     /// Brings this flow behind the last item that it keeps. Memory is refused only where it keeps one.
     #[tactic(auto, unfolding(crate::specs::Exchange::ended))]
-    pub fn end(
+    fn end(
         &mut self,
         scratch: &mut Scratch,
         page: &mut Page,
-        heading: Heading,
+        heading: Heading<'_>,
         first: &mut Side,
     ) -> Result<(), AllocError>
         ensures front { page.new.text.front ≡ page.old.text.front }
         ensures memory { OnErr result (is_some (behind_last self.old.track) ≡ true) }
-        ensures scene { OnOk result (scene self.new first.new page.new ≡ ended heading (scene self.old first.old page.old)) }
+        ensures scene { OnOk result (scene self.new first.new page.new ≡ ended heading.entry (scene self.old first.old page.old)) }
     {
         match &mut self.side {
             Some(side) => end_flow(scratch, page, heading, side.as_mut(), first),
@@ -219,20 +228,38 @@ impl KeptSide {
     }
 
     /// Brings the flow that began before behind the last item that it keeps. Memory is refused only where it keeps one.
-    pub fn end_first(
+    fn end_first(
         &mut self,
         scratch: &mut Scratch,
         page: &mut Page,
-        heading: Heading,
+        heading: Heading<'_>,
         first: &mut Side,
     ) -> Result<(), AllocError>
         ensures front { page.new.text.front ≡ page.old.text.front }
         ensures memory { OnErr result (is_some (behind_last first.old.track) ≡ true) }
-        ensures scene { OnOk result (scene first.new self.new page.new ≡ ended heading (scene first.old self.old page.old)) }
+        ensures scene { OnOk result (scene first.new self.new page.new ≡ ended heading.entry (scene first.old self.old page.old)) }
     {
         match &mut self.side {
             Some(side) => end_flow(scratch, page, heading, first, side.as_mut()),
             None => end_alone(scratch, page, heading, first),
         }
+    }
+
+    /// Brings both flows behind the last item that each keeps, first the one that began before. Memory is refused only where one
+    /// of them keeps an item.
+    #[tactic(auto, unfolding(crate::specs::Exchange::both_ended), using(crate::proofs::Wanted::first_wants, crate::proofs::Wanted::second_wants))]
+    pub fn end_both(
+        &mut self,
+        scratch: &mut Scratch,
+        page: &mut Page,
+        heading: Heading<'_>,
+        first: &mut Side,
+    ) -> Result<(), AllocError>
+        ensures front { page.new.text.front ≡ page.old.text.front }
+        ensures memory { OnErr result ((is_some (behind_last first.old.track) || is_some (behind_last self.old.track)) ≡ true) }
+        ensures scene { OnOk result (scene first.new self.new page.new ≡ both_ended heading.entry (scene first.old self.old page.old)) }
+    {
+        self.end_first(scratch, page, heading, first)?;
+        self.end(scratch, page, heading.of_other(), first)
     }
 }

@@ -1,6 +1,6 @@
 //! Laws of the definitions, as functions that do nothing.
-ghost use Rattle.xns_calls.specs.Laws.{AnItemIsAnEvent, CapturesSayWhatLinesSay, HeardMessagesArePrinted, InputsTellTheirConversations};
-ghost use Rattle.xns_calls.specs.Laws.{MissingItemsAreBeforeCapturedOnes, NothingIsMissing};
+ghost use Rattle.xns_calls.specs.Laws.{AnItemIsAnEvent, CapturesSayWhatLinesSay, ConnectionsHaveNumbers, HeardMessagesArePrinted, InputsTellTheirConversations};
+ghost use Rattle.xns_calls.specs.Laws.{LivingConnectionsAreKept, MissingItemsAreBeforeCapturedOnes, NothingIsMissing};
 ghost use Rattle.xns_calls.specs.Laws.{NumbersAreReadBack, OneKeyServesBothDirections, OtherConnectionsStay, PacketsAreEvents};
 ghost use Rattle.xns_calls.specs.Laws.{RepeatsSayNothing, TheAnswerSaysRefused, WhatIsHeardIsTheConversation};
 ghost use Rattle.xns_calls.specs.Laws.{WholeFlowsSayTheirConversation};
@@ -88,14 +88,27 @@ pub fn whole_flows_say_their_conversation()
 pub fn inputs_tell_their_conversations()
     ensures { InputsTellTheirConversations }
 {
+    flows_are_told_apart();
     conversation_is_read_sign_by_sign();
     signs_run_on();
     one_item_more();
 }
 
-/// A packet changes no connection but that of its flow, or of the flow behind it.
+/// A packet changes no connection but that of its flow.
 pub fn other_connections_stay()
     ensures { OtherConnectionsStay }
+{}
+
+/// The connections that are kept have numbers of their own, up to the number of those that have begun. So the name of a flow in
+/// the text says which connection it is of.
+pub fn connections_have_numbers()
+    ensures { ConnectionsHaveNumbers }
+{}
+
+/// A connection of which no flow has an item of datastream 255, EndReply, keeps its place and its number, whatever comes. So it
+/// never begins anew.
+pub fn living_connections_are_kept()
+    ensures { LivingConnectionsAreKept }
 {}
 
 /// Two flows have one key exactly where one is the other, or the flow behind it. So a connection is found by one key, whoever

@@ -4,6 +4,7 @@ ghost use Rattle.xns_captures.specs.Times.{nanoseconds_of};
 ghost use Rattle.xns_calls.specs.Origins.{frame_origin, line_origin, shown_from, shown_known, shown_time};
 
 use crate::times::Times;
+use courier_programs::Program;
 use xns_captures::{FrameTime, Stamp};
 
 /// The time of a frame, as it is shown.
@@ -24,33 +25,38 @@ pub enum ShownTime {
     },
 }
 
-/// Where in the input a line of the output comes from: a line of hex, or a frame of a capture.
-#[derive(Clone, Copy, Debug, PartialEq, Eq)]
-pub struct Origin {
+/// Where in the input a line of the output comes from, a line of hex or a frame of a capture, and by which programs it names
+/// calls.
+#[derive(Clone, Copy)]
+pub struct Origin<'a> {
     /// The number of the line or frame, from 1.
     pub number: usize,
     /// The time of the frame.
     pub time: ShownTime,
+    /// The programs by which calls are named, where some are given.
+    pub programs: Option<&'a [Program]>,
 }
 
-impl Origin {
+impl<'a> Origin<'a> {
     /// A line of hex, which has no time.
-    pub fn of_line(number: usize) -> Origin
-        ensures { result ≡ line_origin number }
+    pub fn of_line(programs: Option<&'a [Program]>, number: usize) -> Origin<'a>
+        ensures { result ≡ line_origin programs.entry number }
     {
         Origin {
             number,
             time: ShownTime::Hidden,
+            programs,
         }
     }
 
     /// A frame of a capture.
-    pub fn of_frame(times: Times, stamp: Stamp) -> Origin
-        ensures { result ≡ frame_origin times stamp }
+    pub fn of_frame(programs: Option<&'a [Program]>, times: Times, stamp: Stamp) -> Origin<'a>
+        ensures { result ≡ frame_origin programs.entry times stamp }
     {
         Origin {
             number: stamp.number,
             time: shown(times, stamp.first, stamp.time),
+            programs,
         }
     }
 }

@@ -6,28 +6,31 @@ ghost use Rattle.xns_calls.specs.Telling.{after_message, call_left, calls_after,
 
 use crate::heading::Heading;
 use crate::heard::Heard;
+use crate::naming::{name_abort, name_call, name_return};
+use crate::origin::Origin;
 use crate::scratch::Scratch;
+use crate::shown::Shown;
 use crate::texts::{
-    append_answer, append_answer_end, append_call, append_refused_line, append_words,
+    append_answer_end, append_answer_front, append_arguments, append_call_end, append_call_front,
+    append_error, append_refused_line, append_results,
 };
 use crate::unanswered::Calls;
 use crate::waiting::Waiting;
 use courier_messages::{Head, PiecedMessage, WholeMessage};
-use std::alloc::AllocError;
-use xns_dump::layers::courier::append_field;
+use std::alloc::{AllocError, Global};
 use xns_lines::{Page, Report};
 
 /// Prints what is heard.
 pub fn tell(
     scratch: &mut Scratch,
     page: &mut Page,
-    heading: Heading,
+    heading: Heading<'_>,
     calls: &mut Calls,
     heard: Heard,
 ) -> Result<(), AllocError>
-    ensures text { Adds result page.old.text page.new.text (heard_text heading calls.old heard) }
+    ensures text { Adds result page.old.text page.new.text (heard_text heading.entry calls.old heard) }
     ensures refused { OnOk result (page.new.is_refused ≡ (page.old.is_refused || is_fault heard)) }
-    ensures calls { OnOk result (calls.new ≡ calls_after heading calls.old heard) }
+    ensures calls { OnOk result (calls.new ≡ calls_after heading.entry calls.old heard) }
 {
     match heard {
         Heard::Nothing => Ok(()),
@@ -44,44 +47,52 @@ pub fn tell(
 pub fn tell_whole(
     scratch: &mut Scratch,
     report: &mut Report,
-    heading: Heading,
+    heading: Heading<'_>,
     calls: &mut Calls,
     message: WholeMessage<'_>,
 ) -> Result<(), AllocError>
-    ensures text { Adds result report.old report.new (message_line heading calls.old message.entry) }
-    ensures calls { OnOk result (calls.new ≡ after_message heading calls.old message.entry) }
+    ensures text { Adds result report.old report.new (message_line heading.entry calls.old message.entry) }
+    ensures calls { OnOk result (calls.new ≡ after_message heading.entry calls.old message.entry) }
 {
     let head = message.head();
+    let alloc = scratch.alloc;
     let words = scratch.words_of_whole(message)?;
-    tell_words(report, heading, calls, head, words)
+    tell_words(alloc, report, heading, calls, head, words)
 }
 
 /// Prints a message. A call waits for its answer then, and the call of an answer no longer.
 fn tell_message(
     scratch: &mut Scratch,
     report: &mut Report,
-    heading: Heading,
+    heading: Heading<'_>,
     calls: &mut Calls,
     message: &PiecedMessage,
 ) -> Result<(), AllocError>
-    ensures text { Adds result report.old report.new (message_line heading calls.old message.now) }
-    ensures calls { OnOk result (calls.new ≡ after_message heading calls.old message.now) }
+    ensures text { Adds result report.old report.new (message_line heading.entry calls.old message.now) }
+    ensures calls { OnOk result (calls.new ≡ after_message heading.entry calls.old message.now) }
 {
+    let alloc = scratch.alloc;
     let words = scratch.words_of(message)?;
-    tell_words(report, heading, calls, message.head(), words)
+    tell_words(alloc, report, heading, calls, message.head(), words)
 }
 
 /// Prints the message of these words.
 fn tell_words(
+    alloc: Global,
     report: &mut Report,
-    heading: Heading,
+    heading: Heading<'_>,
     calls: &mut Calls,
     head: Head,
     words: &[u16],
 ) -> Result<(), AllocError>
-    ensures text { Adds result report.old report.new (message_line heading calls.old (with_words head words.now)) }
-    ensures calls { OnOk result (calls.new ≡ after_message heading calls.old (with_words head words.now)) }
+    ensures text { Adds result report.old report.new (message_line heading.entry calls.old (with_words head words.now)) }
+    ensures calls { OnOk result (calls.new ≡ after_message heading.entry calls.old (with_words head words.now)) }
 {
+    let Origin {
+        number,
+        time,
+        programs,
+    } = heading.origin;
     match head {
         Head::Call {
             transaction,
@@ -91,30 +102,46 @@ fn tell_words(
         } => {
             calls.own = Some(Waiting {
                 transaction,
-                origin: heading.origin,
+                program,
+                version,
+                procedure,
+                number,
+                time,
             });
-            append_call(report, heading, transaction, program, version, procedure)?;
-            append_words(report, b" args ", words)
+            let shown = name_call(alloc, programs, program, version, procedure, words)?;
+            append_call_front(report, heading, transaction)?;
+            append_arguments(report, program, version, procedure, words, &shown)?;
+            append_call_end(report, &shown)
         }
         Head::Reject {
             transaction,
             reason,
         } => {
             let of = answer(calls, transaction);
-            append_answer(report, heading, b" reject ", transaction, of)?;
-            append_field(report, b" reason ", reason)?;
-            append_answer_end(report, b" words ", words, of, heading.origin.time)
+            append_answer_front(report, heading, b" reject ", transaction, of)?;
+            append_error(
+                report,
+                b" reason ",
+                reason,
+                b" words ",
+                words,
+                &Shown::Numbered,
+            )?;
+            append_answer_end(report, of, time, &Shown::Numbered)
         }
         Head::Return { transaction } => {
             let of = answer(calls, transaction);
-            append_answer(report, heading, b" return ", transaction, of)?;
-            append_answer_end(report, b" results ", words, of, heading.origin.time)
+            let shown = name_return(alloc, programs, of, words)?;
+            append_answer_front(report, heading, b" return ", transaction, of)?;
+            append_results(report, words, &shown)?;
+            append_answer_end(report, of, time, &shown)
         }
         Head::Abort { transaction, error } => {
             let of = answer(calls, transaction);
-            append_answer(report, heading, b" abort ", transaction, of)?;
-            append_field(report, b" error ", error)?;
-            append_answer_end(report, b" args ", words, of, heading.origin.time)
+            let shown = name_abort(alloc, programs, of, error, words)?;
+            append_answer_front(report, heading, b" abort ", transaction, of)?;
+            append_error(report, b" error ", error, b" args ", words, &shown)?;
+            append_answer_end(report, of, time, &shown)
         }
     }
 }

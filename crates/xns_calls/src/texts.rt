@@ -5,13 +5,17 @@ ghost use Rattle.xns_idp.specs.Packet.{packet_model};
 ghost use Rattle.xns_dump.specs.Layers.Text.{address_text};
 ghost use Rattle.xns_lines.specs.Report.{Adds};
 ghost use Rattle.xns_lines.specs.Text.{hex_word};
-ghost use Rattle.xns_calls.specs.Texts.{answer_end, answer_text, call_text, end_text, flow_line, heading_text, missing_line, reason_text, refused_line};
-ghost use Rattle.xns_calls.specs.Texts.{words_end};
+ghost use Rattle.xns_dump.specs.Layers.Courier.{callee_text};
+ghost use Rattle.xns_calls.specs.Naming.{named_or, reason_name, shown_model, unread_text};
+ghost use Rattle.xns_calls.specs.Texts.{answer_end, answer_front, call_end, call_front, end_text, flow_line, heading_text, missing_line};
+ghost use Rattle.xns_calls.specs.Texts.{reason_text, refused_line, words_behind};
 
 use crate::heading::Heading;
 use crate::origin::ShownTime;
+use crate::shown::Shown;
 use crate::time_texts::{append_time, append_took};
 use crate::waiting::Waiting;
+use call_texts::UnreadReason;
 use courier_messages::{MessageFault, SessionFault};
 use std::alloc::AllocError;
 use std::ops::Range;
@@ -24,8 +28,8 @@ use xns_spp::Header;
 
 /// Appends the time of the frame, its number or that of the line, and the name of the flow.
 #[tactic(auto, unfolding(crate::specs::Texts::heading_text))]
-fn append_heading(report: &mut Report, heading: Heading) -> Result<(), AllocError>
-    ensures { Adds result report.old report.new (heading_text heading) }
+fn append_heading(report: &mut Report, heading: Heading<'_>) -> Result<(), AllocError>
+    ensures { Adds result report.old report.new (heading_text heading.entry) }
 {
     append_time(report, heading.origin.time)?;
     append_decimal(report, heading.origin.number)?;
@@ -42,11 +46,11 @@ fn append_heading(report: &mut Report, heading: Heading) -> Result<(), AllocErro
 #[tactic(auto, unfolding(crate::specs::Texts::flow_line))]
 pub fn append_flow_line(
     report: &mut Report,
-    heading: Heading,
+    heading: Heading<'_>,
     packet: &Packet<'_>,
     header: &Header,
 ) -> Result<(), AllocError>
-    ensures { Adds result report.old report.new (flow_line heading (packet_model packet.now) header.now) }
+    ensures { Adds result report.old report.new (flow_line heading.entry (packet_model packet.now) header.now) }
 {
     // The ends are written before the heading, so that they are in memory by the time they are copied.
     let mut ends = [0; 84];
@@ -82,10 +86,10 @@ fn write_end(address: &Address, identifier: u16, text: &mut [u8])
 #[tactic(auto, unfolding(crate::specs::Texts::missing_line))]
 pub fn append_missing_line(
     report: &mut Report,
-    heading: Heading,
+    heading: Heading<'_>,
     missing: Range<u64>,
 ) -> Result<(), AllocError>
-    ensures { Adds result report.old report.new (missing_line heading missing.start missing.end) }
+    ensures { Adds result report.old report.new (missing_line heading.entry missing.start missing.end) }
 {
     append_heading(report, heading)?;
     append_item_number(report, b" missing ", missing.start)?;
@@ -102,65 +106,149 @@ fn append_item_number(report: &mut Report, name: &[u8], number: u64) -> Result<(
 }
 
 /// Appends what a call begins with.
-#[tactic(auto, unfolding(crate::specs::Texts::call_text))]
-pub fn append_call(
+#[tactic(auto, unfolding(crate::specs::Texts::call_front))]
+pub fn append_call_front(
     report: &mut Report,
-    heading: Heading,
+    heading: Heading<'_>,
     transaction: u16,
-    program: u32,
-    version: u16,
-    procedure: u16,
 ) -> Result<(), AllocError>
-    ensures { Adds result report.old report.new (call_text heading transaction program version procedure) }
+    ensures { Adds result report.old report.new (call_front heading.entry transaction) }
 {
     append_heading(report, heading)?;
-    append_field(report, b" call ", transaction)?;
-    append_callee(report, program, version, procedure)
+    append_field(report, b" call ", transaction)
 }
 
-/// Appends words behind what they are, and ends the line.
-#[tactic(auto, unfolding(crate::specs::Texts::words_end))]
-pub fn append_words(report: &mut Report, name: &[u8], words: &[u16]) -> Result<(), AllocError>
-    ensures { Adds result report.old report.new (words_end name.now words.now) }
+/// Appends why a call is not named, and ends its line.
+#[tactic(auto, unfolding(crate::specs::Texts::call_end))]
+pub fn append_call_end(report: &mut Report, shown: &Shown) -> Result<(), AllocError>
+    ensures { Adds result report.old report.new (call_end (shown_model shown.now)) }
 {
-    report.append(name)?;
-    append_word_list(report, words)?;
+    append_unread(report, shown)?;
     report.append(b"\n")
 }
 
-/// Appends words behind what they are, and how long a call took, and ends the line.
+/// Appends what a call says: by name, or the numbers and the words.
+pub fn append_arguments(
+    report: &mut Report,
+    program: u32,
+    version: u16,
+    procedure: u16,
+    words: &[u16],
+    shown: &Shown,
+) -> Result<(), AllocError>
+    ensures { Adds result report.old report.new
+        (named_or (callee_text program version procedure ++ words_behind (codes " args ") words.now) (shown_model shown.now)) }
+{
+    if let Shown::Named(text) = shown {
+        return append_named(report, text);
+    }
+    append_callee(report, program, version, procedure)?;
+    append_words(report, b" args ", words)
+}
+
+/// Appends what a return says: by name, or the words.
+pub fn append_results(report: &mut Report, words: &[u16], shown: &Shown) -> Result<(), AllocError>
+    ensures { Adds result report.old report.new (named_or (words_behind (codes " results ") words.now) (shown_model shown.now)) }
+{
+    if let Shown::Named(text) = shown {
+        return append_named(report, text);
+    }
+    append_words(report, b" results ", words)
+}
+
+/// Appends what an abort or a reject says: by name, or a number and the words, each behind what it is.
+pub fn append_error(
+    report: &mut Report,
+    kind: &[u8],
+    number: u16,
+    name: &[u8],
+    words: &[u16],
+    shown: &Shown,
+) -> Result<(), AllocError>
+    ensures { Adds result report.old report.new
+        (named_or (kind.now ++ decimal number ++ words_behind name.now words.now) (shown_model shown.now)) }
+{
+    if let Shown::Named(text) = shown {
+        return append_named(report, text);
+    }
+    append_field(report, kind, number)?;
+    append_words(report, name, words)
+}
+
+/// Appends a text by name.
+fn append_named(report: &mut Report, text: &[u8]) -> Result<(), AllocError>
+    ensures { Adds result report.old report.new (codes " " ++ text.now) }
+{
+    report.append(b" ")?;
+    report.append(text)
+}
+
+/// Appends words behind what they are.
+fn append_words(report: &mut Report, name: &[u8], words: &[u16]) -> Result<(), AllocError>
+    ensures { Adds result report.old report.new (words_behind name.now words.now) }
+{
+    report.append(name)?;
+    append_word_list(report, words)
+}
+
+/// Appends which word goes on no value, and why, where that is why a message is not named.
+fn append_unread(report: &mut Report, shown: &Shown) -> Result<(), AllocError>
+    ensures { Adds result report.old report.new (unread_text (shown_model shown.now)) }
+{
+    let Shown::Unread(unread) = shown else {
+        return Ok(());
+    };
+    report.append(b" unread ")?;
+    append_decimal(report, unread.place)?;
+    report.append(b" ")?;
+    report.append(name_of(unread.reason))
+}
+
+/// The name of a reason.
+fn name_of(reason: UnreadReason) -> &'static [u8]
+    ensures { result.now ≡ reason_name reason }
+{
+    match reason {
+        UnreadReason::Truncated => b"Truncated",
+        UnreadReason::NotBoolean => b"NotBoolean",
+        UnreadReason::NotListed => b"NotListed",
+        UnreadReason::OverMaximum => b"OverMaximum",
+        UnreadReason::Trailing => b"Trailing",
+        UnreadReason::LongText => b"LongText",
+    }
+}
+
+/// Appends how long a call took and why its answer is not named, and ends the line.
 #[tactic(auto, unfolding(crate::specs::Texts::answer_end))]
 pub fn append_answer_end(
     report: &mut Report,
-    name: &[u8],
-    words: &[u16],
     of: Option<Waiting>,
     time: ShownTime,
+    shown: &Shown,
 ) -> Result<(), AllocError>
-    ensures { Adds result report.old report.new (answer_end name.now words.now of time) }
+    ensures { Adds result report.old report.new (answer_end of time (shown_model shown.now)) }
 {
-    report.append(name)?;
-    append_word_list(report, words)?;
     append_took(report, of, time)?;
+    append_unread(report, shown)?;
     report.append(b"\n")
 }
 
 /// Appends what an answer begins with: the number of the line or frame of its call stands behind its transaction, or a dash.
-#[tactic(auto, unfolding(crate::specs::Texts::answer_text))]
-pub fn append_answer(
+#[tactic(auto, unfolding(crate::specs::Texts::answer_front))]
+pub fn append_answer_front(
     report: &mut Report,
-    heading: Heading,
+    heading: Heading<'_>,
     name: &[u8],
     transaction: u16,
     of: Option<Waiting>,
 ) -> Result<(), AllocError>
-    ensures { Adds result report.old report.new (answer_text heading name.now transaction of) }
+    ensures { Adds result report.old report.new (answer_front heading.entry name.now transaction of) }
 {
     append_heading(report, heading)?;
     append_field(report, name, transaction)?;
     report.append(b" of ")?;
     match of {
-        Some(waiting) => append_decimal(report, waiting.origin.number),
+        Some(waiting) => append_decimal(report, waiting.number),
         None => report.append(b"-"),
     }
 }
@@ -169,10 +257,10 @@ pub fn append_answer(
 #[tactic(auto, unfolding(crate::specs::Texts::refused_line))]
 pub fn append_refused_line(
     report: &mut Report,
-    heading: Heading,
+    heading: Heading<'_>,
     fault: SessionFault,
 ) -> Result<(), AllocError>
-    ensures { Adds result report.old report.new (refused_line heading fault) }
+    ensures { Adds result report.old report.new (refused_line heading.entry fault) }
 {
     append_heading(report, heading)?;
     report.append(b" refused ")?;

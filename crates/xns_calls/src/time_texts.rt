@@ -47,7 +47,7 @@ pub fn append_took(
         _ => {
             report.append(b" took ")?;
             match of {
-                Some(waiting) => append_took_since(report, waiting.origin.time, time),
+                Some(waiting) => append_took_since(report, waiting.time, time),
                 None => report.append(b"-"),
             }
         }

@@ -14,6 +14,7 @@ use Rattle.xns_command.specs.Commands.{StopsIn}
 use Rattle.xns_command.specs.Files.{FileStopsIn, StopsAs}
 use Rattle.xns_command.specs.declared.mode.Mode.{Mode}
 use Rattle.xns_command.specs.declared.mode.Mode.TheVariants.{Calls, Dump, Sim}
+use Rattle.xns_calls.specs.Naming.{Programs}
 use Rattle.xns_calls.specs.declared.times.Times.{Times}
 
 -- whether a file is a capture is told by its first four bytes, or by all where there are fewer
@@ -40,20 +41,21 @@ whole_file None new whole first b e c end is = tt
 whole_file (Some xs) None whole first b e c end is = absurd c
 whole_file (Some xs) (Some ys) whole first b e c end is = (e ∙ ap Some (sym c), ap is_capture c ∙ tells first ys end ∙ sym is)
 
-of_file : (times : Times) (mode : Mode) (b : Bool) (old whole left before after : Option (List ℕ)) (fault : FileFault) → IfSome old (λ file. (whole ≡ Some file) × (is_capture file ≡ b))
-    → IfSome whole (λ file. StopsAs b times mode file left before after fault) → IfSome old (λ file. FileStopsIn times mode file before after fault)
-of_file times mode b None whole left before after fault same stops = tt
-of_file times mode b (Some file) whole left before after fault same stops = (
-  left,
-  subst (λ capture. StopsAs capture times mode file left before after fault) (sym same.1)
-      (subst (λ o. IfSome o (λ xs. StopsAs b times mode xs left before after fault)) same.0 stops),
-)
+module _ (programs : Programs) where
+  of_file : (times : Times) (mode : Mode) (b : Bool) (old whole left before after : Option (List ℕ)) (fault : FileFault) → IfSome old (λ file. (whole ≡ Some file) × (is_capture file ≡ b))
+      → IfSome whole (λ file. StopsAs programs b times mode file left before after fault) → IfSome old (λ file. FileStopsIn programs times mode file before after fault)
+  of_file times mode b None whole left before after fault same stops = tt
+  of_file times mode b (Some file) whole left before after fault same stops = (
+    left,
+    subst (λ capture. StopsAs programs capture times mode file left before after fault) (sym same.1)
+        (subst (λ o. IfSome o (λ xs. StopsAs programs b times mode xs left before after fault)) same.0 stops),
+  )
 
--- where the whole stops, the file does
-pub stops_in_file : (times : Times) (mode : Mode) (b : Bool) (old whole left before after : Option (List ℕ)) (r : Result Bool FileFault) → IfSome old (λ file. (whole ≡ Some file) × (is_capture file ≡ b))
-    → IfErr r (λ fault. IfSome whole (λ file. StopsAs b times mode file left before after fault)) → IfErr r (λ fault. IfSome old (λ file. FileStopsIn times mode file before after fault))
-stops_in_file times mode b old whole left before after (Ok refused) same stops = tt
-stops_in_file times mode b old whole left before after (Err fault) same stops = of_file times mode b old whole left before after fault same stops
+  -- where the whole stops, the file does
+  pub stops_in_file : (times : Times) (mode : Mode) (b : Bool) (old whole left before after : Option (List ℕ)) (r : Result Bool FileFault) → IfSome old (λ file. (whole ≡ Some file) × (is_capture file ≡ b))
+      → IfErr r (λ fault. IfSome whole (λ file. StopsAs programs b times mode file left before after fault)) → IfErr r (λ fault. IfSome old (λ file. FileStopsIn programs times mode file before after fault))
+  stops_in_file times mode b old whole left before after (Ok refused) same stops = tt
+  stops_in_file times mode b old whole left before after (Err fault) same stops = of_file times mode b old whole left before after fault same stops
 
 -- ---- where no more can be read
 
@@ -61,57 +63,58 @@ nothing_more : (held : Option (List ℕ)) → Appends held held []
 nothing_more None = tt
 nothing_more (Some bytes) = sym (append-nil bytes)
 
-lines_at_first : (mode : Mode) (file : List ℕ) (held : Option (List ℕ)) → StopsIn mode file (Some file) held held run.Read
-unfolding split_at_newlines
-lines_at_first Dump file held = record {
-  read = [];
-  consumed = refl;
-  front = ([], nothing_more held, ([], refl));
-  stops = record {
+module _ (programs : Programs) where
+  lines_at_first : (mode : Mode) (file : List ℕ) (held : Option (List ℕ)) → StopsIn programs mode file (Some file) held held run.Read
+  unfolding split_at_newlines
+  lines_at_first Dump file held = record {
+    read = [];
+    consumed = refl;
+    front = ([], nothing_more held, ([], refl));
+    stops = record {
+      good = [];
+      next = [];
+      part = 0;
+      lines = refl;
+      within = record { short = refl; few = omega arith };
+      shown = refl;
+      few = omega arith;
+      place = inl refl;
+      is_left = nothing_more held;
+    };
+  }
+  lines_at_first Calls file held = record {
+    read = [];
+    consumed = refl;
+    front = ([], nothing_more held, ([], refl));
+    stops = record {
+      good = [];
+      next = [];
+      part = 0;
+      lines = refl;
+      within = record { short = refl; few = omega arith };
+      shown = refl;
+      few = omega arith;
+      place = inl refl;
+      is_left = nothing_more held;
+    };
+  }
+  lines_at_first Sim file held = record {
+    read = [];
+    consumed = refl;
     good = [];
     next = [];
-    part = 0;
     lines = refl;
     within = record { short = refl; few = omega arith };
     shown = refl;
-    few = omega arith;
-    place = inl refl;
-    is_left = nothing_more held;
-  };
-}
-lines_at_first Calls file held = record {
-  read = [];
-  consumed = refl;
-  front = ([], nothing_more held, ([], refl));
-  stops = record {
-    good = [];
-    next = [];
-    part = 0;
-    lines = refl;
-    within = record { short = refl; few = omega arith };
-    shown = refl;
-    few = omega arith;
-    place = inl refl;
-    is_left = nothing_more held;
-  };
-}
-lines_at_first Sim file held = record {
-  read = [];
-  consumed = refl;
-  good = [];
-  next = [];
-  lines = refl;
-  within = record { short = refl; few = omega arith };
-  shown = refl;
-  written = refl;
-}
+    written = refl;
+  }
 
-pub at_first : (b : Bool) (times : Times) (mode : Mode) (file : List ℕ) (held : Option (List ℕ)) → StopsAs b times mode file (Some file) held held (Run run.Read)
-at_first true times Dump file held = ([], 0, record { rest = packets_of file; joined = refl; few = omega arith; place = inl refl }, nothing_more held)
-at_first true times Calls file held = ([], 0, record { rest = packets_of file; joined = refl; few = omega arith; place = inl refl }, nothing_more held)
-at_first true times Sim file held = lines_at_first Sim file held
-at_first false times mode file held = lines_at_first mode file held
+  pub at_first : (b : Bool) (times : Times) (mode : Mode) (file : List ℕ) (held : Option (List ℕ)) → StopsAs programs b times mode file (Some file) held held (Run run.Read)
+  at_first true times Dump file held = ([], 0, record { rest = packets_of file; joined = refl; few = omega arith; place = inl refl }, nothing_more held)
+  at_first true times Calls file held = ([], 0, record { rest = packets_of file; joined = refl; few = omega arith; place = inl refl }, nothing_more held)
+  at_first true times Sim file held = lines_at_first Sim file held
+  at_first false times mode file held = lines_at_first mode file held
 
-pub stops_at_first : (times : Times) (mode : Mode) (old held : Option (List ℕ)) → IfSome old (λ file. FileStopsIn times mode file held held (Run run.Read))
-stops_at_first times mode None held = tt
-stops_at_first times mode (Some file) held = (Some file, at_first (is_capture file) times mode file held)
+  pub stops_at_first : (times : Times) (mode : Mode) (old held : Option (List ℕ)) → IfSome old (λ file. FileStopsIn programs times mode file held held (Run run.Read))
+  stops_at_first times mode None held = tt
+  stops_at_first times mode (Some file) held = (Some file, at_first (is_capture file) times mode file held)

@@ -1,26 +1,27 @@
 -- What the command of each mode prints and answers.
 use Rattle.std.specs.Prelude.{Bool, List, ℕ, Option}
 use Rattle.xns_calls.specs.Calls as calls
+use Rattle.xns_calls.specs.Naming.{Programs}
 use Rattle.xns_command.specs.declared.mode.Mode.{Mode}
 use Rattle.xns_command.specs.declared.mode.Mode.TheVariants.{Calls, Dump, Sim}
 use Rattle.xns_dump.specs.Dump as dump
 use Rattle.xns_lines.specs.declared.fault.RunFault.{RunFault}
 use Rattle.xns_sim.specs.Sim as sim
 
--- what is printed for an input
-abbrev pub text_of : Mode → List ℕ → List ℕ
-text_of Dump = dump.dump_text
-text_of Calls = calls.calls_text
-text_of Sim = sim.sim_text
+-- what is printed for an input; the programs name the calls of `calls`
+abbrev pub text_of : Programs → Mode → List ℕ → List ℕ
+text_of programs Dump = dump.dump_text
+text_of programs Calls = calls.calls_text programs
+text_of programs Sim = sim.sim_text
 
 -- whether a line of the input is refused, or what one says
-abbrev pub is_refused : Mode → List ℕ → Bool
-is_refused Dump = dump.has_refused_line
-is_refused Calls = calls.has_refusal
-is_refused Sim = sim.is_script_refused
+abbrev pub is_refused : Programs → Mode → List ℕ → Bool
+is_refused programs Dump = dump.has_refused_line
+is_refused programs Calls = calls.has_refusal programs
+is_refused programs Sim = sim.is_script_refused
 
 -- after a fault: the input, what is left of it, what the writer had before and has after
-abbrev pub StopsIn : Mode → List ℕ → Option (List ℕ) → Option (List ℕ) → Option (List ℕ) → RunFault → Type 0
-StopsIn Dump input left before after fault = dump.StopsIn input left before after fault
-StopsIn Calls input left before after fault = calls.StopsIn input left before after fault
-StopsIn Sim input left before after fault = sim.SimStopsIn input left before after fault
+abbrev pub StopsIn : Programs → Mode → List ℕ → Option (List ℕ) → Option (List ℕ) → Option (List ℕ) → RunFault → Type 0
+StopsIn programs Dump input left before after fault = dump.StopsIn input left before after fault
+StopsIn programs Calls input left before after fault = calls.StopsIn programs input left before after fault
+StopsIn programs Sim input left before after fault = sim.SimStopsIn input left before after fault

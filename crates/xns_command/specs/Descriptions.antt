@@ -41,6 +41,11 @@ abbrev pub IsTaken : List ℕ → List Program → List Program → (List ℕ �
 IsTaken text before after writes =
     (program : Program) × IsProgram program text before × (after ≡ before ++ program ∷ []) × writes (program_text (resolved_model program))
 
+-- a text was read behind these programs, and its program was put behind them
+abbrev pub Takes : Result Unit DescriptionFault → List ℕ → List Program → List Program → Type 0
+Takes (Ok done) text before after = (program : Program) × IsProgram program text before × (after ≡ before ++ program ∷ [])
+Takes (Err fault) text before after = IsRefused fault text before × (after ≡ before)
+
 -- after a fault nothing is written or taken, but where the write failed
 abbrev pub Stops : DescriptionFault → List ℕ → List Program → List Program → Option (List ℕ) → Option (List ℕ) → Type 0
 Stops (Run run.Write) text before after held written = IsTaken text before after (AppendsPart held written)

@@ -3,7 +3,7 @@ ghost use Rattle.std.specs.Prelude.{◌≡◌, ◌+◌, IfOk, IfSome, length};
 ghost use Rattle.courier_notation.specs.Lexing.{most_text};
 ghost use Rattle.courier_programs.specs.Meanings.{resolved_model};
 ghost use Rattle.call_texts.specs.Listing.{program_text};
-ghost use Rattle.xns_command.specs.Descriptions.{IsRead, Prints};
+ghost use Rattle.xns_command.specs.Descriptions.{IsRead, Prints, Takes};
 
 use crate::description_fault::DescriptionFault;
 use crate::files::read_first;
@@ -62,6 +62,22 @@ fn read_into<R: Read>(
         Ok(count) => read_whole(alloc, &room[..count], before),
         Err(fault) => Err(DescriptionFault::Run(fault)),
     }
+}
+
+/// Reads the program that a file describes, and puts it behind those that were read before it.
+///
+/// # Errors
+/// Those of `read_description`; then nothing is put behind the others.
+pub fn take_description<R: Read>(
+    alloc: Global,
+    reader: &mut R,
+    programs: &mut Vec<Program>,
+) -> Result<(), DescriptionFault>
+    ensures { IfSome (R.remaining reader.old) (λ text. Takes result text programs.old.items programs.new.items) }
+{
+    let program = read_description(alloc, reader, programs)?;
+    programs.push(program)?;
+    Ok(())
 }
 
 /// The lines of a program: one of the program, one of each procedure and one of each error.

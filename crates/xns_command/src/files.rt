@@ -5,6 +5,7 @@ ghost use Rattle.xns_command.specs.Files.{FileStopsIn, StopsAs, file_text, is_fi
 
 use crate::commands::perform;
 use crate::mode::Mode;
+use courier_programs::Program;
 use std::alloc::Global;
 use std::io::{Read, Write};
 use xns_calls::{Times, calls_capture};
@@ -16,8 +17,8 @@ use xns_lines::RunFault;
 const FIRST: usize = 4;
 
 /// Runs the command of the mode over a file, which is a capture, known by its first bytes, or a file of lines; the script
-/// of `sim` has lines always. Of times only those of a capture are printed, by `calls`. The answer is whether something was
-/// refused.
+/// of `sim` has lines always. Of times only those of a capture are printed, by `calls`, which names calls by the programs,
+/// where some are given. The answer is whether something was refused.
 ///
 /// # Errors
 /// Those of the command: `dump`, `calls` or `sim`, or `dump_capture` or `calls_capture`.
@@ -25,14 +26,15 @@ pub fn perform_file<R: Read, W: Write>(
     alloc: Global,
     mode: Mode,
     times: Times,
+    programs: Option<&[Program]>,
     reader: &mut R,
     writer: &mut W,
 ) -> Result<bool, FileFault>
     ensures text { IfOk result (λ refused. IfSome (R.remaining reader.old) (λ file.
-        Appends (W.contents writer.old) (W.contents writer.new) (file_text times mode file))) }
-    ensures refused { IfOk result (λ refused. IfSome (R.remaining reader.old) (λ file. refused ≡ is_file_refused times mode file)) }
+        Appends (W.contents writer.old) (W.contents writer.new) (file_text programs.entry times mode file))) }
+    ensures refused { IfOk result (λ refused. IfSome (R.remaining reader.old) (λ file. refused ≡ is_file_refused programs.entry times mode file)) }
     ensures fault { IfErr result (λ fault. IfSome (R.remaining reader.old) (λ file.
-        FileStopsIn times mode file (W.contents writer.old) (W.contents writer.new) fault)) }
+        FileStopsIn programs.entry times mode file (W.contents writer.old) (W.contents writer.new) fault)) }
 {
     let mut first = [0u8; FIRST];
     let count = match read_first(reader, &mut first) {
@@ -41,7 +43,7 @@ pub fn perform_file<R: Read, W: Write>(
     };
     let is_capture = is_capture(&first[..count]);
     let mut whole = (&first[..count]).chain(reader);
-    perform_as(alloc, is_capture, mode, times, &mut whole, writer)
+    perform_as(alloc, is_capture, mode, times, programs, &mut whole, writer)
 }
 
 /// Runs the command of the mode over a file that is a capture, or has lines.
@@ -50,19 +52,20 @@ fn perform_as<R: Read, W: Write>(
     is_capture: bool,
     mode: Mode,
     times: Times,
+    programs: Option<&[Program]>,
     reader: &mut R,
     writer: &mut W,
 ) -> Result<bool, FileFault>
     ensures text { IfOk result (λ refused. IfSome (R.remaining reader.old) (λ file.
-        Appends (W.contents writer.old) (W.contents writer.new) (text_as is_capture times mode file))) }
-    ensures refused { IfOk result (λ refused. IfSome (R.remaining reader.old) (λ file. refused ≡ is_refused_as is_capture times mode file)) }
+        Appends (W.contents writer.old) (W.contents writer.new) (text_as programs.entry is_capture times mode file))) }
+    ensures refused { IfOk result (λ refused. IfSome (R.remaining reader.old) (λ file. refused ≡ is_refused_as programs.entry is_capture times mode file)) }
     ensures fault { IfErr result (λ fault. IfSome (R.remaining reader.old) (λ file.
-        StopsAs is_capture times mode file (R.remaining reader.new) (W.contents writer.old) (W.contents writer.new) fault)) }
+        StopsAs programs.entry is_capture times mode file (R.remaining reader.new) (W.contents writer.old) (W.contents writer.new) fault)) }
 {
     match mode {
         Mode::Dump if is_capture => dump_capture(alloc, reader, writer),
-        Mode::Calls if is_capture => calls_capture(alloc, times, reader, writer),
-        _ => match perform(alloc, mode, reader, writer) {
+        Mode::Calls if is_capture => calls_capture(alloc, programs, times, reader, writer),
+        _ => match perform(alloc, mode, programs, reader, writer) {
             Ok(refused) => Ok(refused),
             Err(fault) => Err(FileFault::Run(fault)),
         },

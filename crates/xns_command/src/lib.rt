@@ -12,7 +12,7 @@ mod status;
 
 pub use commands::perform;
 pub use description_fault::DescriptionFault;
-pub use descriptions::{print_description, read_description};
+pub use descriptions::{print_description, read_description, take_description};
 pub use files::perform_file;
 pub use mode::Mode;
 pub use refusal::Refusal;

@@ -1,19 +1,17 @@
 -- What is due is done, once: it is then due later.
 use Rattle.std.proofs.Common.{◌≡◌, ◌≢◌, ◌∙◌, ◌⊎◌, inl, inr, ap, refl, subst, sym, ℕ, zero, suc, ◌+◌, ◌<◌, ◌≤◌, Bool, true, false, List, [], ◌∷◌, length, Option, Some, None, slice_get, arith}
-use Rattle.std.specs.Prelude.{◌&&◌, nat_le, if◌then◌else◌}
-use Rattle.std.specs.Option.{is_none, is_some}
+use Rattle.std.specs.Prelude.{nat_le, if◌then◌else◌}
 use Rattle.std.proofs.lemmas.Bool.{le-leb, leb-false, lt-leb}
 use Rattle.xns_agenda.specs.Agenda.{Plan}
-use Rattle.xns_host.specs.Deeds.{Parts, acted_by}
-use Rattle.xns_host.specs.Deeds as deeds
-use Rattle.xns_host.specs.Step.{parts_of}
-use Rattle.xns_host.specs.Hosting.{ActsIn, EachActs, HasActed, HasActedIn, HasNoneDone, IsAllNoted, IsApart, StaysIn, facts_in, forgotten, is_done, may_go, stays}
+use Rattle.xns_connection.specs.Deeds.{Parts, acted_by}
+use Rattle.xns_connection.specs.Deeds as deeds
+use Rattle.xns_connection.specs.Step.{parts_of}
+use Rattle.xns_host.specs.Hosting.{ActsIn, EachActs, HasActed, HasNoneDone, IsAllNoted, IsApart, StaysIn, facts_in, forgotten, may_go, stays}
 use Rattle.xns_agenda.specs.Times.{HasNoneBy, IsFirstBy}
-use Rattle.xns_agenda.specs.Waiting.{StepsAt, still, step, close, HearsAt, no_word, word, after_step, after_word, lingering}
 use Rattle.xns_agenda.specs.Waiting.{Waiting, IsDueAfter, act_by, due_time, unless_silent}
 use Rattle.xns_agenda.specs.declared.act.Act.{Act}
 use Rattle.xns_agenda.specs.declared.act.Act.TheVariants.{Nothing, Again, Ask, Forget}
-use Rattle.xns_host.specs.declared.connection.Connection.{Connection}
+use Rattle.xns_connection.specs.declared.connection.Connection.{Connection}
 use Rattle.xns_agenda.specs.declared.due.Due.{Due}
 use Rattle.xns_agenda.specs.declared.due.Due.TheVariants.{Never, AgainAt, AskAt, ForgetAt}
 use Rattle.xns_host.specs.declared.guest.Guest.{Guest}
@@ -34,31 +32,16 @@ settled a b n g false there is gone kept =
     subst (λ (q : Option (Option Guest)). StaysIn g.connection q) (sym (ap (λ (xs : Places). slice_get xs n) (kept refl) ∙ there)) (stays g refl)
 
 -- the connection in a place acted, and is forgotten, if it is done
-pub act_settled : (a b : Places) (n now : ℕ) (c : Connection) (p : Option Guest) (done : Bool) → slice_get a n ≡ Some p → HasActedIn now c p
-    → done ≡ is_done p → (done ≡ true → slice_get b n ≡ Some None) → (done ≡ false → b ≡ a) → ActsIn now c (slice_get b n)
-act_settled a b n now c None done there acted is gone kept = absurd acted
-act_settled a b n now c (Some g) done there acted is gone kept = record {
-  next = g.connection;
+pub act_settled : (a b : Places) (n now : ℕ) (g h : Guest) (done : Bool) → slice_get a n ≡ Some (Some h) → HasActed now g.connection h.connection
+    → done ≡ may_go h.connection → (done ≡ true → slice_get b n ≡ Some None) → (done ≡ false → b ≡ a) → ActsIn now g.connection (slice_get b n)
+act_settled a b n now g h done there acted is gone kept = record {
+  next = h.connection;
   acts = acted;
-  stays = settled a b n g done there is gone kept;
+  stays = settled a b n h done there is gone kept;
   gone = λ go. gone (is ∙ go);
 }
 
 -- ---- doing what is due again does nothing
-
-third : (a b c : Bool) → (a && (b && c)) ≡ true → c ≡ true
-third true true c is = is
-third true false c is = absurd (cc)
-third false b c is = absurd (cc)
-
-no_time : (o : Option ℕ) → is_none o ≡ true → o ≡ None
-no_time None is = refl
-no_time (Some t) is = absurd (cc)
-
-gone_due : (now : ℕ) (c : Connection) → may_go c ≡ true → IsDueAfter now c.wait.due
-gone_due now c gone t is =
-    let none : due_time c.wait.due ≡ None = no_time (due_time c.wait.due) (third (is_some c.closed) c.told (is_none (due_time c.wait.due)) gone) in
-    absurd (cc)
 
 not_by : (b : Bool) (a : Act) → b ≡ false → (if b then a else Nothing) ≡ Nothing
 not_by true a is = absurd (cc)
@@ -172,11 +155,16 @@ record WillAct (now : ℕ) (c : Connection) (place : Option (Option Guest)) : Ty
   will : Leads now c next
   stays : StaysIn next place
   gone : may_go next ≡ true → place ≡ Some None
+  -- where it was forgotten, it had acted
+  later : place ≡ Some None → IsDueAfter now next.wait.due
 
 -- and each round leaves one place fewer in which something is due
 pub record SoFar (now : ℕ) (first gs : Places) (rounds : ℕ) : Type 0 where
   will : (k : ℕ) (g : Guest) → slice_get first k ≡ Some (Some g) → WillAct now g.connection (slice_get gs k)
   few : dues_in now gs + rounds ≤ length first
+
+not_both : {X : Type 0} (o : Option (Option X)) (a : X) → o ≡ Some (Some a) → o ≡ Some None → ⊥
+not_both o a left right = cc
 
 pub at_first : (now : ℕ) (first : Places) → HasNoneDone first → SoFar now first first 0
 at_first now first all = record {
@@ -185,6 +173,7 @@ at_first now first all = record {
     will = refl;
     stays = subst (λ (q : Option (Option Guest)). StaysIn g.connection q) (sym there) (stays g refl);
     gone = λ go. absurd (not_gone_yet g.connection (all.each k g there) go);
+    later = λ none. absurd (not_both (slice_get first k) g there none);
   };
   few = let most = dues_few now first in omega (arith, most);
 }
@@ -207,9 +196,6 @@ has_stayed now c (forgotten gone) after = record { at = None; there = refl; late
 one_at : {X : Type 0} (o : Option (Option X)) (a b : X) → o ≡ Some (Some a) → o ≡ Some (Some b) → a ≡ b
 one_at o a b left right = cc
 
-not_both : {X : Type 0} (o : Option (Option X)) (a : X) → o ≡ Some (Some a) → o ≡ Some None → ⊥
-not_both o a left right = cc
-
 then_will : (now : ℕ) (c : Connection) (g : Guest) (place next_place : Option (Option Guest)) → WillAct now c place → place ≡ Some (Some g)
     → ActsIn now g.connection next_place → WillAct now c next_place
 then_will now c g place next_place will there acted =
@@ -223,6 +209,7 @@ then_will now c g place next_place will there acted =
             will = next_parts;
             stays = acted.stays;
             gone = acted.gone;
+            later = λ none. acted.acts.later;
           }
 
       by : (d : Connection) (q : Option (Option Guest)) → Leads now c d → place ≡ q → StaysIn d q → WillAct now c next_place
@@ -256,7 +243,7 @@ one_more now first gs hs a n rounds before all sized due acts apart =
 
 at_last : (now : ℕ) (first gs : Places) (rounds : ℕ) → SoFar now first gs rounds
     → ((k : ℕ) (p : Option Guest) → slice_get gs k ≡ Some p → is_due_in now p ≡ false) → EachActs now first gs
-at_last now first gs rounds before none = λ k g there. let w = before.will k g there in by k g w.next w.will _ refl w.stays w.gone where
+at_last now first gs rounds before none = λ k g there. let w = before.will k g there in by k g w.next w.will _ refl w.stays w.gone w.later where
   acted : (c d : Connection) → Leads now c d → IsDueAfter now d.wait.due → HasActed now c d
   acted c d leads after = record {
     parts = sym (nothing_more (parts_of d) now after) ∙ leads;
@@ -265,8 +252,8 @@ at_last now first gs rounds before none = λ k g there. let w = before.will k g 
 
   by : (k : ℕ) (g : Guest) (d : Connection) → Leads now g.connection d → (q : Option (Option Guest))
       → slice_get gs k ≡ q → StaysIn d q → (may_go d ≡ true → slice_get gs k ≡ Some None)
-      → ActsIn now g.connection (slice_get gs k)
-  by k g d leads (Some (Some _)) is (stays h same) left =
+      → (slice_get gs k ≡ Some None → IsDueAfter now d.wait.due) → ActsIn now g.connection (slice_get gs k)
+  by k g d leads (Some (Some _)) is (stays h same) left later =
       let after : IsDueAfter now h.connection.wait.due = not_due now (due_time h.connection.wait.due) (none k (Some h) is) in
       record {
         next = d;
@@ -274,13 +261,13 @@ at_last now first gs rounds before none = λ k g there. let w = before.will k g 
         stays = subst (λ (r : Option (Option Guest)). StaysIn d r) (sym is) (stays h same);
         gone = left;
       }
-  by k g d leads (Some None) is (forgotten gone) left = record {
+  by k g d leads (Some None) is (forgotten gone) left later = record {
     next = d;
-    acts = acted g.connection d leads (gone_due now d gone);
+    acts = acted g.connection d leads (later is);
     stays = subst (λ (r : Option (Option Guest)). StaysIn d r) (sym is) (forgotten gone);
     gone = left;
   }
-  by k g d leads None is at left = elim at [ ]
+  by k g d leads None is at left later = elim at [ ]
 
 -- nothing is due any longer
 pub done_early : (now : ℕ) (first gs : Places) (a : Plan) (rounds : ℕ) → SoFar now first gs rounds → IsAllNoted a gs → HasNoneBy a.dues now
@@ -295,25 +282,3 @@ pub done_last : (now : ℕ) (first gs : Places) (rounds : ℕ) → SoFar now fir
 done_last now first gs rounds before most =
     let few = before.few in
     at_last now first gs rounds before (none_due now gs (omega (arith, few, most)))
-
--- ---- steps of one moment
-
-pub no_step : (w v : Waiting) (now : ℕ) → v ≡ w → StepsAt now w v
-no_step w v now same = subst (λ (u : Waiting). StepsAt now w u) (sym same) still
-
-pub one_step : (w v : Waiting) (b : Bool) (now : ℕ) → v ≡ after_step w b now → StepsAt now w v
-one_step w v b now is = subst (λ (u : Waiting). StepsAt now w u) (sym is) (step still b)
-
-pub one_close : (w v : Waiting) (now : ℕ) → v ≡ lingering w now → StepsAt now w v
-one_close w v now is = subst (λ (u : Waiting). StepsAt now w u) (sym is) (close still)
-
--- a word of the peer may have come first
-pub hears_at : (foreign : Bool) (w u v : Waiting) (more : Bool) (now : ℕ) → (foreign ≡ true → u ≡ w) → (foreign ≡ false → u ≡ after_word w more now)
-    → StepsAt now u v → HearsAt now w v
-hears_at true w u v more now same heard steps = no_word (subst (λ (x : Waiting). StepsAt now x v) (same refl) steps)
-hears_at false w u v more now same heard steps = word more (subst (λ (x : Waiting). StepsAt now x v) (heard refl) steps)
-
-pub steps_then : (now : ℕ) (u w : Waiting) {v : Waiting} → StepsAt now u w → StepsAt now w v → StepsAt now u v
-steps_then now u w first still = first
-steps_then now u w first (step next b) = step (steps_then now u w first next) b
-steps_then now u w first (close next) = close (steps_then now u w first next)

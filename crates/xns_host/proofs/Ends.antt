@@ -1,10 +1,9 @@
 -- The end of a connection keeps its identifier, and who opened it.
 use Rattle.std.proofs.Common.{◌≡◌, ◌∙◌, ap, refl, subst, sym, ℕ, ◌<◌, Bool, true, false, List, Option, Some, None, Result, Ok, Err, arith}
-use Rattle.std.specs.Prelude.{OnErr, OnOk, ◌+◌, ◌&&◌, ◌||◌, ◌==◌, not, if◌then◌else◌, nat_lt, max}
+use Rattle.std.specs.Prelude.{◌+◌, ◌&&◌, ◌||◌, ◌==◌, not, if◌then◌else◌, nat_lt, max}
 use Rattle.std.specs.BTreeMap.{get}
 use Rattle.std.specs.Cmp.Lexicographic.{bytes_decides}
 use Rattle.std.specs.Str.{bytes_eq}
-use Rattle.std.specs.declared.alloc.AllocError.{AllocError}
 use Rattle.courier_messages.specs.declared.message.Message.{Message}
 use Rattle.std.proofs.Math.Logic.{∥∥₁_elim}
 use Rattle.std.proofs.Props.{props}
@@ -12,7 +11,7 @@ use Rattle.std.proofs.lemmas.Bool.{eqb-true}
 use Rattle.xns_idp.specs.Packet.{same_place}
 use Rattle.xns_spp.specs.Ends.{IsEnds, from_host, from_peer, is_meant, is_open, is_ours_at, to_responder}
 use Rattle.xns_spp.specs.Held.{Held, StandsFor}
-use Rattle.xns_spp.specs.Packet.{SppPacketModel, spp_packet_of}
+use Rattle.xns_spp.specs.Packet.{SppPacketModel}
 use Rattle.xns_spp.specs.Receiving.{after_decided, after_receive, decided}
 use Rattle.xns_spp.specs.Sending.{accepting, handing, send_fault, take_answer}
 use Rattle.xns_spp.specs.State.{State, send_limit}
@@ -23,14 +22,15 @@ use Rattle.xns_spp.specs.declared.item.Item.{Item}
 use Rattle.xns_spp.specs.declared.role.Role.{Role}
 use Rattle.xns_spp.specs.declared.role.Role.TheVariants.{Initiator, Responder}
 use Rattle.xns_spp.specs.declared.send_fault.SendFault.{SendFault}
-use Rattle.xns_host.specs.Living.{GoesFrom}
+use Rattle.xns_connection.specs.Living.{GoesFrom}
 use Rattle.xns_host.specs.Register.{number_by, owner_in, peer_at, peer_cmp}
 use Rattle.xns_host.specs.Knowing.{Known, known_of}
 use Rattle.xns_host.specs.Registered.{FitsEnd, IsRegistered, opener_at}
-use Rattle.xns_host.specs.Story.{Runs, Story, with_handed, start, sends, takes, flushes, resends, tells}
-use Rattle.xns_host.specs.Telling.{Goes, Hears, Tells}
-use Rattle.xns_host.specs.declared.side.Side.{Side}
-use Rattle.xns_host.specs.declared.side.Side.TheVariants.{Answers, Calls}
+use Rattle.xns_connection.specs.Story.{Runs, Story, with_handed, start, sends, takes, flushes, resends, tells}
+use Rattle.xns_connection.specs.Telling.{Goes, Hears, Tells}
+use Rattle.xns_connection.specs.declared.conversation.Conversation.{Conversation}
+use Rattle.xns_connection.specs.declared.side.Side.{Side}
+use Rattle.xns_connection.specs.declared.side.Side.TheVariants.{Answers, Calls}
 use Rattle.xns_host.specs.declared.guest.Guest.{Guest}
 use Rattle.xns_host.specs.declared.peer.Peer.{Peer}
 use Rattle.xns_host.specs.declared.register.Register.{Register}
@@ -108,44 +108,28 @@ went g h same e m told end =
           opener ∙ e.opener was ∙ ap (λ (x : Ends). Some (opener_at x)) (sym (end.opened was));
     }
 
-went_from : (g h : Guest) (base : Story → Story) → ((s : Story) → (base s).state ≡ s.state) → known_of h ≡ known_of g
+pub from_fits : (g h : Guest) (base : Story → Story) → ((s : Story) → (base s).state ≡ s.state) → known_of h ≡ known_of g
     → GoesFrom g.connection.conversation h.connection.conversation base → FitsEnd g → FitsEnd h
-went_from g h base still same goes e =
+from_fits g h base still same goes e =
     let next = goes e.story e.tells in
     let ends : next.0.state.ends ≡ e.story.state.ends = run_ends next.2.path ∙ ap (λ (s : State). s.ends) (still e.story) in
     went g h same e next.0 next.1 (the_same e.story.state.ends next.0.state.ends ends)
 
--- in the place of that one, which is this one
+pub goes_fits : (g h : Guest) → known_of h ≡ known_of g → Goes g.connection.conversation h.connection.conversation → FitsEnd g → FitsEnd h
+goes_fits g h same goes fits = from_fits g h (λ s. s) (λ s. refl) same goes.on fits
 
-one : (place : Option Guest) (g f : Guest) → place ≡ Some f → place ≡ Some g → FitsEnd g → FitsEnd f
-one place g f there is fits = let same : g ≡ f = cc in subst FitsEnd same fits
-
-pub same_fits : (place : Option Guest) (g f h : Guest) → place ≡ Some f → place ≡ Some g → h ≡ f → FitsEnd g → FitsEnd h
-same_fits place g f h there is same fits = subst FitsEnd (sym same) (one place g f there is fits)
-
-pub from_fits : (place : Option Guest) (g f h : Guest) (base : Story → Story) → ((s : Story) → (base s).state ≡ s.state) → place ≡ Some f → place ≡ Some g
-    → known_of h ≡ known_of f → GoesFrom f.connection.conversation h.connection.conversation base → FitsEnd g → FitsEnd h
-from_fits place g f h base still there is same goes fits = went_from f h base still same goes (one place g f there is fits)
-
-pub goes_fits : (place : Option Guest) (g f h : Guest) → place ≡ Some f → place ≡ Some g → known_of h ≡ known_of f
-    → Goes f.connection.conversation h.connection.conversation → FitsEnd g → FitsEnd h
-goes_fits place g f h there is same goes fits = from_fits place g f h (λ s. s) (λ s. refl) there is same goes.on fits
-
-hears_fits : (place : Option Guest) (g f h : Guest) (bytes : List ℕ) → place ≡ Some f → place ≡ Some g → known_of h ≡ known_of f
-    → Hears f.connection.conversation h.connection.conversation bytes → FitsEnd g → FitsEnd h
-hears_fits place g f h bytes there is same hears fits =
-    let e = one place g f there is fits in
+pub hears_fits : (g h : Guest) (bytes : List ℕ) → known_of h ≡ known_of g → Hears g.connection.conversation h.connection.conversation bytes
+    → FitsEnd g → FitsEnd h
+hears_fits g h bytes same hears e =
     let next = hears.on e.story e.tells in
     let here : IsSameEnd e.story.state.ends (after_receive e.story.state bytes).ends = received_end e.story.state bytes e.tells.stands.fits.ends in
     let ends : next.0.state.ends ≡ (after_receive e.story.state bytes).ends = run_ends next.2.path in
-    went f h same e next.0 next.1 (subst (λ (x : Ends). IsSameEnd e.story.state.ends x) (sym ends) here)
+    went g h same e next.0 next.1 (subst (λ (x : Ends). IsSameEnd e.story.state.ends x) (sym ends) here)
 
-pub received_fits : (place : Option Guest) (g f h : Guest) (m : SppPacketModel) (r : Result (Unit {0}) AllocError) (bytes : List ℕ) → place ≡ Some f
-    → place ≡ Some g → spp_packet_of bytes ≡ Ok m → known_of h ≡ known_of f
-    → OnOk r ((b : List ℕ) → spp_packet_of b ≡ Ok m → Hears f.connection.conversation h.connection.conversation b) → OnErr r (h ≡ f)
-    → FitsEnd g → FitsEnd h
-received_fits place g f h m (Ok u) bytes there is read same ok err fits = hears_fits place g f h bytes there is same (ok bytes read) fits
-received_fits place g f h m (Err e) bytes there is read same ok err fits = same_fits place g f h there is err fits
+-- its conversation is as it was
+pub still_fits : (g h : Guest) → known_of h ≡ known_of g → h.connection.conversation ≡ g.connection.conversation → FitsEnd g → FitsEnd h
+still_fits g h same is e =
+    went g h same e e.story (subst (λ (t : Conversation). Tells t e.story) (sym is) e.tells) (the_same e.story.state.ends e.story.state.ends refl)
 
 pub handed_still : (side : Side) (m : Message) (s : Story) → (with_handed side s m).state ≡ s.state
 handed_still (Calls t) m s = refl

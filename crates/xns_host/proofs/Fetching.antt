@@ -7,9 +7,9 @@ use Rattle.std.proofs.lemmas.List.Sums.{sum_by-set}
 use Rattle.xns_agenda.specs.Agenda.{Plan}
 use Rattle.xns_host.specs.Hosting.{HasNoEvent, HasNoPacket, IsAllNoted}
 use Rattle.xns_agenda.specs.Turns.{HasNoTurn, Line, has_turn, with_turn}
-use Rattle.xns_host.specs.declared.connection.Connection.{Connection}
+use Rattle.xns_connection.specs.declared.connection.Connection.{Connection}
 use Rattle.xns_host.specs.declared.guest.Guest.{Guest}
-use Rattle.xns_host.specs.declared.why.Why.{Why}
+use Rattle.xns_connection.specs.declared.why.Why.{Why}
 use Rattle.xns_host.proofs.Noting.{within}
 
 abbrev Places : Type 0

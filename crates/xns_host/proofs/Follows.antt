@@ -85,7 +85,7 @@ heard_in : (now way : ℕ) (b : List ℕ) (w v : Whole) (r : Bool) (p : SppPacke
     → Comes now way b w r v → spp_packet_of b ≡ Ok p → IsPacketOf w.host p g → slice_get w.places.guests n ≡ Some (Some g)
     → (r ≡ true) × Turns (λ (f h : Guest). GuestHears now b (confirms p) f h) n w.places v.places
 unfolding names_it
-heard_in now way b w v r p n g all (foreign never still) is of there = absurd (never (ours.names p is (names_it w p n g all of there)))
+heard_in now way b w v r p n g all (foreign never) is of there = absurd (never (ours.names p is (names_it w p n g all of there)))
 heard_in now way b w v r p n g all (echoes c taken read asks waits) is of there =
     let bad : 2 ≡ 5 = sym asks.kind ∙ sequenced_kind b c taken p read is in absurd (omega (arith, bad))
 heard_in now way b w v r p n g all (refuses c taken read quotes turn) is of there =
@@ -135,7 +135,7 @@ unserved_in : (now way : ℕ) (b : List ℕ) (w v : Whole) (r : Bool) (p : Packe
     → IsAllRegistered w.register w.places.guests → Comes now way b w r v → packet_of b ≡ Ok (p, taken) → IsRefusedBy w.host p g
     → slice_get w.places.guests n ≡ Some (Some g) → (r ≡ true) × Turns (λ (f h : Guest). GuestUnserved now f h) n w.places v.places
 unfolding quotes_it
-unserved_in now way b w v r p taken n g all (foreign never still) is by there = absurd (never (ours.quotes p taken is (quotes_it w p n g all by there)))
+unserved_in now way b w v r p taken n g all (foreign never) is by there = absurd (never (ours.quotes p taken is (quotes_it w p n g all by there)))
 unserved_in now way b w v r p taken n g all (echoes c other read asks waits) is by there =
     let bad : 2 ≡ 3 = sym asks.kind ∙ (ap (λ (x : PacketModel). x.kind) (same_packet b c p other taken read is) ∙ by.kind) in
     absurd (omega (arith, bad))

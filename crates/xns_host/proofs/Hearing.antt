@@ -10,9 +10,8 @@ use Rattle.xns_idp.specs.Packet.{PacketModel, same_place}
 use Rattle.xns_idp.specs.Reading.{decode_model, packet_of}
 use Rattle.xns_idp.specs.declared.address.Address.{Address}
 use Rattle.xns_spp.specs.Ends.{is_from, is_ours_at, to_responder}
-use Rattle.xns_spp.specs.Held.{StandsFor}
 use Rattle.xns_spp.specs.Packet.{SppPacketModel, carried_by, carried_in, opener_of, spp_packet_of, with_header}
-use Rattle.xns_spp.specs.State.{State, responder_state}
+use Rattle.xns_spp.specs.State.{responder_state}
 use Rattle.xns_idp.specs.declared.fault.IdpFault.{IdpFault}
 use Rattle.xns_idp.specs.declared.packet.Packet.{Packet}
 use Rattle.xns_spp.specs.Header.{header_of}
@@ -71,12 +70,6 @@ of_opened network host p opener opener_id id window backlog here opens =
     and_true (same_place p.target (address_in network host p.target.socket)) (to_responder id p && is_from opener opener_id p)
     (one_place p.target (address_in network host p.target.socket) here refl)
     (and_true (to_responder id p) (is_from opener opener_id p) (or_true (p.header.target_id == id) (p.header.target_id == 0) unnamed) from)
-
--- the connection that was made is the one in its place
-pub stands_there : (o : Option (Option Guest)) (f g : Guest) (s : State) → o ≡ Some (Some f) → o ≡ Some (Some g)
-    → StandsFor f.connection.conversation.endpoint s → StandsFor g.connection.conversation.endpoint s
-stands_there o f g s left right stands =
-    let same : f ≡ g = cc in subst (λ (x : Guest). StandsFor x.connection.conversation.endpoint s) same stands
 
 -- ---- what was read
 

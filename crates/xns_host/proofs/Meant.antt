@@ -5,13 +5,11 @@ use Rattle.courier_messages.specs.declared.message.Message.{Message}
 use Rattle.xns_agenda.specs.Waiting.{StepsAt, act_at, after_by, still}
 use Rattle.xns_agenda.specs.declared.act.Act.{Act}
 use Rattle.xns_agenda.specs.declared.act.Act.TheVariants.{Nothing, Again, Ask, GiveUp, Forget}
-use Rattle.xns_host.specs.Deeds.{Parts, acted, acted_by, heard, with_taken}
-use Rattle.xns_host.specs.Step.{AMessageIsHandedAsByAStep, AStepKeepsItsPromises, GivesNext, Hands, MovesOwed, Step, calmly, moving_on, none_waits, parts_of}
-use Rattle.xns_host.specs.Story.{GoesOn, Story, is_stopped, waiting_message, with_handed}
-use Rattle.xns_host.specs.Telling.{Goes, Hears, Tells}
-use Rattle.xns_host.specs.declared.connection.Connection.{Connection}
-use Rattle.xns_host.specs.declared.conversation.Conversation.{Conversation}
-use Rattle.xns_host.proofs.Tellings.{deafened, marks}
+use Rattle.xns_connection.specs.Deeds.{Parts, acted, acted_by, heard, with_taken}
+use Rattle.xns_connection.specs.Step.{AMessageIsHandedAsByAStep, AStepKeepsItsPromises, GivesNext, Hands, MovesOwed, Step, calmly, moving_on, none_waits, parts_of}
+use Rattle.xns_connection.specs.Story.{GoesOn, Story, waiting_message, with_handed}
+use Rattle.xns_connection.specs.Telling.{Hears, Tells}
+use Rattle.xns_connection.specs.declared.connection.Connection.{Connection}
 
 -- ---- bytes came
 
@@ -22,11 +20,6 @@ heard_hears law now bytes c d step =
     record { wanted = λ z. p.wanted ∙ z; on = p.story }
 
 -- ---- what was due was done
-
-pub given_up_goes : (t u : Conversation) → u ≡ record t { closing = record t.closing { deaf = true } } → Goes t u
-given_up_goes t u is = subst (λ (c : Conversation). Goes t c) (sym is)
-    (marks t _ refl refl (λ items k. record { wanted = k.wanted; heard = k.heard })
-    (λ z. absurd (deafened (is_stopped t.side) t.closing.end_sent t.closing.reply_sent z)) (λ z. z) refl)
 
 pub record Acted (p q : Parts) (act : Act) (now : ℕ) : Type 0 where
   pub told : q.told ≡ p.told

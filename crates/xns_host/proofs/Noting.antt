@@ -10,14 +10,14 @@ use Rattle.xns_host.specs.Events.{event_by, event_for, event_in}
 use Rattle.xns_host.specs.Hosting.{IsAllNoted, IsNotedBut, IsNotedIn, facts_in}
 use Rattle.xns_host.specs.Knowing.{known_in}
 use Rattle.xns_agenda.specs.Turns.{Line, has_turn, with_last, with_turn}
-use Rattle.xns_host.specs.Story.{has_message, waiting_message, listed_call}
-use Rattle.xns_host.specs.declared.connection.Connection.{Connection}
+use Rattle.xns_connection.specs.Story.{has_message, waiting_message, listed_call}
+use Rattle.xns_connection.specs.declared.connection.Connection.{Connection}
 use Rattle.xns_agenda.specs.declared.facts.Facts.{Facts}
 use Rattle.xns_agenda.specs.declared.facts.TheConstants.Facts.{NONE}
 use Rattle.xns_host.specs.declared.guest.Guest.{Guest}
-use Rattle.xns_host.specs.declared.side.Side.{Side}
-use Rattle.xns_host.specs.declared.side.Side.TheVariants.{Calls, Answers}
-use Rattle.xns_host.specs.declared.why.Why.{Why}
+use Rattle.xns_connection.specs.declared.side.Side.{Side}
+use Rattle.xns_connection.specs.declared.side.Side.TheVariants.{Calls, Answers}
+use Rattle.xns_connection.specs.declared.why.Why.{Why}
 
 -- ---- places
 
@@ -80,6 +80,7 @@ other_noted a b k p is dues packets events closed strangers free = record {
     stranger = strangers ∙ is.facts.stranger;
   };
   event = λ none. is.event (sym events ∙ none);
+  news = λ has. is.news (sym events ∙ has);
   free = free ∙ is.free;
 }
 
@@ -127,6 +128,9 @@ note_quiet : (a : Plan) (n most : ℕ) (p : Option Guest) → IsFor a most → n
 note_quiet a n most p is less none =
     quiet_in n p (sym (turn_same a.events n (facts_in p).has_event (omega (arith, is.events, less))) ∙ none)
 
+note_news : (a : Plan) (n most : ℕ) (f : Facts) → IsFor a most → n < most → has_turn (noted a n f).events n ≡ true → f.has_event ≡ true
+note_news a n most f is less has = sym (turn_same a.events n f.has_event (omega (arith, is.events, less))) ∙ has
+
 free_other : (a : Plan) (n k : ℕ) (b : Bool) (p : Option Guest) → k ≢ n → IsNotedIn a k p → IsNotedIn (record a { free = with_turn a.free n b }) k p
 free_other a n k b p other is = other_noted a (record a { free = with_turn a.free n b }) k p is refl refl refl refl refl (turn_other a.free n k b other)
 
@@ -164,6 +168,7 @@ noted_all a gs n most p for_most less there but = record { each = λ k q is. by 
       (record {
         facts = note_same a n most (facts_in p) for_most less;
         event = note_quiet a n most p for_most less;
+        news = note_news a n most (facts_in p) for_most less;
         free = but.free p there;
       }))
   by k q is (inr other) = note_other a n k (facts_in p) q other (but.others k q other is)
@@ -180,7 +185,12 @@ vacated a gs n most for_most less within all = record { each = λ k q is. by k q
       let here : slice_get (slice_set gs n None) n ≡ Some q = subst (λ (m : ℕ). slice_get (slice_set gs n None) m ≡ Some q) e is in
       let same : None ≡ q = one_place None q (slice_get (slice_set gs n None) n) (place_set gs n None within) here in
       subst (λ (m : ℕ). IsNotedIn (released a n) m q) (sym e) (subst (λ (r : Option Guest). IsNotedIn (released a n) n r) same
-      (record { facts = nothing (note_same a n most NONE for_most less); event = λ none. refl; free = turn_same a.free n true (omega (arith, for_most.free, less)) }))
+      (record {
+        facts = nothing (note_same a n most NONE for_most less);
+        event = λ none. refl;
+        news = note_news a n most NONE for_most less;
+        free = turn_same a.free n true (omega (arith, for_most.free, less));
+      }))
   by k q is (inr other) =
       free_other (noted a n NONE) n k true q other (note_other a n k NONE q other (all.each k q (sym (place_other gs n k None other) ∙ is)))
 
@@ -204,11 +214,14 @@ quiet_noted a gs n most for_most less quiet all = record { each = λ k p is. by 
   by k p is (inl e) = record {
     facts = facts k p (all.each k p is);
     event = λ none. subst (λ (m : ℕ). event_in m p ≡ None) (sym e) (quiet p (subst (λ (m : ℕ). slice_get gs m ≡ Some p) e is));
+    news = λ has. let no : has_turn (with_turn a.events n false) n ≡ false = turn_same a.events n false (omega (arith, for_most.events, less)) in
+        let yes : has_turn (with_turn a.events n false) n ≡ true = subst (λ (m : ℕ). has_turn (with_turn a.events n false) m ≡ true) e has in absurd (cc);
     free = (all.each k p is).free;
   }
   by k p is (inr other) = record {
     facts = facts k p (all.each k p is);
     event = λ none. (all.each k p is).event (sym (turn_other a.events n k false other) ∙ none);
+    news = λ has. (all.each k p is).news (sym (turn_other a.events n k false other) ∙ has);
     free = (all.each k p is).free;
   }
 
@@ -225,7 +238,12 @@ empty_noted a gs most nobody none = record {
       let there : slice_get (replicate most None) k ≡ Some p = subst (λ (xs : Places). slice_get xs k ≡ Some p) none is in
       let less : k < most = omega (arith, slice_get_within (replicate most None) k p there, length-replicate {A = Option Guest} most None) in
       let here : HasNobody a k = nobody k less in
-      subst (λ (q : Option Guest). IsNotedIn a k q) (sym (none_there most k p there)) (record { facts = here.facts; event = λ quiet. refl; free = here.free });
+      subst (λ (q : Option Guest). IsNotedIn a k q) (sym (none_there most k p there)) (record {
+        facts = here.facts;
+        event = λ quiet. refl;
+        news = λ has. let no = here.event in absurd (cc);
+        free = here.free;
+      });
 }
 
 -- ---- as goals have them

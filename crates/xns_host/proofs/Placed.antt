@@ -1,80 +1,41 @@
 -- What becomes of the connection in a place, and of all of them.
-use Rattle.std.proofs.Common.{◌≡◌, ◌∙◌, ◌<◌, ◌≤◌, ap, arith, refl, subst, sym, ℕ, List, Bool, true, false, Option, Some, None, Result, Ok, Err, OnOk, OnErr, get_or, length, slice_get, slice_set}
-use Rattle.std.specs.Prelude.{◌||◌, [], ◌∷◌, ◌++◌}
-use Rattle.std.specs.Option.{is_some, option_to_list}
-use Rattle.std.proofs.lemmas.List.{set-get_or}
+use Rattle.std.proofs.Common.{◌≡◌, ◌∙◌, ◌<◌, ◌≤◌, ap, arith, refl, subst, sym, ℕ, List, Bool, true, false, Option, Some, None, Result, Ok, Err, OnErr, get_or, length, slice_get, slice_set}
+use Rattle.std.specs.Prelude.{[], ◌∷◌, ◌++◌}
+use Rattle.std.specs.Option.{option_to_list}
+use Rattle.std.proofs.lemmas.List.{length-set, set-get_or}
 use Rattle.std.proofs.lemmas.Option.{slice_get-get_or, slice_get_read, slice_get_within}
 use Rattle.std.specs.declared.alloc.AllocError.{AllocError}
-use Rattle.courier_messages.specs.declared.message.Message.{Message}
 use Rattle.xns_agenda.specs.Agenda.{Plan, noted}
 use Rattle.xns_agenda.specs.Times.{IsFirstBy}
 use Rattle.xns_agenda.specs.Turns.{has_turn, with_turn}
 use Rattle.xns_agenda.specs.declared.clock.Clock.{Clock}
-use Rattle.xns_spp.specs.Held.{StandsFor}
-use Rattle.xns_spp.specs.Receiving.{StoresBytes}
-use Rattle.xns_spp.specs.State.{State}
 use Rattle.xns_host.specs.Events.{event_in}
-use Rattle.xns_host.specs.Hosting.{IsAllNoted, IsApart, IsThere, facts_in, is_done}
-use Rattle.xns_host.specs.Places.{ActsAll, ActsAt, AsksEvent, AsksInVain, AsksPacket, GivesNone, IsUnmoved, NextPacket, Places, Turns, became, nobody, noted_again, taken_by, vacated, event_passed, places_with, vacated_if, quiet, tells}
-use Rattle.xns_host.specs.Step.{GivesNext, Hands}
-use Rattle.xns_host.specs.Story.{waiting_message}
+use Rattle.xns_host.specs.Hosting.{IsAllNoted, IsApart, facts_in, facts_of, may_go}
+use Rattle.xns_host.specs.Places.{ActsAll, ActsAt, AsksEvent, AsksInVain, AsksPacket, GivesNone, NextPacket, Places, Turns, became, nobody, taken_by, vacated, event_passed, places_with, vacated_if, quiet, tells}
 use Rattle.xns_host.specs.Strays.{StrayQueue}
-use Rattle.xns_host.specs.Went.{GuestActs, GuestGives, GuestHeard, GuestHears, GuestTells, InPlace, given_by, hears, lost}
-use Rattle.xns_host.specs.declared.connection.Connection.{Connection}
+use Rattle.xns_host.specs.Went.{GuestActs, GuestTells, given_by}
 use Rattle.xns_host.specs.declared.event.Event.{Event}
 use Rattle.xns_host.specs.declared.guest.Guest.{Guest}
 use Rattle.xns_host.specs.declared.host_fault.HostFault.{HostFault}
+use Rattle.xns_host.specs.declared.host_fault.HostFault.TheVariants.{NoMemory}
 use Rattle.xns_host.specs.declared.outgoing.Outgoing.{Outgoing}
 use Rattle.xns_host.proofs.Apart.{apart_then, set_apart, set_there}
 
--- ---- in its place
-
-pub placed : (P : Guest → Guest → Type 0) (old : Option Guest) (g h : Guest) → old ≡ Some g → P g h → InPlace P old (Some h)
-placed P old g h is p = subst (λ (o : Option Guest). InPlace P o (Some h)) (sym is) p
-
-pub nobody_in : (P : Guest → Guest → Type 0) (old : Option Guest) → old ≡ None → InPlace P old old
-nobody_in P None is = tt
-nobody_in P (Some g) is = absurd (cc)
-
--- ---- one that tells something
-
-pub told_message : (now : ℕ) (g : Guest) (next : Connection) (m : Message) → waiting_message g.connection.conversation.side ≡ Some m → Hands now g.connection next
-    → GuestTells now g (record g { connection = next; heard_of = true })
-told_message now g next m waits step = record {
-  same = ap (λ (o : Option Message). let h : Guest = record g { connection = next; heard_of = is_some o || g.heard_of } in h) (sym waits);
-  handed = λ some. step;
-  closed = λ none. absurd (cc);
-}
-
-pub told_why : (now : ℕ) (g : Guest) (next : Connection) → waiting_message g.connection.conversation.side ≡ None → next ≡ record g.connection { told = true }
-    → GuestTells now g (record g { connection = next })
-told_why now g next none is = record {
-  same = ap (λ (o : Option Message). let h : Guest = record g { connection = next; heard_of = is_some o || g.heard_of } in h) (sym none);
-  handed = λ some. absurd (some none);
-  closed = λ z. is;
-}
-
--- ---- one that bytes come to
-
-pub heard_or_lost : (now : ℕ) (b : List ℕ) (confirming : Bool) (g h : Guest) (r : Result (Unit {0}) AllocError) → OnOk r (GuestHeard now b confirming g h)
-    → OnErr r (h ≡ g) → OnErr r ((s : State) → StandsFor g.connection.conversation.endpoint s → StoresBytes s b) → GuestHears now b confirming g h
-heard_or_lost now b confirming g h (Ok u) heard same stores = hears heard
-heard_or_lost now b confirming g h (Err e) heard same stores =
-    subst (λ (x : Guest). GuestHears now b confirming g x) (sym same) (lost stores)
-
-pub on_ok : (r : Result (Unit {0}) AllocError) (A B : Type 0) → (A → B) → OnOk r A → OnOk r B
-on_ok (Ok u) A B f a = f a
-on_ok (Err e) A B f a = tt
-
-pub on_err : (r : Result (Unit {0}) AllocError) (A B : Type 0) → (A → B) → OnErr r A → OnErr r B
-on_err (Ok u) A B f a = tt
-on_err (Err e) A B f a = f a
-
 -- ---- one that gives a packet
 
-pub gives_by : (now : ℕ) (g : Guest) (next : Connection) (answer : Result (Option (List ℕ)) AllocError) (r : Result (Option Outgoing) HostFault)
-    → GivesNext now answer g.connection next → r ≡ given_by g.via next.owed.fresh answer → GuestGives now r g (record g { connection = next })
-gives_by now g next answer r gave is = record { answer = answer; same = refl; gave = gave; is = is }
+-- where it has none, none is left
+pub rested_so : (way : ℕ) (left : Bool) (answer : Result (Option (List ℕ)) AllocError) → Ok None ≡ given_by way left answer → left ≡ false
+rested_so way left (Ok (Some p)) is = absurd (cc)
+rested_so way true (Ok None) is = absurd (cc)
+rested_so way false (Ok None) is = refl
+rested_so way left (Err e) is = absurd (cc)
+
+pub given_fault : (way : ℕ) (left : Bool) (answer : Result (Option (List ℕ)) AllocError) (r : Result (Option Outgoing) HostFault) → r ≡ given_by way left answer
+    → OnErr r (r ≡ Err NoMemory)
+given_fault way left (Ok (Some p)) r is = subst (λ (x : Result (Option Outgoing) HostFault). OnErr x (x ≡ Err NoMemory)) (sym is) tt
+given_fault way true (Ok None) r is = subst (λ (x : Result (Option Outgoing) HostFault). OnErr x (x ≡ Err NoMemory)) (sym is) refl
+given_fault way false (Ok None) r is = subst (λ (x : Result (Option Outgoing) HostFault). OnErr x (x ≡ Err NoMemory)) (sym is) tt
+given_fault way left (Err e) r is = subst (λ (x : Result (Option Outgoing) HostFault). OnErr x (x ≡ Err NoMemory)) (sym is) refl
 
 -- ---- all places
 
@@ -95,51 +56,26 @@ asked_quiet now n gs a b old v o silent less read same none passed =
     subst (λ (x : Option Event). AsksEvent now n (places_with gs a) x (places_with (slice_set gs n v) b)) (sym silent)
     (subst (λ (p : Places). AsksEvent now n (places_with gs a) None p) (sym e) (quiet old (there gs n old less read) none))
 
-became_by : (p : Places) (n : ℕ) (h : Guest) (b d : Plan) (hs ks : Row) (done : Bool) → hs ≡ slice_set p.guests n (Some h) → b ≡ noted p.agenda n (facts_in (Some h))
-    → done ≡ is_done (Some h) → places_with ks d ≡ vacated_if done (places_with hs b) n → places_with ks d ≡ became p n h
-became_by p n h b d hs ks done items noting is settled =
-    settled ∙ (ap (λ (x : Bool). vacated_if x (places_with hs b) n) is
-    ∙ (ap (λ (xs : Row). vacated_if (is_done (Some h)) (places_with xs b) n) items
-    ∙ ap (λ (x : Plan). vacated_if (is_done (Some h)) (places_with (slice_set p.guests n (Some h)) x) n) noting))
+became_by : (p : Places) (n : ℕ) (h : Guest) (x d : Plan) (ks : Row) (done : Bool) → x ≡ noted p.agenda n (facts_of h) → done ≡ may_go h.connection
+    → places_with ks d ≡ vacated_if done (places_with (slice_set p.guests n (Some h)) x) n → places_with ks d ≡ became p n h
+became_by p n h x d ks done noting is settled =
+    settled ∙ (ap (λ (b : Bool). vacated_if b (places_with (slice_set p.guests n (Some h)) x) n) is
+    ∙ ap (λ (y : Plan). vacated_if (may_go h.connection) (places_with (slice_set p.guests n (Some h)) y) n) noting)
 
-pub asked_tells : (now n : ℕ) (gs hs ks : Row) (a b x d : Plan) (old v : Option Guest) (event : Event) (done : Bool) → n < length gs → old ≡ get_or gs n old
-    → event_in n old ≡ Some event → InPlace (λ (g h : Guest). GuestTells now g h) old v → b ≡ record a { events = with_turn a.events n false }
-    → hs ≡ slice_set gs n v → x ≡ noted b n (facts_in v) → done ≡ is_done v → places_with ks d ≡ vacated_if done (places_with hs x) n
+pub asked_tells : (now n : ℕ) (gs ks : Row) (a b x d : Plan) (g h : Guest) (event : Event) (done : Bool) → slice_get gs n ≡ Some (Some g)
+    → event_in n (Some g) ≡ Some event → GuestTells now g h → b ≡ record a { events = with_turn a.events n false } → x ≡ noted b n (facts_of h)
+    → done ≡ may_go h.connection → places_with ks d ≡ vacated_if done (places_with (slice_set gs n (Some h)) x) n
     → AsksEvent now n (places_with gs a) (Some event) (places_with ks d)
-asked_tells now n gs hs ks a b x d None v event done less read some turn passed items noting is settled = absurd (cc)
-asked_tells now n gs hs ks a b x d (Some g) None event done less read some turn passed items noting is settled = absurd turn
-asked_tells now n gs hs ks a b x d (Some g) (Some h) event done less read some turn passed items noting is settled =
+asked_tells now n gs ks a b x d g h event done here some turn passed noting is settled =
     let e : places_with ks d ≡ became (event_passed (places_with gs a) n) n h
-    = became_by (event_passed (places_with gs a) n) n h x d hs ks done items (noting ∙ ap (λ (y : Plan). noted y n (facts_in (Some h))) passed) is settled in
-    subst (λ (p : Places). AsksEvent now n (places_with gs a) (Some event) p) (sym e) (tells g h event (there gs n (Some g) less read) some turn)
+    = became_by (event_passed (places_with gs a) n) n h x d ks done (noting ∙ ap (λ (y : Plan). noted y n (facts_of h)) passed) is settled in
+    subst (λ (p : Places). AsksEvent now n (places_with gs a) (Some event) p) (sym e) (tells g h event here some turn)
 
-pub acts_at : (now n : ℕ) (gs hs ks : Row) (a x d : Plan) (old v : Option Guest) (f : Guest) (done : Bool) → n < length gs → old ≡ get_or gs n old
-    → slice_get gs n ≡ Some (Some f) → InPlace (λ (g h : Guest). GuestActs now g h) old v → hs ≡ slice_set gs n v → x ≡ noted a n (facts_in v) → done ≡ is_done v
-    → places_with ks d ≡ vacated_if done (places_with hs x) n → ActsAt now n (places_with gs a) (places_with ks d)
-acts_at now n gs hs ks a x d None v f done less read at turn items noting is settled =
-    let none = there gs n None less read in absurd (cc)
-acts_at now n gs hs ks a x d (Some g) None f done less read at turn items noting is settled = absurd turn
-acts_at now n gs hs ks a x d (Some g) (Some h) f done less read at turn items noting is settled = record {
-  guest = g;
-  next = h;
-  was = there gs n (Some g) less read;
-  acts = turn;
-  is = became_by (places_with gs a) n h x d hs ks done items noting is settled;
-}
-
-pub asks_packet : (now n : ℕ) (gs hs : Row) (a b x : Plan) (old v : Option Guest) (f : Guest) (r : Result (Option Outgoing) HostFault) → n < length gs
-    → old ≡ get_or gs n old → slice_get gs n ≡ Some (Some f) → InPlace (λ (g h : Guest). GuestGives now r g h) old v
-    → b ≡ record a { packets = with_turn a.packets n false } → hs ≡ slice_set gs n v → x ≡ noted b n (facts_in v)
-    → AsksPacket now n r (places_with gs a) (places_with hs x)
-asks_packet now n gs hs a b x None v f r less read at turn passed items noting = let none = there gs n None less read in absurd (cc)
-asks_packet now n gs hs a b x (Some g) None f r less read at turn passed items noting = absurd turn
-asks_packet now n gs hs a b x (Some g) (Some h) f r less read at turn passed items noting = record {
-  guest = g;
-  next = h;
-  was = there gs n (Some g) less read;
-  turn = turn;
-  is = ap (λ (xs : Row). places_with xs x) items ∙ ap (λ (y : Plan). places_with (slice_set gs n (Some h)) y) (noting ∙ ap (λ (y : Plan). noted y n (facts_in (Some h))) passed);
-}
+pub acts_at : (now n : ℕ) (gs ks : Row) (a x d : Plan) (g h : Guest) (done : Bool) → slice_get gs n ≡ Some (Some g) → GuestActs now g h
+    → x ≡ noted a n (facts_of h) → done ≡ may_go h.connection → places_with ks d ≡ vacated_if done (places_with (slice_set gs n (Some h)) x) n
+    → ActsAt now n (places_with gs a) (places_with ks d)
+acts_at now n gs ks a x d g h done here turn noting is settled =
+    record { guest = g; next = h; was = here; acts = turn; is = became_by (places_with gs a) n h x d ks done noting is settled }
 
 -- ---- as loops have them
 
@@ -174,6 +110,9 @@ who_is_due a gs now n all less first =
 
 pub no_place : (gs : Row) (n : ℕ) (p : Option Guest) → slice_get gs n ≡ Some p → length gs ≤ n → ⊥
 no_place gs n p at far = let less = slice_get_within gs n p at in absurd (omega (arith, less, far))
+
+pub other_place : (gs : Row) (n : ℕ) (old : Option Guest) (g : Guest) → n < length gs → old ≡ get_or gs n old → old ≡ None → slice_get gs n ≡ Some (Some g) → ⊥
+other_place gs n old g less read none at = let here = there gs n old less read in cc
 
 -- all that was due was done, and as often as it had none the one whose turn it was was asked for a packet
 pub record GoneFrom (now : ℕ) (p r : Places) : Type 0 where
@@ -214,25 +153,15 @@ some_stray q r (Some t) s some waiting none = let bad : t ∷ r.waiting ≡ [] =
 
 -- ---- one in its place
 
-pub turns_at : (P : Guest → Guest → Type 0) (Q : Guest → Type 0) (n : ℕ) (gs hs : Row) (a x : Plan) (old v : Option Guest) → n < length gs → old ≡ get_or gs n old
-    → IsThere Q (Some old) → InPlace P old v → hs ≡ slice_set gs n v → x ≡ noted a n (facts_in v) → Turns P n (places_with gs a) (places_with hs x)
-turns_at P Q n gs hs a x None v less read is turn items noting = let none = is.there in absurd (cc)
-turns_at P Q n gs hs a x (Some g) None less read is turn items noting = absurd turn
-turns_at P Q n gs hs a x (Some g) (Some h) less read is turn items noting = record {
+pub turns_at : (P : Guest → Guest → Type 0) (n : ℕ) (gs : Row) (a b x : Plan) (g h : Guest) → slice_get gs n ≡ Some (Some g) → P g h → b ≡ a
+    → x ≡ noted b n (facts_of h) → Turns P n (places_with gs a) (places_with (slice_set gs n (Some h)) x)
+turns_at P n gs a b x g h here turn same noting = record {
   guest = g;
   next = h;
-  was = there gs n (Some g) less read;
+  was = here;
   turn = turn;
-  is = ap (λ (xs : Row). places_with xs x) items ∙ ap (λ (y : Plan). places_with (slice_set gs n (Some h)) y) noting;
+  is = ap (λ (y : Plan). places_with (slice_set gs n (Some h)) y) (noting ∙ ap (λ (y : Plan). noted y n (facts_of h)) same);
 }
-
-pub unmoved_at : (n : ℕ) (gs hs : Row) (a x : Plan) (old v : Option Guest) → n < length gs → old ≡ get_or gs n old → v ≡ old → hs ≡ slice_set gs n v
-    → x ≡ noted a n (facts_in v) → IsUnmoved (places_with gs a) (places_with hs x)
-unmoved_at n gs hs a x old v less read same items noting =
-    let e : places_with hs x ≡ places_with gs (noted a n (facts_in old))
-    = ap (λ (xs : Row). places_with xs x) (items ∙ set_back gs n old v read same)
-    ∙ ap (λ (y : Plan). places_with gs y) (noting ∙ ap (λ (p : Option Guest). noted a n (facts_in p)) same) in
-    subst (λ (p : Places). IsUnmoved (places_with gs a) p) (sym e) (noted_again n old (there gs n old less read))
 
 pub taken_as : (gs : Row) (n : ℕ) (g h : Guest) (q p : Places) → slice_get gs n ≡ Some (Some g) → slice_get gs n ≡ Some (Some h)
     → q ≡ taken_by (vacated p n) n g → q ≡ taken_by (vacated p n) n h
@@ -266,3 +195,8 @@ settled_apart gs ks x d n false is = record { others = λ k other. ap (λ (xs : 
 pub taken_apart : (gs ks : Row) (x d : Plan) (n : ℕ) (g : Guest) → places_with ks d ≡ taken_by (vacated (places_with gs x) n) n g → IsApart gs ks n
 taken_apart gs ks x d n g is =
     apart_then gs (slice_set gs n None) ks n (set_apart gs (slice_set gs n None) n None refl) (set_apart (slice_set gs n None) ks n (Some g) (ap rows is))
+
+pub taken_there : (gs ks : Row) (x d : Plan) (n : ℕ) (g : Guest) → places_with ks d ≡ taken_by (vacated (places_with gs x) n) n g → n < length gs
+    → slice_get ks n ≡ Some (Some g)
+taken_there gs ks x d n g is less =
+    set_there (slice_set gs n None) ks n (Some g) (subst (λ (m : ℕ). n < m) (sym (length-set gs n None)) less) (ap rows is)

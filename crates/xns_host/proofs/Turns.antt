@@ -1,25 +1,47 @@
 -- A step of a host from one of the connection in a place.
-use Rattle.std.proofs.Common.{◌≡◌, ◌<◌, ◌∙◌, ap, refl, sym, subst, ℕ, List, Option, Some, None, Result, Ok, Err, OnOk, OnErr, get_or, slice_get, slice_set, length, true}
+use Rattle.std.proofs.Common.{◌≡◌, ◌≢◌, ◌⊎◌, inl, inr, ◌<◌, ◌∙◌, ap, refl, sym, subst, ℕ, Bool, List, Option, Some, None, Result, get_or, slice_get, slice_set, length, true, false}
+use Rattle.std.specs.Prelude.{◌||◌, if◌then◌else◌}
+use Rattle.std.specs.Option.{is_some}
+use Rattle.std.proofs.lemmas.List.{length-set}
 use Rattle.std.proofs.lemmas.Option.{slice_get_read}
-use Rattle.xns_host.specs.Deeds.{Deed, gave, told_by, with_answer}
-use Rattle.xns_host.specs.Hosting.{HasNoneDone, IsApart, IsNotDoneIn, has_guest}
+use Rattle.courier_messages.specs.declared.message.Message.{Message}
+use Rattle.courier_sessions.specs.declared.answer.Answer.{Answer}
+use Rattle.xns_agenda.specs.Agenda.{Plan}
+use Rattle.xns_agenda.specs.Waiting.{act_at}
+use Rattle.xns_connection.specs.Deeds.{Deed, gave, heard, told_by, with_answer}
+use Rattle.xns_host.specs.Events.{event_by, event_for}
+use Rattle.xns_host.specs.Hosting.{HasNoneDone, IsAllNoted, IsApart, IsNotDone, IsNotDoneIn, IsNotedBut, has_guest, may_go}
 use Rattle.xns_host.specs.Knowing.{known_in, known_of}
-use Rattle.xns_host.specs.Registered.{FitsEnd, FitsEndIn, IsAllRegistered}
-use Rattle.xns_host.specs.Step.{AStepKeepsItsPromises}
-use Rattle.xns_host.specs.Story.{Story, asked_of}
-use Rattle.xns_host.specs.Went.{GuestStep, Went}
+use Rattle.xns_host.specs.Places.{places_with, vacated_if}
+use Rattle.xns_host.specs.Registered.{FitsEnd, IsAllRegistered}
+use Rattle.xns_connection.specs.Step.{AConnectionGivesWhatItMade, AMessageIsHandedAsByAStep, AStepKeepsItsPromises, Step}
+use Rattle.xns_connection.specs.Story.{Story, asked_of, waiting_message, with_handed}
+use Rattle.xns_connection.specs.Telling.{Goes}
+use Rattle.xns_host.specs.Went.{GuestActs, GuestGives, GuestHears, GuestStep, GuestTells, GuestUnserved, Went, hears, lost}
+use Rattle.xns_connection.specs.declared.connection.Connection.{Connection}
+use Rattle.xns_host.specs.declared.event.Event.{Event}
 use Rattle.xns_host.specs.declared.guest.Guest.{Guest}
 use Rattle.xns_host.specs.declared.host_fault.HostFault.{HostFault}
+use Rattle.xns_host.specs.declared.outgoing.Outgoing.{Outgoing}
 use Rattle.xns_host.specs.declared.register.Register.{Register}
-use Rattle.xns_host.specs.declared.side.Side.{Side}
-use Rattle.courier_sessions.specs.declared.answer.Answer.{Answer}
-use Rattle.xns_host.proofs.Ends.{from_fits}
-use Rattle.xns_host.proofs.Noting.{place_other, place_set}
+use Rattle.xns_connection.specs.declared.side.Side.{Side}
+use Rattle.xns_connection.specs.declared.why.Why.{Why}
+use Rattle.xns_host.proofs.Ends.{from_fits, goes_fits, handed_still, hears_fits, still_fits}
+use Rattle.xns_host.proofs.Meant.{acts_so, given_so, handed_story, handing, handing_steps, heard_hears}
+use Rattle.xns_host.proofs.Noting.{kept_but, place_other, place_set, same_or_other}
+use Rattle.xns_host.proofs.Placed.{set_back, settled_apart, settled_gone, settled_kept}
 use Rattle.xns_host.proofs.Registered.{still_registered}
-use Rattle.xns_host.proofs.Undone.{not_done_after, waits_on, still_not_done}
+use Rattle.xns_host.proofs.Undone.{not_done_act, not_done_after, not_done_steps, not_done_told, still_not_done, waits_on}
 
 abbrev Places : Type 0
 Places = List (Option Guest)
+
+-- ---- a connection that went on
+
+-- what a host knows of it is as it was, and its end has that still
+pub record Stays (g h : Guest) : Type 0 where
+  pub known : known_of h ≡ known_of g
+  pub fits : FitsEnd g → FitsEnd h
 
 -- a deed of the program leaves the end as it was
 abbrev pub IsStill : Deed → Type 0
@@ -32,73 +54,160 @@ answer_still (Some k) kind words h = refl
 pub gave_still : (kind : Answer) (words : List ℕ) → IsStill (gave kind words)
 gave_still kind words side h = answer_still (asked_of side) kind words h
 
--- ---- one that went on in its place
+pub step_stays : AStepKeepsItsPromises → (now : ℕ) (deed : Deed) (g h : Guest) → IsStill deed → GuestStep now deed g h → Stays g h
+step_stays law now deed g h still s =
+    let known : known_of h ≡ known_of g = ap known_of s.same in
+    record {
+      known = known;
+      fits = from_fits g h (told_by deed g.connection.conversation.side) (still g.connection.conversation.side) known (law now deed g.connection h.connection s.step).story;
+    }
 
-known_went : (now : ℕ) (deed : Deed) (old v : Option Guest) → Went now deed (Some old) (Some v) → known_in v ≡ known_in old
-known_went now deed None v w = absurd w
-known_went now deed (Some g) None w = absurd w
-known_went now deed (Some g) (Some h) w = ap (λ (x : Guest). Some (known_of x)) w.same
+pub step_undone : (now : ℕ) (deed : Deed) (c d : Connection) → Step now deed c d → IsNotDone c → IsNotDone d
+step_undone now deed c d s = not_done_after c d s.told s.stays (λ at. waits_on now deed c.wait d.wait at s.steps)
 
-fits_went : AStepKeepsItsPromises → (now : ℕ) (deed : Deed) (old v : Option Guest) → IsStill deed → Went now deed (Some old) (Some v) → (g : Guest) → old ≡ Some g → FitsEnd g → FitsEndIn v
-fits_went law now deed None v still w g is fits = absurd w
-fits_went law now deed (Some f) None still w g is fits = absurd w
-fits_went law now deed (Some f) (Some h) still w g is fits =
-    from_fits (Some f) g f h (told_by deed f.connection.conversation.side) (still f.connection.conversation.side) refl is (ap known_of w.same)
-    (law now deed f.connection h.connection w.step).story fits
+pub heard_stays : AStepKeepsItsPromises → (now : ℕ) (b : List ℕ) (confirming : Bool) (g h : Guest) → GuestHears now b confirming g h → Stays g h
+heard_stays law now b confirming g h (hears is) =
+    let known : known_of h ≡ known_of g = ap known_of is.same in
+    record { known = known; fits = hears_fits g h b known (heard_hears law now b g.connection h.connection is.step) }
+heard_stays law now b confirming g h (lost stores) = record { known = refl; fits = λ e. e }
 
-undone_went : (now : ℕ) (deed : Deed) (old v : Option Guest) → Went now deed (Some old) (Some v) → IsNotDoneIn old → IsNotDoneIn v
-undone_went now deed None v w was = absurd w
-undone_went now deed (Some g) None w was = absurd w
-undone_went now deed (Some g) (Some h) w was = not_done_after g.connection h.connection w.step.told w.step.stays (λ at. waits_on now deed g.connection.wait h.connection.wait at w.step.steps) was
+pub heard_undone : (now : ℕ) (b : List ℕ) (confirming : Bool) (g h : Guest) → GuestHears now b confirming g h → IsNotDone g.connection → IsNotDone h.connection
+heard_undone now b confirming g h (hears is) = step_undone now (heard b) g.connection h.connection is.step
+heard_undone now b confirming g h (lost stores) = λ was. was
 
--- ---- and where that was refused, it stayed
+pub unserved_stays : (now : ℕ) (g h : Guest) → GuestUnserved now g h → Goes g.connection.conversation h.connection.conversation → Stays g h
+unserved_stays now g h is goes =
+    let known : known_of h ≡ known_of g = ap known_of is.same in
+    record { known = known; fits = goes_fits g h known goes }
 
-pub slot_known : (now : ℕ) (deed : Deed) (r : Result (Unit {0}) HostFault) (old v : Option Guest) → OnOk r (Went now deed (Some old) (Some v)) → OnErr r (v ≡ old)
-    → known_in v ≡ known_in old
-slot_known now deed (Ok u) old v w same = known_went now deed old v w
-slot_known now deed (Err e) old v w same = ap known_in same
+pub acted_stays : (now : ℕ) (g h : Guest) → GuestActs now g h → Goes g.connection.conversation h.connection.conversation → Stays g h
+acted_stays now g h is goes =
+    let known : known_of h ≡ known_of g = ap known_of is.same in
+    record { known = known; fits = goes_fits g h known goes }
 
-slot_fits : AStepKeepsItsPromises → (now : ℕ) (deed : Deed) (r : Result (Unit {0}) HostFault) (old v : Option Guest) → IsStill deed → OnOk r (Went now deed (Some old) (Some v))
-    → OnErr r (v ≡ old) → (g : Guest) → old ≡ Some g → FitsEnd g → FitsEndIn v
-slot_fits law now deed (Ok u) old v still w same g is fits = fits_went law now deed old v still w g is fits
-slot_fits law now deed (Err e) old v still w same g is fits = subst FitsEndIn (sym (same ∙ is)) fits
+pub acted_undone : (now : ℕ) (g h : Guest) → GuestActs now g h → may_go h.connection ≡ false → IsNotDone g.connection → IsNotDone h.connection
+acted_undone now g h is left was =
+    let k = acts_so now g.connection h.connection is.parts in
+    not_done_act now g.connection h.connection (act_at g.connection.wait now) refl k.told k.closed k.wait left was
 
-slot_undone : (now : ℕ) (deed : Deed) (r : Result (Unit {0}) HostFault) (old v : Option Guest) → OnOk r (Went now deed (Some old) (Some v)) → OnErr r (v ≡ old)
-    → IsNotDoneIn old → IsNotDoneIn v
-slot_undone now deed (Ok u) old v w same was = undone_went now deed old v w was
-slot_undone now deed (Err e) old v w same was = subst IsNotDoneIn (sym same) was
+pub gave_stays : AConnectionGivesWhatItMade → (now : ℕ) (r : Result (Option Outgoing) HostFault) (g h : Guest) → GuestGives now r g h → Stays g h
+gave_stays law now r g h is =
+    let known : known_of h ≡ known_of g = ap known_of is.same in
+    record { known = known; fits = goes_fits g h known (law now is.answer g.connection h.connection is.gave).goes }
 
-pub slot_registered : AStepKeepsItsPromises → (now : ℕ) (deed : Deed) (r : Result (Unit {0}) HostFault) (reg : Register) (gs : Places) (n : ℕ) (old v : Option Guest) → IsAllRegistered reg gs
-    → IsStill deed → OnOk r (Went now deed (Some old) (Some v)) → OnErr r (v ≡ old) → old ≡ get_or gs n old → n < length gs
-    → IsAllRegistered reg (slice_set gs n v)
-slot_registered law now deed r reg gs n old v all still w same read less =
-    still_registered reg gs n old v all (slot_known now deed r old v w same) (slot_fits law now deed r old v still w same) read less
+pub gave_undone : (now : ℕ) (r : Result (Option Outgoing) HostFault) (g h : Guest) → GuestGives now r g h → IsNotDone g.connection → IsNotDone h.connection
+gave_undone now r g h is =
+    let k = given_so now is.answer g.connection h.connection is.gave in
+    not_done_steps now g.connection h.connection k.0 k.1 is.gave.steps
 
-pub slot_not_done : (now : ℕ) (deed : Deed) (r : Result (Unit {0}) HostFault) (gs : Places) (n : ℕ) (old v : Option Guest) → HasNoneDone gs
-    → OnOk r (Went now deed (Some old) (Some v)) → OnErr r (v ≡ old) → old ≡ get_or gs n old → n < length gs → HasNoneDone (slice_set gs n v)
-slot_not_done now deed r gs n old v all w same read less = still_not_done gs n old v all (slot_undone now deed r old v w same) read less
+-- ---- one that told something
 
--- ---- in the places of a host
+told_fits : AMessageIsHandedAsByAStep → (now : ℕ) (g h : Guest) (o : Option Message) → waiting_message g.connection.conversation.side ≡ o → GuestTells now g h
+    → known_of h ≡ known_of g → FitsEnd g → FitsEnd h
+told_fits law now g h (Some m) waits t known =
+    from_fits g h (λ s. with_handed g.connection.conversation.side s m) (handed_still g.connection.conversation.side m) known
+    (handed_story law now g.connection h.connection m waits (t.handed (λ none. cc)))
+told_fits law now g h None waits t known = still_fits g h known (ap (λ (c : Connection). c.conversation) (t.closed waits))
 
-pub went_set : (t u : ℕ) (deed : Deed) (gs : Places) (n : ℕ) (old v : Option Guest) → t ≡ u → n < length gs → old ≡ get_or gs n old
-    → Went t deed (Some old) (Some v) → Went u deed (slice_get gs n) (slice_get (slice_set gs n v) n)
-went_set t u deed gs n old v same less read w =
-    let there : slice_get gs n ≡ Some old = slice_get_read gs (length gs) n old refl less read in
-    subst (λ (x : ℕ). Went x deed (slice_get gs n) (slice_get (slice_set gs n v) n)) same
-    (subst (λ (p : Option (Option Guest)). Went t deed p (slice_get (slice_set gs n v) n)) (sym there)
-    (subst (λ (p : Option (Option Guest)). Went t deed (Some old) p) (sym (place_set gs n v less)) w))
+pub told_stays : AMessageIsHandedAsByAStep → (now : ℕ) (g h : Guest) → GuestTells now g h → Stays g h
+told_stays law now g h t =
+    let known : known_of h ≡ known_of g = ap known_of t.same in
+    record { known = known; fits = told_fits law now g h (waiting_message g.connection.conversation.side) refl t known }
 
--- ---- as goals have them
+has_why : (number : ℕ) (told : Bool) (why : Option Why) (e : Event) → event_by number None (if told then None else why) ≡ Some e → (told || is_some why) ≡ true
+has_why number true why e some = refl
+has_why number false None e some = absurd (cc)
+has_why number false (Some w) e some = refl
 
-pub in_place : (now : ℕ) (deed : Deed) (old : Option Guest) (g h : Guest) → old ≡ Some g → GuestStep now deed g h → Went now deed (Some old) (Some (Some h))
-in_place now deed old g h is step = subst (λ (p : Option Guest). Went now deed (Some p) (Some (Some h))) (sym is) step
+undone_by : AMessageIsHandedAsByAStep → (now number : ℕ) (g h : Guest) (e : Event) (o : Option Message) → waiting_message g.connection.conversation.side ≡ o
+    → event_for number g.connection ≡ Some e → GuestTells now g h → may_go h.connection ≡ false → IsNotDone g.connection → IsNotDone h.connection
+undone_by law now number g h e (Some m) waits some t left was =
+    let hands = t.handed (λ none. cc) in
+    let k = handing now g.connection h.connection hands in
+    not_done_steps now g.connection h.connection k.told k.closed (handing_steps law now g.connection h.connection hands) was
+undone_by law now number g h e None waits some t left was =
+    let c = g.connection in
+    let now_told : h.connection.told ≡ true = ap (λ (d : Connection). d.told) (t.closed waits) in
+    let why : (c.told || is_some c.closed) ≡ true
+    = has_why number c.told c.closed e (ap (λ (o : Option Message). event_by number o (if c.told then None else c.closed)) (sym waits) ∙ some) in
+    not_done_told c h.connection (t.closed waits ∙ ap (λ (b : Bool). let d : Connection = record c { told = b } in d) (sym now_told)) (now_told ∙ sym why) left was
+
+pub told_undone : AMessageIsHandedAsByAStep → (now number : ℕ) (g h : Guest) (e : Event) → event_for number g.connection ≡ Some e → GuestTells now g h
+    → may_go h.connection ≡ false → IsNotDone g.connection → IsNotDone h.connection
+told_undone law now number g h e some t = undone_by law now number g h e (waiting_message g.connection.conversation.side) refl some t
+
+-- ---- in its place
 
 pub is_there : (gs : Places) (n : ℕ) (old : Option Guest) (g : Guest) → n < length gs → old ≡ get_or gs n old → old ≡ Some g
     → slice_get gs n ≡ Some (Some g)
 is_there gs n old g less read is = slice_get_read gs (length gs) n old refl less read ∙ ap Some is
 
+pub stays_noted : (a : Plan) (gs hs : Places) (n : ℕ) (old : Option Guest) (g h : Guest) → IsAllNoted a gs → old ≡ Some g → Stays g h → n < length gs
+    → old ≡ get_or gs n old → hs ≡ slice_set gs n (Some h) → IsNotedBut a hs n
+stays_noted a gs hs n old g h all is stays less read items = kept_but a gs hs n old (Some h) all less read items (ap Some stays.known ∙ sym (ap known_in is))
+
+pub stays_registered : (r : Register) (gs : Places) (n : ℕ) (old : Option Guest) (g h : Guest) → IsAllRegistered r gs → old ≡ Some g → Stays g h → n < length gs
+    → old ≡ get_or gs n old → IsAllRegistered r (slice_set gs n (Some h))
+stays_registered r gs n old g h all is stays less read =
+    still_registered r gs n old (Some h) all (ap Some stays.known ∙ sym (ap known_in is))
+    (λ f was fit. let same : f ≡ g = cc in stays.fits (subst FitsEnd same fit)) read less
+
+pub stays_undone : (gs : Places) (n : ℕ) (old : Option Guest) (g h : Guest) → HasNoneDone gs → old ≡ Some g → (IsNotDone g.connection → IsNotDone h.connection)
+    → n < length gs → old ≡ get_or gs n old → HasNoneDone (slice_set gs n (Some h))
+stays_undone gs n old g h all is undone less read = still_not_done gs n old (Some h) all (λ was. undone (subst IsNotDoneIn is was)) read less
+
+-- nothing was done
+pub back_registered : (r : Register) (gs : Places) (n : ℕ) (old v : Option Guest) → IsAllRegistered r gs → v ≡ old → old ≡ get_or gs n old
+    → IsAllRegistered r (slice_set gs n v)
+back_registered r gs n old v all same read = subst (λ (xs : Places). IsAllRegistered r xs) (sym (set_back gs n old v read same)) all
+
+pub back_undone : (gs : Places) (n : ℕ) (old v : Option Guest) → HasNoneDone gs → v ≡ old → old ≡ get_or gs n old → HasNoneDone (slice_set gs n v)
+back_undone gs n old v all same read = subst HasNoneDone (sym (set_back gs n old v read same)) all
+
+pub put_registered : (r : Register) (gs : Places) (n : ℕ) (v : Option Guest) → IsAllRegistered r gs → v ≡ get_or gs n v → IsAllRegistered r (slice_set gs n v)
+put_registered r gs n v all read = back_registered r gs n v v all refl read
+
+pub put_undone : (gs : Places) (n : ℕ) (v : Option Guest) → HasNoneDone gs → v ≡ get_or gs n v → HasNoneDone (slice_set gs n v)
+put_undone gs n v all read = back_undone gs n v v all refl read
+
+-- and it was forgotten, if it was done
+pub settled_undone : (gs ks : Places) (x d : Plan) (n : ℕ) (old : Option Guest) (g h : Guest) (done : Bool) → HasNoneDone gs → old ≡ Some g
+    → (may_go h.connection ≡ false → IsNotDone g.connection → IsNotDone h.connection) → n < length gs → old ≡ get_or gs n old → done ≡ may_go h.connection
+    → places_with ks d ≡ vacated_if done (places_with (slice_set gs n (Some h)) x) n → HasNoneDone ks
+settled_undone gs ks x d n old g h false all is after less read done settled =
+    subst HasNoneDone (sym (settled_kept (slice_set gs n (Some h)) ks x d n false settled refl)) (stays_undone gs n old g h all is (after (sym done)) less read)
+settled_undone gs ks x d n old g h true all is after less read done settled = record { each = λ k f there. by k f there (same_or_other k n) } where
+  mid : Places
+  mid = slice_set gs n (Some h)
+
+  size : n < length mid
+  size = subst (λ (m : ℕ). n < m) (sym (length-set gs n (Some h))) less
+
+  by : (k : ℕ) (f : Guest) → slice_get ks k ≡ Some (Some f) → (k ≡ n) ⊎ (k ≢ n) → IsNotDone f.connection
+  by k f there (inl e) =
+      let none : Some None ≡ Some (Some f) = sym (settled_gone mid ks x d n true settled size refl) ∙ subst (λ (m : ℕ). slice_get ks m ≡ Some (Some f)) e there in
+      absurd (cc)
+  by k f there (inr other) =
+      all.each k f (sym (place_other gs n k (Some h) other) ∙ sym ((settled_apart mid ks x d n true settled).others k other) ∙ there)
+
+pub went_set : (t u : ℕ) (deed : Deed) (gs : Places) (n : ℕ) (old : Option Guest) (g h : Guest) → t ≡ u → n < length gs → old ≡ get_or gs n old → old ≡ Some g
+    → GuestStep t deed g h → Went u deed (slice_get gs n) (slice_get (slice_set gs n (Some h)) n)
+went_set t u deed gs n old g h same less read is s =
+    let there : slice_get gs n ≡ Some (Some g) = is_there gs n old g less read is in
+    subst (λ (x : ℕ). Went x deed (slice_get gs n) (slice_get (slice_set gs n (Some h)) n)) same
+    (subst (λ (p : Option (Option Guest)). Went t deed p (slice_get (slice_set gs n (Some h)) n)) (sym there)
+    (subst (λ (p : Option (Option Guest)). Went t deed (Some (Some g)) p) (sym (place_set gs n (Some h) less)) s))
+
+-- ---- as goals have them
+
 pub not_none : (gs : Places) (n : ℕ) (g : Guest) → slice_get gs n ≡ Some (Some g) → has_guest (slice_get gs n) ≡ true
 not_none gs n g there = ap has_guest there
+
+-- who is in a place
+pub who : (place : Option (Option Guest)) → has_guest place ≡ true → (g : Guest) × (place ≡ Some (Some g))
+who None has = absurd (cc)
+who (Some None) has = absurd (cc)
+who (Some (Some g)) has = (g, refl)
 
 -- only one place has another
 pub set_apart : (gs : Places) (n : ℕ) (v : Option Guest) → IsApart gs (slice_set gs n v) n

@@ -1,23 +1,24 @@
 -- Of no connection that is there is all done: one that may be forgotten is.
-use Rattle.std.proofs.Common.{◌≡◌, ◌≢◌, ◌∙◌, ◌⊎◌, inl, inr, ap, refl, subst, sym, ℕ, zero, suc, ◌<◌, Bool, true, false, List, length, Option, Some, None, slice_get, get_or}
+use Rattle.std.proofs.Common.{◌≡◌, ◌≢◌, ◌∙◌, ◌⊎◌, inl, inr, ap, refl, subst, sym, ℕ, zero, suc, ◌<◌, Bool, true, false, List, length, Option, Some, None, slice_get, get_or, arith}
 use Rattle.std.specs.Prelude.{◌&&◌, ◌||◌, nat_le, slice_set, if◌then◌else◌, replicate}
 use Rattle.std.specs.Option.{is_none, is_some}
-use Rattle.std.proofs.lemmas.Option.{same_Some, slice_get_read}
+use Rattle.std.proofs.lemmas.List.{length-set}
+use Rattle.std.proofs.lemmas.Option.{same_Some, slice_get_read, slice_get_within}
 use Rattle.xns_agenda.specs.Waiting.{Waiting, StepsAt, still, step, close, HearsAt, no_word, word, act_at, act_by, after_act, after_by, after_heard, after_step, after_word, due_time, idling, waiting_on}
 use Rattle.xns_agenda.specs.declared.act.Act.{Act}
 use Rattle.xns_agenda.specs.declared.act.Act.TheVariants.{Nothing, GiveUp, Forget}
 use Rattle.xns_agenda.specs.declared.due.Due.{Due}
 use Rattle.xns_agenda.specs.declared.due.Due.TheVariants.{Never, AgainAt, AskAt, ForgetAt}
-use Rattle.xns_host.specs.Connecting.{is_closed_due}
-use Rattle.xns_host.specs.Hosting.{HasNoneDone, IsApart, IsNotDone, IsNotDoneIn, is_done, is_lingering, may_go}
-use Rattle.xns_host.specs.Deeds as deeds
-use Rattle.xns_host.specs.Deeds.{Deed}
-use Rattle.xns_host.specs.Step.{WaitsBy}
-use Rattle.xns_host.specs.declared.connection.Connection.{Connection}
+use Rattle.xns_connection.specs.Connecting.{is_closed_due, is_dead}
+use Rattle.xns_host.specs.Hosting.{HasNoneDone, IsApart, IsNotDone, IsNotDoneIn, is_lingering, may_go}
+use Rattle.xns_connection.specs.Deeds as deeds
+use Rattle.xns_connection.specs.Deeds.{Deed}
+use Rattle.xns_connection.specs.Step.{WaitsBy}
+use Rattle.xns_connection.specs.declared.connection.Connection.{Connection}
 use Rattle.xns_host.specs.declared.guest.Guest.{Guest}
-use Rattle.xns_host.specs.declared.why.Why.{Why}
+use Rattle.xns_connection.specs.declared.why.Why.{Why}
 use Rattle.xns_host.proofs.Apart.{set_there}
-use Rattle.xns_host.proofs.Noting.{place_other, same_or_other}
+use Rattle.xns_host.proofs.Noting.{place_other, place_set, same_or_other}
 
 abbrev Places : Type 0
 Places = List (Option Guest)
@@ -69,25 +70,26 @@ waits_on now (deeds.heard bytes) w v at steps = hears_on now w v at steps
 
 -- ---- one connection
 
-still_closed : (a b : Option Why) → is_some a ≡ true → (a ≢ None → b ≡ a) → is_some b ≡ true
-still_closed None b is same = absurd (cc)
-still_closed (Some w) b is same = ap is_some (same (λ none. cc))
+some_not_none : (o : Option Why) → is_some o ≡ true → o ≢ None
+some_not_none None is = absurd (cc)
+some_not_none (Some w) is = λ none. cc
 
 pub not_done_after : (c d : Connection) → d.told ≡ c.told → (c.closed ≢ None → d.closed ≡ c.closed)
     → (is_lingering c.wait.due ≡ true → is_lingering d.wait.due ≡ true) → IsNotDone c → IsNotDone d
 not_done_after c d told closed lingers before = λ so_told.
     let was = before (sym told ∙ so_told) in
-    (still_closed c.closed d.closed was.0 closed, lingers was.1)
+    let same = closed (some_not_none c.closed was.0) in
+    (ap is_some same ∙ was.0, ap is_dead same ∙ was.1, lingers was.2)
 
 pub not_done_steps : (now : ℕ) (c d : Connection) → d.told ≡ c.told → (c.closed ≢ None → d.closed ≡ c.closed) → StepsAt now c.wait d.wait
     → IsNotDone c → IsNotDone d
 not_done_steps now c d told closed steps before = not_done_after c d told closed (λ at. lingers_on now c.wait at steps) before
 
-all_so : (a b c : Bool) → a ≡ true → b ≡ true → c ≡ true → (a && (b && c)) ≡ true
-all_so true true true is so_told here = refl
-all_so true true false is so_told here = absurd (cc)
-all_so true false c is so_told here = absurd (cc)
-all_so false b c is so_told here = absurd (cc)
+all_so : (a b c d : Bool) → a ≡ true → b ≡ true → d ≡ true → (a && (b && (c || d))) ≡ true
+all_so true true true d is so_told here = refl
+all_so true true false d is so_told here = here
+all_so true false c d is so_told here = absurd (cc)
+all_so false b c d is so_told here = absurd (cc)
 
 lingering_act : (w : Waiting) (d : Due) (now : ℕ) → is_lingering d ≡ true → (act_by w d now ≡ Nothing) ⊎ (act_by w d now ≡ Forget)
 lingering_act w Never now is = absurd (cc)
@@ -103,18 +105,19 @@ pub not_done_act : (now : ℕ) (c d : Connection) (act : Act) → act ≡ act_at
     → d.wait ≡ after_act c.wait now → may_go d ≡ false → IsNotDone c → IsNotDone d
 not_done_act now c d act is told closed wait left before = λ so_told.
     let was = before (sym told ∙ so_told) in
-    by so_told was.0 was.1 (lingering_act c.wait c.wait.due now was.1) where
-      by : d.told ≡ true → is_some c.closed ≡ true → is_lingering c.wait.due ≡ true
-          → (act_at c.wait now ≡ Nothing) ⊎ (act_at c.wait now ≡ Forget) → (is_some d.closed ≡ true) × (is_lingering d.wait.due ≡ true)
-      by so_told was at (inl nothing) =
+    by so_told was.0 was.1 was.2 (lingering_act c.wait c.wait.due now was.2) where
+      by : d.told ≡ true → is_some c.closed ≡ true → is_dead c.closed ≡ false → is_lingering c.wait.due ≡ true
+          → (act_at c.wait now ≡ Nothing) ⊎ (act_at c.wait now ≡ Forget)
+          → (is_some d.closed ≡ true) × (is_dead d.closed ≡ false) × (is_lingering d.wait.due ≡ true)
+      by so_told was alive at (inl nothing) =
           let kept : d.closed ≡ c.closed = closed (λ gave. let e : Nothing ≡ GiveUp = sym nothing ∙ sym is ∙ gave in cc) in
           let same : d.wait ≡ c.wait = wait ∙ ap (λ (a : Act). after_by c.wait a now) nothing in
-          (ap is_some kept ∙ was, ap (λ (w : Waiting). is_lingering w.due) same ∙ at)
-      by so_told was at (inr forgets) =
+          (ap is_some kept ∙ was, ap is_dead kept ∙ alive, ap (λ (w : Waiting). is_lingering w.due) same ∙ at)
+      by so_told was alive at (inr forgets) =
           let kept : d.closed ≡ c.closed = closed (λ gave. let e : Forget ≡ GiveUp = sym forgets ∙ sym is ∙ gave in cc) in
           let never : d.wait ≡ record c.wait { due = Never } = wait ∙ ap (λ (a : Act). after_by c.wait a now) forgets in
           let gone : may_go d ≡ true
-          = all_so (is_some d.closed) d.told (is_none (due_time d.wait.due)) (ap is_some kept ∙ was) so_told
+          = all_so (is_some d.closed) d.told (is_dead d.closed) (is_none (due_time d.wait.due)) (ap is_some kept ∙ was) so_told
           (ap (λ (w : Waiting). is_none (due_time w.due)) never) in
           absurd (cc)
 
@@ -129,22 +132,19 @@ lingers_where (AgainAt t) is some = absurd (cc)
 lingers_where (AskAt t) is some = absurd (cc)
 lingers_where (ForgetAt t) is some = refl
 
-third_not : (a b c : Bool) → a ≡ true → b ≡ true → (a && (b && c)) ≡ false → c ≡ false
-third_not true true c is so_told not = not
-third_not true false c is so_told not = absurd (cc)
-third_not false b c is so_told not = absurd (cc)
-
-some_not_none : (o : Option Why) → is_some o ≡ true → o ≢ None
-some_not_none None is = absurd (cc)
-some_not_none (Some w) is = λ none. cc
+neither : (a b c d : Bool) → a ≡ true → b ≡ true → (a && (b && (c || d))) ≡ false → (c ≡ false) × (d ≡ false)
+neither true true true d is so_told not = absurd (cc)
+neither true true false d is so_told not = (refl, not)
+neither true false c d is so_told not = absurd (cc)
+neither false b c d is so_told not = absurd (cc)
 
 pub not_done_told : (c d : Connection) → d ≡ record c { told = d.told } → d.told ≡ (c.told || is_some c.closed) → may_go d ≡ false → IsNotDone c
     → IsNotDone d
 not_done_told c d is told left before = λ so_told.
     let closed : is_some c.closed ≡ true = told_closed c.told (is_some c.closed) (sym told ∙ so_told) (λ was. (before was).0) in
     let same : is_some d.closed ≡ true = ap (λ (x : Connection). is_some x.closed) is ∙ closed in
-    let due : is_none (due_time d.wait.due) ≡ false = third_not (is_some d.closed) d.told (is_none (due_time d.wait.due)) same so_told left in
-    (same, lingers_where d.wait.due (d.closed_due (some_not_none d.closed same)) due)
+    let not = neither (is_some d.closed) d.told (is_dead d.closed) (is_none (due_time d.wait.due)) same so_told left in
+    (same, not.0, lingers_where d.wait.due (d.closed_due (some_not_none d.closed same)) not.1)
 
 -- a new one is not told of
 pub not_done_new : (c : Connection) → c.told ≡ false → IsNotDone c
@@ -186,20 +186,15 @@ came_not_done gs hs n g all apart here new = record { each = λ k h there. by k 
       at_place IsNotDoneIn (slice_get hs n) (Some g) (Some h) here (subst (λ (m : ℕ). slice_get hs m ≡ Some (Some h)) e there) new
   by k h there (inr other) = all.each k h (sym (apart.others k other) ∙ there)
 
--- the connection in one place is another now, or is forgotten, if it is done
-pub settled_not_done : (gs mid hs : Places) (n : ℕ) (old v : Option Guest) (done : Bool) → HasNoneDone gs
-    → (is_done v ≡ false → IsNotDoneIn old → IsNotDoneIn v) → old ≡ get_or gs n old → n < length gs → mid ≡ slice_set gs n v
-    → done ≡ is_done v → IsApart mid hs n → (done ≡ true → slice_get hs n ≡ Some None) → (done ≡ false → hs ≡ mid) → HasNoneDone hs
-settled_not_done gs mid hs n old v false all after read less set is apart gone kept =
-    subst HasNoneDone (sym (kept refl ∙ set)) (still_not_done gs n old v all (after (sym is)) read less)
-settled_not_done gs mid hs n old v true all after read less set is apart gone kept =
-    record { each = λ k h there. by k h there (same_or_other k n) } where
-      by : (k : ℕ) (h : Guest) → slice_get hs k ≡ Some (Some h) → (k ≡ n) ⊎ (k ≢ n) → IsNotDone h.connection
-      by k h there (inl e) =
-          let none : Some None ≡ Some (Some h) = sym (gone refl) ∙ subst (λ (m : ℕ). slice_get hs m ≡ Some (Some h)) e there in
-          absurd (cc)
-      by k h there (inr other) =
-          all.each k h (sym (place_other gs n k v other) ∙ sym (ap (λ (xs : Places). slice_get xs k) set) ∙ sym (apart.others k other) ∙ there)
+-- one is gone
+pub gone_not_done : (gs hs : Places) (n : ℕ) → HasNoneDone gs → hs ≡ slice_set gs n None → HasNoneDone hs
+gone_not_done gs hs n all is = record { each = λ k g there. by k g there (same_or_other k n) } where
+  by : (k : ℕ) (g : Guest) → slice_get hs k ≡ Some (Some g) → (k ≡ n) ⊎ (k ≢ n) → IsNotDone g.connection
+  by k g there (inl e) =
+      let here : slice_get (slice_set gs n None) n ≡ Some (Some g) = subst (λ (m : ℕ). slice_get (slice_set gs n None) m ≡ Some (Some g)) e (subst (λ (xs : Places). slice_get xs k ≡ Some (Some g)) is there) in
+      let none : Some None ≡ Some (Some g) = sym (place_set gs n None (omega (arith, slice_get_within (slice_set gs n None) n (Some g) here, length-set gs n None))) ∙ here in
+      absurd (cc)
+  by k g there (inr other) = all.each k g (sym (place_other gs n k None other) ∙ subst (λ (xs : Places). slice_get xs k ≡ Some (Some g)) is there)
 
 -- none of them may be forgotten
 not_lingering : (d : Due) → is_lingering d ≡ true → is_none (due_time d) ≡ false
@@ -208,14 +203,18 @@ not_lingering (AgainAt t) is = refl
 not_lingering (AskAt t) is = refl
 not_lingering (ForgetAt t) is = refl
 
-parts : (a b c : Bool) → (a && (b && c)) ≡ true → (b ≡ true) × (c ≡ true)
-parts true true true is = (refl, refl)
-parts true true false is = absurd (cc)
-parts true false c is = absurd (cc)
-parts false b c is = absurd (cc)
+parts : (a b c d : Bool) → (a && (b && (c || d))) ≡ true → (b ≡ true) × ((c || d) ≡ true)
+parts true true c d is = (refl, is)
+parts true false c d is = absurd (cc)
+parts false b c d is = absurd (cc)
+
+not_past : (c d : Bool) → (c || d) ≡ true → c ≡ false → d ≡ false → ⊥
+not_past true d is alive later = cc
+not_past false true is alive later = cc
+not_past false false is alive later = cc
 
 pub not_gone_yet : (c : Connection) → IsNotDone c → may_go c ≡ true → ⊥
 not_gone_yet c before go =
-    let both = parts (is_some c.closed) c.told (is_none (due_time c.wait.due)) go in
-    let some = not_lingering c.wait.due (before both.0).1 in
-    cc
+    let both = parts (is_some c.closed) c.told (is_dead c.closed) (is_none (due_time c.wait.due)) go in
+    let was = before both.0 in
+    not_past (is_dead c.closed) (is_none (due_time c.wait.due)) both.1 was.1 (not_lingering c.wait.due was.2)

@@ -1,17 +1,17 @@
 -- What comes of a packet at a host.
-use Rattle.std.specs.Prelude.{◌≡◌, ℕ, List, Bool, true, false, Some, Ok, slice_get}
+use Rattle.std.specs.Prelude.{◌≡◌, ◌⊎◌, ℕ, List, Bool, true, false, Some, Ok, slice_get}
 use Rattle.courier_sessions.specs.declared.program.Program.{Program}
 use Rattle.xns_idp.specs.Packet.{PacketModel}
 use Rattle.xns_idp.specs.Reading.{packet_of}
 use Rattle.xns_idp.specs.declared.address.Address.{Address}
 use Rattle.xns_small.specs.Echo.{echo_reply}
 use Rattle.xns_spp.specs.Packet.{SppPacketModel, opener_of, spp_packet_of}
-use Rattle.xns_host.specs.Hosting.{IsAnswering, IsPlace, address_in, confirms}
+use Rattle.xns_host.specs.Hosting.{HasNoRoom, IsAllInUse, IsAnswering, IsPlace, address_in, confirms}
 use Rattle.xns_host.specs.Identifiers.{StaysInOrder, TurnsOver}
 use Rattle.xns_host.specs.Ours.{AsksEcho, IsOpener, IsOurs, Names, QuotesOurs}
-use Rattle.xns_host.specs.Places.{IsUnmoved, Places, Turns, taken_by, vacated}
+use Rattle.xns_host.specs.Places.{Places, Turns, taken_by, vacated}
 use Rattle.xns_host.specs.Services.{programs_at}
-use Rattle.xns_host.specs.Strays.{MayHaveStray, StrayQueue, echo_socket, stray_of}
+use Rattle.xns_host.specs.Strays.{MayHaveStray, StrayQueue, echo_socket, lost_stray, stray_of}
 use Rattle.xns_host.specs.Went.{GuestHears, GuestUnserved}
 use Rattle.xns_host.specs.Whole.{Whole}
 use Rattle.xns_host.specs.declared.guest.Guest.{Guest}
@@ -29,17 +29,21 @@ pub record Seats (now way : ℕ) (w : Whole) (socket : ℕ) (peer : Address) (id
   pub identifier : ℕ
   pub turned : TurnsOver w.register.identifiers register.identifiers identifier
 
--- a packet opened a connection, which has heard it; where there is no room, or memory was refused, it is as if lost
-pub data Opens (now way : ℕ) (bytes : List ℕ) (p : SppPacketModel) (w : Whole) : Register → Places → Type 0 where
+-- a packet opened a connection, which has heard it; where no place is free and no connection gives way, or each identifier is in use, it is as
+-- if lost; so it is where memory was refused, which is noted
+pub data Opens (now way : ℕ) (bytes : List ℕ) (p : SppPacketModel) (w : Whole) : Register → StrayQueue → Places → Type 0 where
   opened : {register : Register} {mid new : Places} (number id : ℕ) (peer : Address) (programs : List Program) → opener_of p ≡ Some (peer, id)
       → programs_at w.services.programs p.target.socket ≡ Some programs → Seats now way w p.target.socket peer id programs number register mid
-      → Turns (GuestHears now bytes false) number mid new → Opens now way bytes p w register new
-  full : {register : Register} → StaysInOrder w.register.identifiers register.identifiers → Opens now way bytes p w register w.places
+      → Turns (GuestHears now bytes false) number mid new → Opens now way bytes p w register w.strays new
+  full : {register : Register} → HasNoRoom w.places.guests ⊎ IsAllInUse w.register.identifiers
+      → StaysInOrder w.register.identifiers register.identifiers → Opens now way bytes p w register w.strays w.places
+  starved : {register : Register} → StaysInOrder w.register.identifiers register.identifiers
+      → Opens now way bytes p w register (lost_stray w.strays) w.places
 
 -- these bytes came by this way at this time: they are no packet of the host, and nothing changes; or an Echo request, and the reply waits,
 -- where there is room; or an Error packet about an opening of ours; or they name a connection; or they open one
 pub data Comes (now way : ℕ) (bytes : List ℕ) (w : Whole) : Bool → Whole → Type 0 where
-  foreign : {q : Places} → (IsOurs w bytes → ⊥) → IsUnmoved w.places q → Comes now way bytes w false (record w { places = q })
+  foreign : (IsOurs w bytes → ⊥) → Comes now way bytes w false w
   echoes : (p : PacketModel) (taken : ℕ) {strays : StrayQueue} → packet_of bytes ≡ Ok (p, taken) → AsksEcho w p
       → MayHaveStray w.strays strays (stray_of way (echo_reply (address_in w.network w.host echo_socket) p))
       → Comes now way bytes w true (record w { strays = strays })
@@ -47,5 +51,5 @@ pub data Comes (now way : ℕ) (bytes : List ℕ) (w : Whole) : Bool → Whole �
       → Turns (GuestUnserved now) quotes.number w.places q → Comes now way bytes w true (record w { places = q })
   hears : (p : SppPacketModel) {q : Places} → spp_packet_of bytes ≡ Ok p → (names : Names w p)
       → Turns (GuestHears now bytes (confirms p)) names.number w.places q → Comes now way bytes w true (record w { places = q })
-  opens : (p : SppPacketModel) {register : Register} {q : Places} → spp_packet_of bytes ≡ Ok p → IsOpener w p
-      → Opens now way bytes p w register q → Comes now way bytes w true (record w { register = register; places = q })
+  opens : (p : SppPacketModel) {register : Register} {strays : StrayQueue} {q : Places} → spp_packet_of bytes ≡ Ok p → IsOpener w p
+      → Opens now way bytes p w register strays q → Comes now way bytes w true (record w { register = register; strays = strays; places = q })

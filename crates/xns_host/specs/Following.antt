@@ -1,8 +1,9 @@
 -- What follows of a host from what its calls are.
-use Rattle.std.specs.Prelude.{◌≡◌, ℕ, List, Bool, true, max, Some, None, Ok, slice_get}
+use Rattle.std.specs.Prelude.{◌≡◌, ℕ, List, Bool, true, Some, None, Ok, slice_get}
 use Rattle.xns_idp.specs.Packet.{PacketModel}
 use Rattle.xns_idp.specs.Reading.{packet_of}
 use Rattle.xns_spp.specs.Packet.{SppPacketModel, spp_packet_of}
+use Rattle.xns_agenda.specs.Clock.{time_at}
 use Rattle.xns_host.specs.Hosting.{HasNoEvent, HasNoPacket, IsPacketOf, IsRefusedBy, confirms}
 use Rattle.xns_host.specs.Places.{Turns}
 use Rattle.xns_host.specs.Turn.{GivesOut, TakesIn, TellsNext, places_of}
@@ -23,11 +24,11 @@ abbrev pub AConnectionHearsItsPackets : Type 0
 AConnectionHearsItsPackets = (now way number : ℕ) (bytes : List ℕ) (result : Bool) (old new : Host) (p : SppPacketModel) (g : Guest)
     → TakesIn now way bytes result old new → spp_packet_of bytes ≡ Ok p → IsPacketOf old.host p g
     → slice_get old.guests.items number ≡ Some (Some g)
-    → (result ≡ true) × Turns (GuestHears (max old.clock.latest now) bytes (confirms p)) number (places_of old) (places_of new)
+    → (result ≡ true) × Turns (GuestHears (time_at old.clock now) bytes (confirms p)) number (places_of old) (places_of new)
 
 -- an Error packet that quotes the opening packet of a connection is the host's, and that connection is not served
 abbrev pub AQuotedOpeningIsNotServed : Type 0
 AQuotedOpeningIsNotServed = (now way number taken : ℕ) (bytes : List ℕ) (result : Bool) (old new : Host) (p : PacketModel) (g : Guest)
     → TakesIn now way bytes result old new → packet_of bytes ≡ Ok (p, taken) → IsRefusedBy old.host p g
     → slice_get old.guests.items number ≡ Some (Some g)
-    → (result ≡ true) × Turns (GuestUnserved (max old.clock.latest now)) number (places_of old) (places_of new)
+    → (result ≡ true) × Turns (GuestUnserved (time_at old.clock now)) number (places_of old) (places_of new)

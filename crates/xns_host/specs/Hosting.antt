@@ -1,5 +1,5 @@
 -- Many connections behind one address.
-use Rattle.std.specs.Prelude.{◌≡◌, ◌≢◌, ℕ, Bool, true, false, not, ◌&&◌, ◌||◌, ◌==◌, List, [], if◌then◌else◌, Option, Some, None, position}
+use Rattle.std.specs.Prelude.{◌≡◌, ◌≢◌, ◌⊎◌, ℕ, Bool, true, false, not, ◌&&◌, ◌||◌, ◌==◌, List, [], if◌then◌else◌, Option, Some, None, position}
 use Rattle.std.specs.Prelude.{slice_get}
 use Rattle.std.specs.Option.{is_some, is_none}
 use Rattle.courier_sessions.specs.declared.program.Program.{Program}
@@ -11,19 +11,20 @@ use Rattle.xns_spp.specs.Held.{StandsFor}
 use Rattle.xns_spp.specs.Packet.{SppPacketModel}
 use Rattle.xns_spp.specs.State.{State, initiator_state, responder_state}
 use Rattle.xns_agenda.specs.Agenda.{Plan, IsNoted}
-use Rattle.xns_host.specs.Deeds.{acted}
+use Rattle.xns_connection.specs.Connecting.{is_dead}
+use Rattle.xns_connection.specs.Deeds.{acted}
 use Rattle.xns_host.specs.Events.{event_in}
 use Rattle.xns_host.specs.Identifiers.{Ids, IsNext, is_free}
 use Rattle.xns_host.specs.Quotes.{is_opened_by, quoted_opening}
 use Rattle.xns_host.specs.Register.{peer_at}
-use Rattle.xns_host.specs.Step.{parts_of}
-use Rattle.xns_host.specs.Settings.{IsBegun}
-use Rattle.xns_host.specs.Story.{has_message, new_story}
-use Rattle.xns_host.specs.Telling.{Tells}
+use Rattle.xns_connection.specs.Step.{parts_of}
+use Rattle.xns_host.specs.Settings.{IsMadeBy}
+use Rattle.xns_connection.specs.Story.{has_message, new_story}
+use Rattle.xns_connection.specs.Telling.{Tells}
 use Rattle.xns_agenda.specs.Times.{IsBy}
 use Rattle.xns_agenda.specs.Turns.{has_turn}
 use Rattle.xns_agenda.specs.Waiting.{IsDueAfter, due_time}
-use Rattle.xns_host.specs.declared.connection.Connection.{Connection}
+use Rattle.xns_connection.specs.declared.connection.Connection.{Connection}
 use Rattle.xns_agenda.specs.declared.due.Due.{Due}
 use Rattle.xns_agenda.specs.declared.due.Due.TheVariants.{Never, AgainAt, AskAt, ForgetAt}
 use Rattle.xns_agenda.specs.declared.facts.Facts.{Facts}
@@ -31,7 +32,6 @@ use Rattle.xns_agenda.specs.declared.facts.TheConstants.Facts.{NONE}
 use Rattle.xns_host.specs.declared.guest.Guest.{Guest}
 use Rattle.xns_host.specs.declared.opening_quote.OpeningQuote.{OpeningQuote}
 use Rattle.xns_host.specs.declared.outgoing.Outgoing.{Outgoing}
-use Rattle.xns_host.specs.declared.owed.Owed.{Owed}
 use Rattle.xns_host.specs.declared.settings.Settings.{Settings}
 
 -- ---- what a host has to know of a connection
@@ -58,9 +58,13 @@ facts_of g = record {
   stranger_since = stranger_since g;
 }
 
+-- one that is closed lingers no more, or is dead and did not linger
+abbrev pub is_past : Connection → Bool
+is_past c = is_dead c.closed || is_none (due_time c.wait.due)
+
 -- it may be forgotten: it is closed, the program was told, and it lingers no more
 abbrev pub may_go : Connection → Bool
-may_go c = is_some c.closed && (c.told && is_none (due_time c.wait.due))
+may_go c = is_some c.closed && (c.told && is_past c)
 
 -- the one in this place may
 abbrev pub is_done : Option Guest → Bool
@@ -74,9 +78,9 @@ is_lingering (AgainAt t) = false
 is_lingering (AskAt t) = false
 is_lingering (ForgetAt t) = true
 
--- where the program was told that it is closed, it is, and lingers: so it may not be forgotten yet
+-- where the program was told that it is closed, it is, is not dead, and lingers: so it may not be forgotten yet
 abbrev pub IsNotDone : Connection → Type 0
-IsNotDone c = c.told ≡ true → (is_some c.closed ≡ true) × (is_lingering c.wait.due ≡ true)
+IsNotDone c = c.told ≡ true → (is_some c.closed ≡ true) × (is_dead c.closed ≡ false) × (is_lingering c.wait.due ≡ true)
 
 -- the one in this place
 abbrev pub IsNotDoneIn : Option Guest → Type 0
@@ -115,11 +119,6 @@ pub record HasActed (now : ℕ) (c next : Connection) : Type 0 where
   pub parts : parts_of next ≡ acted (parts_of c) now
   pub later : IsDueAfter now next.wait.due
 
--- it is the one in this place
-abbrev pub HasActedIn : ℕ → Connection → Option Guest → Type 0
-HasActedIn now c None = ⊥
-HasActedIn now c (Some g) = HasActed now c g.connection
-
 -- and it is in this place or forgotten: one that may be forgotten now is
 pub record ActsIn (now : ℕ) (c : Connection) (place : Option (Option Guest)) : Type 0 where
   pub next : Connection
@@ -142,10 +141,12 @@ abbrev pub facts_in : Option Guest → Facts
 facts_in None = NONE
 facts_in (Some g) = facts_of g
 
--- the agenda says of a place what the connection in it says, and whether there is one
+-- the agenda says of a place what the connection in it says, and whether there is one; one that has something to tell has a turn, and one
+-- that has a turn may have something
 pub record IsNotedIn (a : Plan) (number : ℕ) (place : Option Guest) : Type 0 where
   pub facts : IsNoted a number (facts_in place)
   pub event : has_turn a.events number ≡ false → event_in number place ≡ None
+  pub news : has_turn a.events number ≡ true → (facts_in place).has_event ≡ true
   pub free : has_turn a.free number ≡ is_none place
 
 -- it does so of each place, but of the one with this number whether there is a connection in it alone
@@ -159,16 +160,24 @@ pub record IsAllNoted (a : Plan) (guests : List (Option Guest)) : Type 0 where
 
 -- ---- when a host wants to be asked
 
--- something wants it at this time: a packet of none or of a connection may be to go out, or something is due of one
+-- something wants it at this time: a packet of none or of a connection may be to go out, or a connection has something to tell, or
+-- something is due of one
 pub data Wants (strays : List Outgoing) (guests : List (Option Guest)) : ℕ → Type 0 where
   for_stray : strays ≢ [] → Wants strays guests 0
   for_packet : (k : ℕ) (g : Guest) → slice_get guests k ≡ Some (Some g) → g.connection.owed.fresh ≡ true → Wants strays guests 0
+  for_event : (k : ℕ) (g : Guest) → slice_get guests k ≡ Some (Some g) → event_in k (Some g) ≢ None → Wants strays guests 0
   for_due : (k t : ℕ) (g : Guest) → slice_get guests k ≡ Some (Some g) → due_time g.connection.wait.due ≡ Some t → Wants strays guests t
 
--- the time that is told is the earliest of these; where there is none, none is told
+-- a connection may have something to tell: a message is there, which may be a call that is to be rejected, or the program was not told why
+-- it is closed
+pub record MayTell (guests : List (Option Guest)) : Type 0 where
+  pub number : ℕ
+  pub there : IsThere (λ g. tells g.connection ≡ true) (slice_get guests number)
+
+-- the time that is told is the earliest of these, or 0 where a connection may have something to tell; where there is none, none is told
 pub record IsFirstWant (strays : List Outgoing) (guests : List (Option Guest)) (time : Option ℕ) : Type 0 where
   pub least : (t : ℕ) → Wants strays guests t → IsBy time t
-  pub wanted : (t : ℕ) → time ≡ Some t → Wants strays guests t
+  pub wanted : (t : ℕ) → time ≡ Some t → Wants strays guests t ⊎ ((t ≡ 0) × MayTell guests)
 
 -- ---- what goes out
 
@@ -207,10 +216,6 @@ pub record HasNoRoom (guests : List (Option Guest)) : Type 0 where
 abbrev pub address_in : ℕ → List ℕ → ℕ → Address
 address_in network host socket = record { network = network; host = host; socket = socket }
 
--- no word is owed, no asking, and no moving that memory was refused for
-abbrev pub OwesNothing : Owed → Type 0
-OwesNothing o = (o.word ≡ false) × (o.asks ≡ false) × (o.moving ≡ false)
-
 -- with this number there is a connection of ours to the peer, which was made at this time and has done nothing yet: it has the identifier
 -- that came next of these, and its packets go out by this way; it owes its opening packet, and the program was told nothing of it
 pub record IsConnected (guests : List (Option Guest)) (number : ℕ) (settings : Settings) (ids : Ids) (own to : Address) (way now : ℕ)
@@ -219,13 +224,7 @@ pub record IsConnected (guests : List (Option Guest)) (number : ℕ) (settings :
   pub there : slice_get guests number ≡ Some (Some guest)
   pub next : IsNext ids guest.id
   pub tells : Tells guest.connection.conversation (new_story None (initiator_state own guest.id to settings.window settings.backlog))
-  pub begun : IsBegun settings now guest.connection.wait
-  pub unclosed : guest.connection.closed ≡ None
-  pub owes : guest.connection.owed.again ≡ true
-  pub fresh : guest.connection.owed.fresh ≡ true
-  pub owes_no_more : OwesNothing guest.connection.owed
-  pub silent : guest.connection.conversation.packets.items ≡ []
-  pub untold : guest.connection.told ≡ false
+  pub made : IsMadeBy settings now true guest.connection
   pub via : guest.via ≡ way
   pub peer : guest.peer ≡ to
   pub opener : guest.opener ≡ None
@@ -269,13 +268,7 @@ pub record IsAnswering (settings : Settings) (ids : Ids) (own opener : Address) 
   pub next : IsNext ids guest.id
   pub tells : Tells guest.connection.conversation
       (new_story (Some programs) (responder_state own guest.id opener id settings.window settings.backlog))
-  pub begun : IsBegun settings now guest.connection.wait
-  pub unclosed : guest.connection.closed ≡ None
-  pub unsaid : guest.connection.owed.again ≡ false
-  pub fresh : guest.connection.owed.fresh ≡ true
-  pub owes_no_more : OwesNothing guest.connection.owed
-  pub silent : guest.connection.conversation.packets.items ≡ []
-  pub untold : guest.connection.told ≡ false
+  pub made : IsMadeBy settings now false guest.connection
   pub via : guest.via ≡ way
   pub peer : guest.peer ≡ opener
   pub known_by : guest.opener ≡ Some (peer_at opener id own.socket)

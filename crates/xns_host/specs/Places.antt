@@ -5,7 +5,7 @@ use Rattle.xns_agenda.specs.Times.{IsFirstBy}
 use Rattle.xns_agenda.specs.Turns.{HasNoTurn, IsFirst, with_turn}
 use Rattle.xns_agenda.specs.Waiting.{last_time}
 use Rattle.xns_host.specs.Events.{event_in}
-use Rattle.xns_host.specs.Hosting.{EachActs, facts_in, facts_of, may_go}
+use Rattle.xns_host.specs.Hosting.{EachActs, facts_of, may_go}
 use Rattle.xns_host.specs.Went.{GuestActs, GuestGives, GuestTells}
 use Rattle.xns_host.specs.declared.event.Event.{Event}
 use Rattle.xns_host.specs.declared.guest.Guest.{Guest}
@@ -50,12 +50,6 @@ pub record Turns (P : Guest → Guest → Type 0) (number : ℕ) (p r : Places) 
   pub was : slice_get p.guests number ≡ Some (Some guest)
   pub turn : P guest next
   pub is : r ≡ seated p number next
-
--- nothing was done; what is to be done of one of them may have been noted again
-pub data IsUnmoved (p : Places) : Places → Type 0 where
-  same : IsUnmoved p p
-  noted_again : (number : ℕ) (place : Option Guest) → slice_get p.guests number ≡ Some place
-      → IsUnmoved p (record p { agenda = noted p.agenda number (facts_in place) })
 
 -- ---- what the program is told
 

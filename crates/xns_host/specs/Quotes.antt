@@ -6,6 +6,7 @@ use Rattle.xns_idp.specs.Packet.{same_place}
 use Rattle.xns_idp.specs.Reading.{word_at, address_at}
 use Rattle.xns_idp.specs.declared.packet_type.TheConstants.{SEQUENCED_PACKET}
 use Rattle.xns_small.specs.ErrorReport.{ErrorReportModel, error_of, most_quoted}
+use Rattle.xns_small.specs.declared.error_number.TheConstants.{NO_RESOURCES, NO_SUCH_SOCKET}
 use Rattle.xns_small.specs.declared.fault.SmallFault.{SmallFault}
 use Rattle.xns_spp.specs.Ends.{is_open}
 use Rattle.xns_spp.specs.State.{State}
@@ -22,11 +23,15 @@ opening_in quoted =
     if opens_nothing quoted then None
     else Some (record { target = address_at quoted 6; source = address_at quoted 18; id = word_at quoted 32 })
 
+-- only these error numbers say that nobody hears the packet: the destination has no such socket, or no resources for it
+abbrev pub is_unheard : ℕ → Bool
+is_unheard number = number == NO_SUCH_SOCKET || number == NO_RESOURCES
+
 abbrev pub opening_by : Result ErrorReportModel SmallFault → Option OpeningQuote
 opening_by (Err e) = None
-opening_by (Ok report) = opening_in report.quoted
+opening_by (Ok report) = if is_unheard report.number then opening_in report.quoted else None
 
--- of the body of an Error packet
+-- of the body of an Error packet whose number says that nobody hears it
 abbrev pub quoted_opening : List ℕ → Option OpeningQuote
 quoted_opening body = opening_by (error_of body)
 

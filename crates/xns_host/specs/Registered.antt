@@ -6,8 +6,8 @@ use Rattle.xns_spp.specs.declared.role.Role.TheVariants.{Responder}
 use Rattle.xns_host.specs.Hosting.{IsThere}
 use Rattle.xns_spp.specs.Packet.{SppPacketModel}
 use Rattle.xns_host.specs.Register.{number_by, owner_in, peer_at, peer_cmp}
-use Rattle.xns_host.specs.Story.{Story}
-use Rattle.xns_host.specs.Telling.{Tells}
+use Rattle.xns_connection.specs.Story.{Story}
+use Rattle.xns_connection.specs.Telling.{Tells}
 use Rattle.xns_host.specs.declared.guest.Guest.{Guest}
 use Rattle.xns_host.specs.declared.peer.Peer.{Peer}
 use Rattle.xns_host.specs.declared.register.Register.{Register}

@@ -1,7 +1,9 @@
 -- What a host is made with.
 use Rattle.std.specs.Prelude.{◌≡◌, ℕ, ◌≤◌, Bool, not, ◌&&◌, ◌==◌, nat_lt, nat_le, if◌then◌else◌, Option, Some, None, Result, Ok, Err}
 use Rattle.xns_spp.specs.Ends.{IsCapacity, most_pending}
-use Rattle.xns_agenda.specs.Waiting.{StepsAt, Waiting, new_waiting}
+use Rattle.xns_connection.specs.Step.{IsMade}
+use Rattle.xns_connection.specs.declared.connection.Connection.{Connection}
+use Rattle.xns_connection.specs.declared.terms.Terms.{Terms}
 use Rattle.xns_host.specs.declared.host_fault.HostFault.{HostFault}
 use Rattle.xns_host.specs.declared.host_fault.HostFault.TheVariants.{OutOfRange}
 use Rattle.xns_agenda.specs.declared.pace.Pace.{Pace}
@@ -70,8 +72,14 @@ pub record IsPaceOf (s : Settings) (p : Pace) : Type 0 where
   pub idle : p.idle ≡ s.idle
   pub tries : p.tries ≡ s.tries
 
--- the waits of a connection that was made at this time, with these settings
-pub record IsBegun (s : Settings) (now : ℕ) (w : Waiting) : Type 0 where
+-- what a connection is made with
+pub record AreTermsOf (s : Settings) (t : Terms) : Type 0 where
+  pub window : t.window ≡ s.window
+  pub backlog : t.backlog ≡ s.backlog
+  pub pace : IsPaceOf s t.pace
+
+-- a connection that was made at this time, with these settings
+pub record IsMadeBy (s : Settings) (now : ℕ) (again : Bool) (c : Connection) : Type 0 where
   pub pace : Pace
   pub paced : IsPaceOf s pace
-  pub began : StepsAt now (new_waiting pace now) w
+  pub made : IsMade pace now again c

@@ -1,6 +1,7 @@
 -- What a host begins with, and what stands in it whatever comes.
-use Rattle.std.specs.Prelude.{◌≡◌, ◌<◌, ℕ, List, [], None, max, replicate, true}
+use Rattle.std.specs.Prelude.{◌≡◌, ◌<◌, ℕ, List, [], None, replicate, true}
 use Rattle.std.specs.BTreeMap.{IsEmpty}
+use Rattle.xns_agenda.specs.Clock.{told_at}
 use Rattle.xns_agenda.specs.Agenda.{HasNobody}
 use Rattle.xns_host.specs.Identifiers.{is_free, most_id, numbers, order_of}
 use Rattle.xns_host.specs.Strays.{new_strays}
@@ -18,7 +19,7 @@ pub record IsNewHost (network : ℕ) (host : List ℕ) (settings : Settings) (se
   pub silent : h.strays.waiting ≡ []
   pub room : h.strays ≡ new_strays settings.strays
   pub idle : (number : ℕ) → number < settings.connections → HasNobody h.agenda number
-  pub untold : h.clock.latest ≡ 0
+  pub untold : (h.clock.told ≡ 0) × (h.clock.latest ≡ 0)
   pub order : h.register.identifiers.ahead ≡ order_of (numbers most_id) secret
   pub unused : (id : ℕ) → is_free h.register.identifiers.owners id ≡ true
 
@@ -26,10 +27,10 @@ pub record IsNewHost (network : ℕ) (host : List ℕ) (settings : Settings) (se
 abbrev pub IsSameHost : (old new : Host) → Type 0
 IsSameHost old new = (new.network ≡ old.network) × (new.host ≡ old.host) × (new.settings ≡ old.settings)
 
--- and so are what it serves and the latest time that was told
+-- and so are what it serves and what time it is
 abbrev pub StaysSetUp : (old new : Host) → Type 0
 StaysSetUp old new = IsSameHost old new × (new.services ≡ old.services) × (new.clock ≡ old.clock)
 
--- its address, its settings and what it serves are as they were, and this time was told: one that goes back counts as the latest
+-- its address, its settings and what it serves are as they were, and this time was told
 abbrev pub StaysSetUpAt : ℕ → (old new : Host) → Type 0
-StaysSetUpAt now old new = IsSameHost old new × (new.services ≡ old.services) × (new.clock.latest ≡ max old.clock.latest now)
+StaysSetUpAt now old new = IsSameHost old new × (new.services ≡ old.services) × (new.clock ≡ told_at old.clock now)

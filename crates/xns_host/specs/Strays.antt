@@ -2,7 +2,8 @@
 use Rattle.std.specs.Prelude.{◌≡◌, ◌⊎◌, ℕ, ◌≤◌, Bool, true, false, List, [], ◌∷◌, ◌++◌, length, nat_lt, if◌then◌else◌}
 use Rattle.xns_host.specs.declared.outgoing.Outgoing.{Outgoing}
 
--- those that wait, the first one first, at most so many; and whether memory was refused for the last one
+-- those that wait, the first one first, at most so many; and whether memory was refused for the last packet that was to be answered here or to
+-- open a connection
 pub record StrayQueue : Type 0 where
   pub most : ℕ
   pub waiting : List Outgoing
@@ -24,7 +25,7 @@ abbrev pub with_stray : StrayQueue → Outgoing → StrayQueue
 with_stray q s =
     record q { waiting = if nat_lt (length q.waiting) q.most then q.waiting ++ s ∷ [] else q.waiting; starved = false }
 
--- memory was refused for one, which is as if lost
+-- memory was refused for such a packet, which is as if lost
 abbrev pub lost_stray : StrayQueue → StrayQueue
 lost_stray q = record q { starved = true }
 

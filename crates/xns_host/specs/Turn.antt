@@ -1,14 +1,16 @@
 -- One step of a host: what was done at the connection with a number, and all that it leaves as it was.
-use Rattle.std.specs.Prelude.{◌≡◌, ◌⊎◌, ℕ, Bool, List, [], ◌∷◌, max, Option, Some, None, Result, Ok, Err, IfOk, OnOk, OnErr, slice_get}
+use Rattle.std.specs.Prelude.{◌≡◌, ◌⊎◌, ℕ, Bool, List, [], ◌∷◌, Option, Some, None, Result, Ok, Err, IfOk, OnOk, OnErr, slice_get}
 use Rattle.std.specs.BTreeMap.{btree_map_len}
 use Rattle.courier_sessions.specs.declared.program.Program.{Program}
 use Rattle.xns_idp.specs.declared.address.Address.{Address}
+use Rattle.xns_agenda.specs.Clock.{time_at, told_at, when_told}
 use Rattle.xns_agenda.specs.Agenda.{noted}
 use Rattle.xns_host.specs.Coming.{Comes}
-use Rattle.xns_host.specs.Deeds.{Deed}
-use Rattle.xns_host.specs.Hosting.{IsApart, IsConnected, IsPlace, address_in, facts_in}
+use Rattle.xns_connection.specs.Deeds.{Deed}
+use Rattle.xns_host.specs.Hosting.{IsApart, IsConnected, IsFirstWant, IsPlace, address_in, facts_in}
 use Rattle.xns_host.specs.Identifiers.{StaysInOrder, TurnsOver}
 use Rattle.xns_host.specs.Places.{ActsAll, NextEvent, NextPacket, Places, places_with, taken_by, vacated}
+use Rattle.xns_host.specs.Registered.{HasLeft}
 use Rattle.xns_host.specs.Services.{Serves, most_services, programs_at}
 use Rattle.xns_host.specs.Standing.{StaysSetUpAt}
 use Rattle.xns_host.specs.Went.{Went}
@@ -24,7 +26,7 @@ use Rattle.xns_host.specs.declared.outgoing.Outgoing.{Outgoing}
 
 -- this time was told, and nothing but connections and what is to be done of them changed
 pub record Frame (now : ℕ) (old new : Host) : Type 0 where
-  pub clock : new.clock.latest ≡ max old.clock.latest now
+  pub clock : new.clock ≡ told_at old.clock now
   pub network : new.network ≡ old.network
   pub host : new.host ≡ old.host
   pub settings : new.settings ≡ old.settings
@@ -36,7 +38,7 @@ pub record Frame (now : ℕ) (old new : Host) : Type 0 where
 
 -- this was done at the connection with this number, at this time, and nothing else; where it was refused, nothing was done
 pub record Turn (now number : ℕ) (deed : Deed) (result : Result (Unit {0}) HostFault) (old new : Host) : Type 0 where
-  pub went : OnOk result (Went (max old.clock.latest now) deed (slice_get old.guests.items number) (slice_get new.guests.items number))
+  pub went : OnOk result (Went (time_at old.clock now) deed (slice_get old.guests.items number) (slice_get new.guests.items number))
   pub apart : IsApart old.guests.items new.guests.items number
   pub noted : OnOk result ((place : Option Guest) → slice_get new.guests.items number ≡ Some place
       → new.agenda ≡ noted old.agenda number (facts_in place))
@@ -52,12 +54,20 @@ places_of h = places_with h.guests.items h.agenda
 -- all that is due at this time was done; then the packet is the first of the stray replies, and where there is none, the next of a connection
 pub record GivesOut (now : ℕ) (result : Result (Option Outgoing) HostFault) (old new : Host) : Type 0 where
   pub mid : Places
-  pub acts : ActsAll (max old.clock.latest now) (places_of old) mid
+  pub acts : ActsAll (time_at old.clock now) (places_of old) mid
   pub stray : (o : Outgoing) (os : List Outgoing) → old.strays.waiting ≡ o ∷ os → (result ≡ Ok (Some o)) × (places_of new ≡ mid)
       × (new.strays ≡ record old.strays { waiting = os })
-  pub next : old.strays.waiting ≡ [] → NextPacket (max old.clock.latest now) mid result (places_of new) × (new.strays ≡ old.strays)
+  pub next : old.strays.waiting ≡ [] → NextPacket (time_at old.clock now) mid result (places_of new) × (new.strays ≡ old.strays)
   pub order : StaysInOrder old.register.identifiers new.register.identifiers
   pub set_up : StaysSetUpAt now old new
+
+-- ---- when it wants to be asked
+
+-- by the clock that was told last: when the first of what it wants is
+pub record WakesAt (h : Host) (result : Option ℕ) : Type 0 where
+  pub time : Option ℕ
+  pub first : IsFirstWant h.strays.waiting h.guests.items time
+  pub is : result ≡ when_told h.clock time
 
 -- ---- a packet that came
 
@@ -74,8 +84,8 @@ whole_of h = record {
 
 -- this time was told, and then this came of the bytes
 pub record TakesIn (now way : ℕ) (bytes : List ℕ) (result : Bool) (old new : Host) : Type 0 where
-  pub clock : new.clock.latest ≡ max old.clock.latest now
-  pub comes : Comes (max old.clock.latest now) way bytes (whole_of old) result (whole_of new)
+  pub clock : new.clock ≡ told_at old.clock now
+  pub comes : Comes (time_at old.clock now) way bytes (whole_of old) result (whole_of new)
 
 -- ---- what the program is told
 
@@ -83,6 +93,20 @@ pub record TakesIn (now way : ℕ) (bytes : List ℕ) (result : Bool) (old new :
 pub record TellsNext (result : Option Event) (old new : Host) : Type 0 where
   pub next : NextEvent old.clock.latest (places_of old) result (places_of new)
   pub order : StaysInOrder old.register.identifiers new.register.identifiers
+  pub rest : whole_of new ≡ record (whole_of old) { register = new.register; places = places_of new }
+  pub clock : new.clock ≡ old.clock
+
+-- ---- a connection that is abandoned
+
+-- the connection with this number is gone: nobody is in its place, which is free, and nothing leads to it; or there was none. Nothing else
+-- changed
+pub record Abandons (number : ℕ) (result : Result (Unit {0}) HostFault) (old new : Host) : Type 0 where
+  pub there : OnOk result ((g : Guest) × (slice_get old.guests.items number ≡ Some (Some g)))
+  pub gone : OnOk result (places_of new ≡ vacated (places_of old) number)
+  pub left : OnOk result (HasLeft old.register new.register (slice_get old.guests.items number))
+  pub order : StaysInOrder old.register.identifiers new.register.identifiers
+  pub unchanged : OnErr result (places_of new ≡ places_of old)
+  pub unleft : OnErr result (new.register ≡ old.register)
   pub rest : whole_of new ≡ record (whole_of old) { register = new.register; places = places_of new }
   pub clock : new.clock ≡ old.clock
 
@@ -107,7 +131,7 @@ pub record ServesNot (old : Host) (socket : ℕ) (result : Result (Unit {0}) Hos
 -- changed
 pub record ConnectsTo (now way socket : ℕ) (peer : Address) (result : Result ℕ HostFault) (old new : Host) : Type 0 where
   pub connected : IfOk result (λ n. IsConnected new.guests.items n old.settings old.register.identifiers
-      (address_in old.network old.host socket) peer way (max old.clock.latest now))
+      (address_in old.network old.host socket) peer way (time_at old.clock now))
   pub place : IfOk result (IsPlace old.guests.items)
   pub places : IfOk result (λ n. (g : Guest) → slice_get new.guests.items n ≡ Some (Some g)
       → places_of new ≡ taken_by (vacated (places_of old) n) n g)
@@ -115,4 +139,4 @@ pub record ConnectsTo (now way socket : ℕ) (peer : Address) (result : Result �
   pub unchanged : OnErr result (places_of new ≡ places_of old)
   pub order : OnErr result (StaysInOrder old.register.identifiers new.register.identifiers)
   pub rest : whole_of new ≡ record (whole_of old) { register = new.register; places = places_of new }
-  pub clock : new.clock.latest ≡ max old.clock.latest now
+  pub clock : new.clock ≡ told_at old.clock now

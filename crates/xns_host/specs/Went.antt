@@ -5,20 +5,13 @@ use Rattle.std.specs.declared.alloc.AllocError.{AllocError}
 use Rattle.xns_spp.specs.Held.{StandsFor}
 use Rattle.xns_spp.specs.Receiving.{StoresBytes}
 use Rattle.xns_spp.specs.State.{State}
-use Rattle.xns_host.specs.Deeds.{Deed, acted, heard, unserved}
-use Rattle.xns_host.specs.Step.{GivesNext, Hands, Step, parts_of}
-use Rattle.xns_host.specs.Story.{waiting_message}
+use Rattle.xns_connection.specs.Deeds.{Deed, acted, heard, unserved}
+use Rattle.xns_connection.specs.Step.{GivesNext, Hands, Step, parts_of}
+use Rattle.xns_connection.specs.Story.{waiting_message}
 use Rattle.xns_host.specs.declared.guest.Guest.{Guest}
 use Rattle.xns_host.specs.declared.host_fault.HostFault.{HostFault}
 use Rattle.xns_host.specs.declared.host_fault.HostFault.TheVariants.{NoMemory}
 use Rattle.xns_host.specs.declared.outgoing.Outgoing.{Outgoing}
-
--- the one in a place became the one that is in it now in this way; there is none where there was none
-abbrev pub InPlace : (Guest → Guest → Type 0) → (old new : Option Guest) → Type 0
-InPlace P None None = Unit {0}
-InPlace P None (Some h) = ⊥
-InPlace P (Some g) None = ⊥
-InPlace P (Some g) (Some h) = P g h
 
 -- ---- what the program does
 
@@ -78,11 +71,6 @@ abbrev pub given_by : (way : ℕ) → (packet_left : Bool) → Result (Option (L
 given_by way left (Ok (Some p)) = Ok (Some (record { via = way; packet = p }))
 given_by way left (Ok None) = none_by left
 given_by way left (Err e) = Err NoMemory
-
--- where memory was refused, the host says so
-abbrev pub as_fault : Result (Option Outgoing) AllocError → Result (Option Outgoing) HostFault
-as_fault (Ok p) = Ok p
-as_fault (Err e) = Err NoMemory
 
 -- the connection was asked for its next packet
 pub record GuestGives (now : ℕ) (result : Result (Option Outgoing) HostFault) (g h : Guest) : Type 0 where

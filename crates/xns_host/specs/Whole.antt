@@ -1,4 +1,4 @@
--- All of a host but the latest time that was told.
+-- All of a host but its clock.
 use Rattle.std.specs.Prelude.{ℕ, List}
 use Rattle.xns_host.specs.Places.{Places}
 use Rattle.xns_host.specs.Strays.{StrayQueue}

@@ -1,6 +1,11 @@
-use crate::why::Why;
-use courier_messages::PiecedMessage;
+//! What a host tells its program.
+
+ghost use Rattle.std.specs.Prelude.{◌≡◌};
+ghost use Rattle.xns_host.specs.Events.{event_of};
+
+use courier_messages::{Head, PiecedMessage};
 use courier_sessions::Answer;
+use xns_connection::Why;
 
 /// What a host tells its program of the connection with this number. Those of one connection come in the order in which they came to be.
 #[derive(Debug, Drop)]
@@ -26,4 +31,34 @@ pub enum Event {
         number: usize,
         why: Why,
     },
+}
+
+/// What the program is told of a message of the connection with this number.
+pub fn event_of(number: usize, message: PiecedMessage) -> Event
+    ensures { result ≡ event_of number message }
+{
+    let answer = match message.head() {
+        Head::Call {
+            program,
+            version,
+            procedure,
+            ..
+        } => {
+            return Event::Call {
+                number,
+                program,
+                version,
+                procedure,
+                message,
+            };
+        }
+        Head::Return { .. } => Answer::Return,
+        Head::Abort { error, .. } => Answer::Abort { error },
+        Head::Reject { reason, .. } => Answer::Reject { reason },
+    };
+    Event::Answer {
+        number,
+        answer,
+        message,
+    }
 }

@@ -1,28 +1,30 @@
 //! A connection in its place at a host.
 
-ghost use Rattle.std.specs.Prelude.{◌≡◌, ℕ, List, OnErr, OnOk, Ok, None, Some, true};
+ghost use Rattle.std.specs.Prelude.{◌≡◌, ◌≢◌, ◌<◌, ℕ, List, OnErr, OnOk, Ok, None, Some};
+ghost use Rattle.xns_agenda.specs.Waiting.{IsDueAfter, last_time};
+ghost use Rattle.xns_host.specs.Events.{event_for};
 ghost use Rattle.xns_host.specs.Hosting.{IsNotDone, facts_of, lingers_since, may_go, stranger_since};
+ghost use Rattle.xns_spp.specs.Ends.{is_ours_at};
 ghost use Rattle.xns_spp.specs.Held.{StandsFor};
 ghost use Rattle.xns_spp.specs.Packet.{IsSppPacket, spp_packet_of};
-ghost use Rattle.xns_spp.specs.Receiving.{StoresBytes};
 ghost use Rattle.xns_spp.specs.State.{State};
 ghost use Rattle.courier_messages.specs.RawCalls.{words_call};
-ghost use Rattle.xns_host.specs.Deeds.{asked, gave, made};
+ghost use Rattle.xns_connection.specs.Deeds.{asked, gave, made};
 ghost use Rattle.xns_host.specs.Quotes.{is_opened_by};
-ghost use Rattle.xns_host.specs.Reasons.{call_fault_of, answer_fault_of};
-ghost use Rattle.xns_host.specs.Refusing.{Answers};
-ghost use Rattle.xns_host.specs.Went.{GuestHeard, GuestStep, GuestUnserved};
-ghost use Rattle.xns_host.specs.Knowing.{known_of};
-ghost use Rattle.xns_host.specs.Telling.{Goes, Hears};
+ghost use Rattle.xns_connection.specs.Reasons.{call_fault_of, answer_fault_of};
+ghost use Rattle.xns_host.specs.Refusing.{TellsRefusal};
+ghost use Rattle.xns_connection.specs.Telling.{Goes};
+ghost use Rattle.xns_host.specs.Went.{GuestActs, GuestGives, GuestHears, GuestStep, GuestTells, GuestUnserved};
 
-use crate::connection::Connection;
-use crate::host_fault::HostFault;
-use crate::laws::a_step_keeps_its_promises;
+use crate::event::{Event, event_of};
+use crate::host_fault::{HostFault, told};
 use crate::opening_quote::OpeningQuote;
+use crate::outgoing::Outgoing;
 use crate::peer::Peer;
 use courier_sessions::Answer;
-use std::alloc::{AllocError, Global};
+use std::alloc::Global;
 use xns_agenda::Facts;
+use xns_connection::Connection;
 use xns_idp::Address;
 use xns_spp::SppPacket;
 
@@ -31,7 +33,7 @@ use xns_spp::SppPacket;
 pub struct Guest {
     pub connection: Connection,
     /// The program's number of the way by which its packets go out.
-    pub via: u32,
+    pub via: u64,
     /// Our own identifier.
     pub id: u16,
     /// Whom it was opened to, or who opened it.
@@ -45,31 +47,15 @@ pub struct Guest {
 }
 
 impl Guest {
-    /// Takes in a packet that was read from bytes, at this time. Where memory is refused it is as if the packet were lost.
-    pub fn receive(
-        &mut self,
-        alloc: Global,
-        now: u64,
-        confirms: bool,
-        packet: &SppPacket,
-    ) -> Result<(), AllocError>
+    /// Takes in a packet of the connection that was read from bytes, at this time; whether it confirms the connection is told. Where memory
+    /// is refused it is as if the packet were lost.
+    pub fn receive(&mut self, alloc: Global, now: u64, confirms: bool, packet: &SppPacket)
         requires { IsSppPacket packet.now }
-        ensures hears { OnOk result ((b : List ℕ) → spp_packet_of b ≡ Ok packet.now
-            → Hears self.old.connection.conversation self.new.connection.conversation b) }
-        ensures unchanged { OnErr result (self.new ≡ self.old) }
-        ensures memory { OnErr result ((s : State) (b : List ℕ) → StandsFor self.old.connection.conversation.endpoint s
-            → spp_packet_of b ≡ Ok packet.now → StoresBytes s b) }
-        ensures known { known_of self.new ≡ known_of self.old }
-        ensures not_done { IsNotDone self.old.connection → IsNotDone self.new.connection }
-        ensures heard { OnOk result ((b : List ℕ) → spp_packet_of b ≡ Ok packet.now → GuestHeard now b confirms self.old self.new) }
+        ensures { (b : List ℕ) → spp_packet_of b ≡ Ok packet.now → GuestHears now b confirms self.old self.new }
     {
-        a_step_keeps_its_promises();
-        xns_spp::laws::written_packet_is_read_again();
-        self.connection.receive(alloc, now, packet)?;
-        if confirms {
-            self.confirmed = true;
+        if let Ok(()) = self.connection.receive(alloc, now, packet) {
+            self.confirmed = confirms || self.confirmed;
         }
-        Ok(())
     }
 
     /// Puts out a call.
@@ -82,12 +68,14 @@ impl Guest {
         procedure: u16,
         words: &[u16],
     ) -> Result<(), HostFault>
-        ensures refused { Answers (call_fault_of self.old.connection.conversation (words_call program version procedure words.now)) result }
+        ensures refused { TellsRefusal (call_fault_of self.old.connection.conversation (words_call program version procedure words.now)) result }
         ensures step { OnOk result (GuestStep now (made (words_call program version procedure words.now)) self.old self.new) }
         ensures unchanged { OnErr result (self.new ≡ self.old) }
     {
-        self.connection
-            .call(alloc, now, program, version, procedure, words)
+        told(
+            self.connection
+                .call(alloc, now, program, version, procedure, words),
+        )
     }
 
     /// Answers the call that was handed.
@@ -98,11 +86,11 @@ impl Guest {
         answer: Answer,
         words: &[u16],
     ) -> Result<(), HostFault>
-        ensures refused { Answers (answer_fault_of self.old.connection.conversation answer words.now) result }
+        ensures refused { TellsRefusal (answer_fault_of self.old.connection.conversation answer words.now) result }
         ensures step { OnOk result (GuestStep now (gave answer words.now) self.old self.new) }
         ensures unchanged { OnErr result (self.new ≡ self.old) }
     {
-        self.connection.answer(alloc, now, answer, words)
+        told(self.connection.answer(alloc, now, answer, words))
     }
 
     /// Closes the connection once all that it has to say is said.
@@ -114,12 +102,58 @@ impl Guest {
 
     /// Nobody hears the packet that was to open the connection: it is closed, unless it is open or closed.
     pub fn not_served(&mut self, now: u64)
-        ensures goes { Goes self.old.connection.conversation self.new.connection.conversation }
-        ensures known { known_of self.new ≡ known_of self.old }
-        ensures not_done { IsNotDone self.old.connection → IsNotDone self.new.connection }
         ensures unserved { GuestUnserved now self.old self.new }
+        ensures goes { Goes self.old.connection.conversation self.new.connection.conversation }
+        ensures not_done { IsNotDone self.old.connection → IsNotDone self.new.connection }
     {
         self.connection.not_served(now);
+    }
+
+    /// Does what is due.
+    pub fn act(&mut self, now: u64)
+        ensures acts { GuestActs now self.old self.new }
+        ensures goes { Goes self.old.connection.conversation self.new.connection.conversation }
+        ensures later { now < last_time → IsDueAfter now self.new.connection.wait.due }
+    {
+        self.connection.act(now);
+    }
+
+    /// What the program is told of the connection, which has this number, once. `None`: nothing.
+    pub fn tell(&mut self, alloc: Global, now: u64, number: usize) -> Option<Event>
+        ensures event { result ≡ event_for number self.old.connection }
+        ensures tells { result ≢ None → GuestTells now self.old self.new }
+        ensures none { result ≡ None → self.new ≡ self.old }
+    {
+        if let Some(message) = self.connection.take_message(alloc, now) {
+            self.heard_of = true;
+            return Some(event_of(number, message));
+        }
+        let why = self.connection.take_why()?;
+        Some(Event::Closed { number, why })
+    }
+
+    /// The next packet that is to go out. `None`: there is none, until something is done again. The only error is
+    /// [`HostFault::NoMemory`]: what is to go out stays so.
+    pub fn next_packet(&mut self, alloc: Global, now: u64) -> Result<Option<Outgoing>, HostFault>
+        ensures { GuestGives now result self.old self.new }
+    {
+        match self.connection.next_packet(alloc, now) {
+            Ok(Some(packet)) => Ok(Some(Outgoing {
+                via: self.via,
+                packet,
+            })),
+            // Memory was refused while items moved.
+            Ok(None) if self.connection.has_packet() => Err(HostFault::NoMemory),
+            Ok(None) => Ok(None),
+            Err(_) => Err(HostFault::NoMemory),
+        }
+    }
+
+    /// Whether a packet is one of the connection.
+    pub fn is_ours(&self, packet: &SppPacket) -> bool
+        ensures { (s : State) → StandsFor self.now.connection.conversation.endpoint s → result ≡ is_ours_at s.ends packet.now }
+    {
+        self.connection.is_ours(packet)
     }
 
     /// Whether a quoted packet was to open the connection, which is not open yet.
@@ -182,6 +216,6 @@ impl Guest {
     {
         self.connection.is_closed()
             && self.connection.is_told()
-            && self.connection.due().time().is_none()
+            && (self.connection.is_dead() || self.connection.due().time().is_none())
     }
 }

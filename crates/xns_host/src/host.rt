@@ -3,10 +3,11 @@
 ghost use Rattle.std.specs.Prelude.{◌≡◌, ◌≤◌, ◌⊎◌, Option, length, false, IfOk, OnErr, Some, None, Ok, Err, count_by, slice_get};
 ghost use Rattle.std.specs.Option.{is_some};
 ghost use Rattle.courier_messages.specs.RawCalls.{words_call};
-ghost use Rattle.xns_host.specs.Deeds.{asked, gave, made};
+ghost use Rattle.xns_connection.specs.Deeds.{asked, gave, made};
 ghost use Rattle.xns_host.specs.Hosting.{HasNoRoom, HasNoneDone, IsAllInUse, IsAllNoted, IsFirstWant, address_in, has_guest};
-ghost use Rattle.xns_host.specs.Reasons.{answer_fault_of, call_fault_of};
-ghost use Rattle.xns_host.specs.Refusing.{Answers};
+ghost use Rattle.xns_host.specs.Numbers.{IsNumberFrom};
+ghost use Rattle.xns_connection.specs.Reasons.{answer_fault_of, call_fault_of};
+ghost use Rattle.xns_host.specs.Refusing.{TellsRefusal};
 ghost use Rattle.xns_host.specs.Registered.{IsAllRegistered};
 ghost use Rattle.xns_host.specs.Settings.{IsFit, most_connections, wrong_setting};
 ghost use Rattle.xns_host.specs.declared.guest.Guest.{Guest};
@@ -16,24 +17,25 @@ ghost use Rattle.xns_host.specs.declared.setting.Setting.{Setting};
 mod fetching;
 mod receiving;
 
-use crate::connection::Connection;
 use crate::guest::Guest;
 use crate::host_fault::HostFault;
-use crate::laws::a_step_keeps_its_promises;
+use crate::numbers::number_from;
 use crate::register::Register;
 use crate::services::Services;
 use crate::settings::Settings;
-use crate::slots::{count, no_guests, note, put_in};
+use crate::slots::{count, forget_in, no_guests, note, put_in};
 use crate::strays::Strays;
 use courier_sessions::{Answer, Program};
 use std::alloc::{AllocError, Global};
 use xns_agenda::{Agenda, Clock};
+use xns_connection::Connection;
+use xns_connection::laws::a_step_keeps_its_promises;
 use xns_idp::Address;
 
 /// Many Courier conversations behind one address. It is given packets and the time, and gives packets, calls, answers, and when it
 /// wants to be asked again. It has no socket, no clock and no thread of its own.
 ///
-/// Times are in milliseconds of any clock. One that goes back counts as the latest that was told.
+/// Times are in milliseconds of any clock. A host goes by the steps forward: one back counts as none, and one of more than a day as a day.
 #[derive(Drop)]
 pub struct Host {
     alloc: Global,
@@ -61,7 +63,7 @@ pub struct Host {
 
 impl Host {
     ghost use Rattle.xns_host.specs.Standing.{IsNewHost};
-    ghost use Rattle.xns_host.specs.Turn.{ConnectsTo, ServesAt, ServesNot, Turn};
+    ghost use Rattle.xns_host.specs.Turn.{Abandons, ConnectsTo, ServesAt, ServesNot, Turn, WakesAt};
 
     /// A host at this address, without services and connections. The identifiers of its connections come in an order that the secret
     /// gives.
@@ -140,7 +142,7 @@ impl Host {
     pub fn connect(
         &mut self,
         now: u64,
-        via: u32,
+        via: u64,
         socket: u16,
         peer: Address,
     ) -> Result<usize, HostFault>
@@ -158,8 +160,8 @@ impl Host {
             return Err(HostFault::NoRoom);
         };
         let own = self.address(socket);
-        let Ok(connection) = Connection::calling(self.alloc, &self.settings, own, id, peer, now)
-        else {
+        let terms = self.settings.terms();
+        let Ok(connection) = Connection::calling(self.alloc, &terms, own, id, peer, now) else {
             return Err(HostFault::NoMemory);
         };
         let _ = self.register.take(number as u16);
@@ -187,7 +189,7 @@ impl Host {
     /// An `Err`, which changes nothing, is [`HostFault::NoConnection`], [`HostFault::PeerCalls`] where the peer opened it,
     /// [`HostFault::Closing`] where it is closed or was asked to close, [`HostFault::Busy`] while a call waits or its answer was not
     /// fetched, [`HostFault::TooLong`] over 65,530 words, or [`HostFault::NoMemory`].
-    #[tactic(auto, using(crate::proofs::Noting::put_back, crate::proofs::Turns::slot_registered, crate::proofs::Turns::slot_not_done))]
+    #[tactic(auto, using(crate::proofs::Noting::put_back))]
     pub fn call(
         &mut self,
         now: u64,
@@ -199,7 +201,7 @@ impl Host {
     ) -> Result<(), HostFault>
         ensures none { has_guest (slice_get self.old.guests.items number) ≡ false → result ≡ Err (NoConnection number) }
         ensures refused { (g : Guest) → slice_get self.old.guests.items number ≡ Some (Some g)
-            → Answers (call_fault_of g.connection.conversation (words_call program version procedure words.now)) result }
+            → TellsRefusal (call_fault_of g.connection.conversation (words_call program version procedure words.now)) result }
         ensures turn { Turn now number (made (words_call program version procedure words.now)) result self.old self.new }
     {
         a_step_keeps_its_promises();
@@ -220,7 +222,7 @@ impl Host {
     /// An `Err`, which changes nothing, is [`HostFault::NoConnection`], [`HostFault::NoCall`] where no call was handed that is not
     /// answered, [`HostFault::Closing`] where the connection is closed, [`HostFault::TooLong`] over 131,072 bytes, or
     /// [`HostFault::NoMemory`].
-    #[tactic(auto, using(crate::proofs::Noting::put_back, crate::proofs::Turns::slot_registered, crate::proofs::Turns::slot_not_done))]
+    #[tactic(auto, using(crate::proofs::Noting::put_back))]
     pub fn answer(
         &mut self,
         now: u64,
@@ -230,7 +232,7 @@ impl Host {
     ) -> Result<(), HostFault>
         ensures none { has_guest (slice_get self.old.guests.items number) ≡ false → result ≡ Err (NoConnection number) }
         ensures refused { (g : Guest) → slice_get self.old.guests.items number ≡ Some (Some g)
-            → Answers (answer_fault_of g.connection.conversation answer words.now) result }
+            → TellsRefusal (answer_fault_of g.connection.conversation answer words.now) result }
         ensures turn { Turn now number (gave answer words.now) result self.old self.new }
     {
         a_step_keeps_its_promises();
@@ -247,7 +249,7 @@ impl Host {
     }
 
     /// Closes a connection once all that it has to say is said. An `Err`, which changes nothing, is [`HostFault::NoConnection`].
-    #[tactic(auto, using(crate::proofs::Noting::put_back, crate::proofs::Turns::slot_registered, crate::proofs::Turns::slot_not_done))]
+    #[tactic(auto, using(crate::proofs::Noting::put_back))]
     pub fn close(&mut self, now: u64, number: usize) -> Result<(), HostFault>
         ensures none { has_guest (slice_get self.old.guests.items number) ≡ false → result ≡ Err (NoConnection number) }
         ensures some { (g : Guest) → slice_get self.old.guests.items number ≡ Some (Some g) → result ≡ Ok tt }
@@ -266,15 +268,52 @@ impl Host {
         Ok(())
     }
 
-    /// When [`next_packet`](Host::next_packet) wants to be asked at the latest; 0, which is at once, where something may be to go out.
-    /// `None`: never, until something is done.
-    pub fn wake(&self) -> Option<u64>
+    /// Whether there is a connection with this number.
+    fn has(&self, number: usize) -> bool
+        ensures { result ≡ has_guest (slice_get self.now.guests.items number) }
+    {
+        match self.guests.get(number) {
+            Some(Some(_)) => true,
+            _ => false,
+        }
+    }
+
+    /// Gives a connection up at once: it is gone, nothing of it goes out any longer, its closing is not told, and its number is free. What
+    /// still comes for it is as of a connection that is not there. An `Err`, which changes nothing, is [`HostFault::NoConnection`].
+    pub fn abandon(&mut self, number: usize) -> Result<(), HostFault>
+        ensures none { has_guest (slice_get self.old.guests.items number) ≡ false → result ≡ Err (NoConnection number) }
+        ensures some { (g : Guest) → slice_get self.old.guests.items number ≡ Some (Some g) → result ≡ Ok tt }
+        ensures gone { Abandons number result self.old self.new }
+    {
+        if !self.has(number) {
+            return Err(HostFault::NoConnection { number });
+        }
+        forget_in(
+            &mut self.register,
+            &mut self.guests,
+            &mut self.agenda,
+            number,
+        );
+        Ok(())
+    }
+
+    /// When the first of what it wants is, by its own time; 0 is at once.
+    fn first_want(&self) -> Option<u64>
         ensures { IsFirstWant self.now.strays.waiting self.now.guests.items result }
     {
         if !self.strays.is_empty() {
             return Some(0);
         }
         self.agenda.wake()
+    }
+
+    /// When the host wants to be asked at the latest, by the clock that it was told last: [`next_event`](Host::next_event) until it tells
+    /// nothing, and then [`next_packet`](Host::next_packet). 0, which is at once, where something may be to be told or to go out. `None`:
+    /// never, until something is done.
+    pub fn wake(&self) -> Option<u64>
+        ensures { WakesAt self.now result }
+    {
+        self.clock.when_told(self.first_want())
     }
 
     /// How many connections there are: at most as many as the settings say.
@@ -294,5 +333,13 @@ impl Host {
             Some(Some(guest)) => Some(guest.peer),
             _ => None,
         }
+    }
+
+    /// The first number from this one on that a connection has: with [`connections`](Host::connections) a walk over all. `None`: no
+    /// connection has one.
+    pub fn number_from(&self, from: usize) -> Option<usize>
+        ensures { IsNumberFrom self.now.guests.items from result }
+    {
+        number_from(self.guests.as_slice(), from)
     }
 }

@@ -1,5 +1,9 @@
+ghost use Rattle.std.specs.Prelude.{◌≡◌};
+ghost use Rattle.xns_host.specs.Refusing.{fault_of, told};
+
 use crate::setting::Setting;
 use thiserror::Error;
+use xns_connection::Refusal;
 
 /// Why a host does not do what it is asked. Nothing is changed then.
 #[derive(Clone, Copy, Debug, PartialEq, Eq, Error)]
@@ -34,4 +38,29 @@ pub enum HostFault {
     /// An allocation failure.
     #[error("an allocation failure")]
     NoMemory,
+}
+
+impl From<Refusal> for HostFault {
+    fn from(refusal: Refusal) -> HostFault
+        ensures { result ≡ fault_of refusal }
+    {
+        match refusal {
+            Refusal::Busy => HostFault::Busy,
+            Refusal::PeerCalls => HostFault::PeerCalls,
+            Refusal::NoCall => HostFault::NoCall,
+            Refusal::Closing => HostFault::Closing,
+            Refusal::TooLong => HostFault::TooLong,
+            Refusal::NoMemory => HostFault::NoMemory,
+        }
+    }
+}
+
+/// What a host tells of what one of its connections did.
+pub fn told(done: Result<(), Refusal>) -> Result<(), HostFault>
+    ensures { result ≡ told done }
+{
+    match done {
+        Ok(()) => Ok(()),
+        Err(refusal) => Err(HostFault::from(refusal)),
+    }
 }

@@ -1,30 +1,23 @@
 //! Many Courier conversations behind one address, with time.
 #![tactic(auto)]
 
-mod closing;
-mod connection;
-mod conversation;
 mod event;
 mod guest;
 mod host;
 mod host_fault;
 mod identifiers;
 pub mod laws;
+mod numbers;
 mod opening_quote;
 mod outgoing;
-mod owed;
 mod peer;
 mod register;
 mod services;
 mod setting;
 mod settings;
-mod side;
 mod slots;
 mod strays;
-mod why;
-mod why_closed;
 
-pub use connection::Connection;
 pub use event::Event;
 pub use host::Host;
 pub use host_fault::HostFault;
@@ -36,5 +29,4 @@ pub use services::Services;
 pub use setting::Setting;
 pub use settings::Settings;
 pub use strays::Strays;
-pub use why::Why;
-pub use xns_agenda::{Act, Due, Pace};
+pub use xns_connection::{Act, Connection, Due, Pace, Refusal, Terms, Why};

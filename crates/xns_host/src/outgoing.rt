@@ -4,6 +4,6 @@ use xns_spp::Bytes;
 #[derive(Drop)]
 pub struct Outgoing {
     /// The program's number of the way by which it goes out: that of its connection, or that of the packet that it answers.
-    pub via: u32,
+    pub via: u64,
     pub packet: Bytes,
 }

@@ -1,9 +1,10 @@
 ghost use Rattle.std.specs.Prelude.{◌≡◌, Ok, IfOk, OnOk};
-ghost use Rattle.xns_host.specs.Settings.{usual_settings, settings_answer, wrong_setting, is_within, IsFit, IsPaceOf};
+ghost use Rattle.xns_host.specs.Settings.{usual_settings, settings_answer, wrong_setting, is_within, AreTermsOf, IsFit, IsPaceOf};
 
 use crate::host_fault::HostFault;
 use crate::setting::Setting;
 use xns_agenda::Pace;
+use xns_connection::Terms;
 use xns_spp::MOST_PENDING;
 
 /// What a host is made with. Each has its range, which [`Settings::check`] asks. Times are in milliseconds.
@@ -101,6 +102,18 @@ impl Settings {
             longest: self.longest_wait,
             idle: self.idle,
             tries: self.tries,
+        }
+    }
+
+    /// What a connection is made with.
+    pub fn terms(&self) -> Terms
+        requires { IsFit self.now }
+        ensures { AreTermsOf self.now result }
+    {
+        Terms {
+            window: self.window,
+            backlog: self.backlog,
+            pace: self.pace(),
         }
     }
 }

@@ -19,7 +19,7 @@ use xns_spp::Bytes;
 pub struct Strays {
     waiting: VecDeque<Outgoing>,
     most: usize,
-    /// Whether memory was refused for the last one, which is lost.
+    /// Whether memory was refused for the last packet that was to be answered here or to open a connection, which is lost.
     starved: bool,
 }
 
@@ -65,6 +65,13 @@ impl Strays {
         }
     }
 
+    /// Notes that memory was refused for a packet that came.
+    pub fn lose(&mut self)
+        ensures { self.new ≡ lost_stray self.old }
+    {
+        self.starved = true;
+    }
+
     /// Takes the first.
     pub fn take(&mut self) -> Option<Outgoing>
         ensures waiting { self.old.waiting ≡ option_to_list result ++ self.new.waiting }
@@ -80,7 +87,7 @@ impl Strays {
         &mut self,
         alloc: Global,
         own: Address,
-        via: u32,
+        via: u64,
         packet: &Packet<'_>,
     ) -> Result<bool, AllocError>
         requires { length packet.now.body.now ≤ most_data }
@@ -94,7 +101,7 @@ impl Strays {
             Ok(Some(reply)) => reply,
             Ok(None) => return Ok(false),
             Err(error) => {
-                self.starved = true;
+                self.lose();
                 return Err(error);
             }
         };

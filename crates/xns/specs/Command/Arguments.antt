@@ -6,7 +6,7 @@ use Rattle.clap.specs.Kinds.{or_else}
 use Rattle.clap.specs.Lexer.{usize_max}
 use Rattle.clap.specs.Words.{App, Kinds, Row, Rule, Text, all_of, fault_of, first_of, new_app, new_rule, subcommand_of, with_rule, with_subcommand}
 use Rattle.clap.specs.declared.error.kind.ErrorKind.TheVariants as kind
-use Rattle.clap.specs.declared.builder.action.ArgAction.TheVariants.{SetTrue}
+use Rattle.clap.specs.declared.builder.action.ArgAction.TheVariants.{Append, SetTrue}
 use Rattle.xns_calls.specs.declared.times.Times.{Times}
 use Rattle.xns_calls.specs.declared.times.Times.TheVariants.{Hidden, Absolute, Relative}
 use Rattle.xns_command.specs.declared.mode.Mode.{Mode}
@@ -26,9 +26,15 @@ file_rule = record (new_rule (codes "file")) { value_names = 1 }
 abbrev pub flag_rule : Text → Rule
 flag_rule name = record (new_rule name) { long = Some name; action = Some SetTrue }
 
--- `calls` with its file, and the flags for times
+-- an option with a file, which may come again
+abbrev pub option_rule : Text → Rule
+option_rule name = record (new_rule name) { long = Some name; value_names = 1; action = Some Append }
+
+-- `calls` with its file, the flags for times, and the descriptions of programs
 abbrev pub calls_app : App
-calls_app = with_rule (with_rule (with_rule (new_app (codes "calls")) file_rule) (flag_rule (codes "times"))) (flag_rule (codes "relative"))
+calls_app =
+    let times = with_rule (with_rule (with_rule (new_app (codes "calls")) file_rule) (flag_rule (codes "times"))) (flag_rule (codes "relative")) in
+    with_rule times (option_rule (codes "programs"))
 
 -- `xns` with its version, and with the subcommands that read captures, `dump` and `calls`, each with an optional file; a subcommand is
 -- required
@@ -55,13 +61,17 @@ program_app = with_subcommand (with_subcommand reading_app (with_rule (new_app (
 abbrev pub named_subcommand : List Text → Option Text
 named_subcommand words = option_map (λ p. p.0) (subcommand_of program_app words)
 
--- the files behind a subcommand
-abbrev pub files_in : Option (Text × List Row) → List Text
-files_in found = unwrap_or (option_and_then (λ p. all_of (codes "file") p.1) found) []
+-- the values of an argument that a subcommand has
+abbrev pub values_in : Text → Option (Text × List Row) → List Text
+values_in name found = unwrap_or (option_and_then (λ p. all_of name p.1) found) []
 
--- those that the words name
+-- the files that the words name
 abbrev pub named_files : List Text → List Text
-named_files words = files_in (subcommand_of program_app words)
+named_files words = values_in (codes "file") (subcommand_of program_app words)
+
+-- the descriptions of programs that they name
+abbrev pub named_descriptions : List Text → List Text
+named_descriptions words = values_in (codes "programs") (subcommand_of program_app words)
 
 abbrev pub is_true : Option Text → Bool
 is_true None = false
@@ -97,10 +107,12 @@ abbrev pub refusals_of : List Text → Kinds
 refusals_of words = or_else (fault_of program_app words)
     (if is_mode (named_subcommand words) || is_programs (named_subcommand words) then [] else kind.MissingSubcommand ∷ [])
 
--- the words ask for that: for a mode, over the first file that they name, or for the programs of all of them
+-- the words ask for that: for a mode, over the first file that they name, with calls named by the programs that they name, or for the
+-- programs of all files
 abbrev pub Asks : Request → List Text → Type 0
-Asks (Run mode file times) words = (named_subcommand words ≡ Some (name_of mode))
+Asks (Run mode file times descriptions) words = (named_subcommand words ≡ Some (name_of mode))
     × (option_map (λ text. text.now) file ≡ slice_get (named_files words) 0) × (times ≡ named_times words)
+    × (texts descriptions.items ≡ named_descriptions words)
 Asks (Programs files) words = (named_subcommand words ≡ Some (codes "programs")) × (texts files.items ≡ named_files words)
 
 -- the words `xns` and the mode's name
@@ -114,3 +126,7 @@ words_with_file mode = codes "xns" ∷ name_of mode ∷ codes "x.pcap" ∷ []
 -- the words that print a description
 abbrev pub words_of_programs : List Text
 words_of_programs = codes "xns" ∷ codes "programs" ∷ codes "x.courier" ∷ []
+
+-- the words that print calls by the programs of a description
+abbrev pub words_of_named_calls : List Text
+words_of_named_calls = codes "xns" ∷ codes "calls" ∷ codes "--programs" ∷ codes "x.courier" ∷ codes "x.pcap" ∷ []

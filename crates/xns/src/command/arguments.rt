@@ -4,10 +4,10 @@ ghost use Rattle.clap.specs.Words.{FailsBy, app_of, fault_of, kind_of, new_app, 
 ghost use Rattle.clap.specs.declared.builder.command.Command.TheViews.{out-Command as fields_of};
 ghost use Rattle.xns_command.specs.declared.mode.Mode.{Mode};
 ghost use Rattle.xns_command.specs.Modes.{name_of};
-ghost use Rattle.xns.specs.Command.Arguments.{Asks, calls_app, file_rule, files_in, files_rule, flag_in, flag_rule, is_programs};
-ghost use Rattle.xns.specs.Command.Arguments.{is_true as is_true_text, named_files, named_subcommand, named_times, plain_word as plain_word_of};
-ghost use Rattle.xns.specs.Command.Arguments.{program_app, reading_app, refusals_of, texts, times_by, words_of, words_of_programs};
-ghost use Rattle.xns.specs.Command.Arguments.{words_with_file};
+ghost use Rattle.xns.specs.Command.Arguments.{Asks, calls_app, file_rule, files_rule, flag_in, flag_rule, is_programs};
+ghost use Rattle.xns.specs.Command.Arguments.{is_true as is_true_text, named_descriptions, named_files, named_subcommand, named_times};
+ghost use Rattle.xns.specs.Command.Arguments.{option_rule, plain_word as plain_word_of, program_app, reading_app, refusals_of, texts};
+ghost use Rattle.xns.specs.Command.Arguments.{times_by, values_in, words_of, words_of_named_calls, words_of_programs, words_with_file};
 
 use crate::command::help::{ABOUT, CALLS_HELP, DUMP_HELP, HELP, PROGRAMS_HELP, SIM_HELP, VERSION};
 use crate::command::request::Request;
@@ -31,6 +31,12 @@ const TIMES_HELP: &str =
     "Print when each frame was captured, in seconds since 1970, and how long each call took";
 
 const RELATIVE_HELP: &str = "The same as --times=relative: in seconds since the first frame";
+
+/// The name of the option for descriptions of programs.
+const PROGRAMS: &str = "programs";
+/// What it does.
+const NAMING_HELP: &str =
+    "Name calls by the programs that this file in Courier's notation describes; again for each file";
 
 /// A command that takes an optional file in place of standard input.
 fn with_file<'a>(
@@ -62,6 +68,24 @@ fn with_flag<'a>(
     command.arg(flag)
 }
 
+/// A command that takes an option more, with a file, which may come again.
+fn with_option<'a>(
+    alloc: Global,
+    command: Command<'a>,
+    name: &'a str,
+    help: &'a str,
+) -> Result<Command<'a>, AllocError>
+    ensures app { IfOk result (λ r. app_of r ≡ with_rule (app_of command.entry) (option_rule name.entry.now)) }
+    ensures local { IfOk result (λ r. (fields_of r).has_globals ≡ (fields_of command.entry).has_globals) }
+{
+    let option = Arg::new(alloc, name)
+        .long(name)
+        .value_name("FILE")
+        .action(ArgAction::Append)
+        .help(help);
+    command.arg(option)
+}
+
 /// `dump`, with its file.
 fn dump_command<'a>(alloc: Global) -> Result<Command<'a>, AllocError>
     ensures app { IfOk result (λ command. app_of command ≡ with_rule (new_app (codes "dump")) file_rule) }
@@ -73,7 +97,7 @@ fn dump_command<'a>(alloc: Global) -> Result<Command<'a>, AllocError>
     with_file(alloc, dump, CAPTURE)
 }
 
-/// `calls`, with its file, and the flags for times.
+/// `calls`, with its file, the flags for times, and the descriptions of programs.
 fn calls_command<'a>(alloc: Global) -> Result<Command<'a>, AllocError>
     ensures app { IfOk result (λ command. app_of command ≡ calls_app) }
     ensures local { IfOk result (λ command. (fields_of command).has_globals ≡ false) }
@@ -83,7 +107,8 @@ fn calls_command<'a>(alloc: Global) -> Result<Command<'a>, AllocError>
         .after_help(CALLS_HELP);
     let calls = with_file(alloc, calls, CAPTURE)?;
     let calls = with_flag(alloc, calls, TIMES, TIMES_HELP)?;
-    with_flag(alloc, calls, RELATIVE, RELATIVE_HELP)
+    let calls = with_flag(alloc, calls, RELATIVE, RELATIVE_HELP)?;
+    with_option(alloc, calls, PROGRAMS, NAMING_HELP)
 }
 
 /// `sim`, with its file.
@@ -154,16 +179,18 @@ pub fn request<'a>(alloc: Global, words: &'a [&'a str]) -> Result<Request<'a>, E
     ensures asked { IfOk result (λ request. Asks request (texts words.entry.now)) }
     // An error is one of memory, or has a kind that clap's meaning of the words gives.
     ensures kinds { FailsBy (refusals_of (texts words.entry.now)) result }
-    // The mode's own words, a file that is called x.pcap behind them, and the words that print a description, are refused for
-    // memory alone.
+    // The mode's own words, a file that is called x.pcap behind them, the words that print a description, and those that print
+    // calls by one, are refused for memory alone.
     ensures alone { IfErr result (λ error. (mode : Mode) → texts words.entry.now ≡ words_of mode
         → kind_of error ≡ ErrorKind.OutOfMemory) }
     ensures of_file { IfErr result (λ error. (mode : Mode) → texts words.entry.now ≡ words_with_file mode
         → kind_of error ≡ ErrorKind.OutOfMemory) }
     ensures of_description { IfErr result (λ error. texts words.entry.now ≡ words_of_programs
         → kind_of error ≡ ErrorKind.OutOfMemory) }
+    ensures of_named_calls { IfErr result (λ error. texts words.entry.now ≡ words_of_named_calls
+        → kind_of error ≡ ErrorKind.OutOfMemory) }
 {
-    let (name, files, times) = named_in(alloc, words)?;
+    let (name, files, times, descriptions) = named_in(alloc, words)?;
     if names_programs(name) {
         return Ok(Request::Programs { files });
     }
@@ -172,17 +199,23 @@ pub fn request<'a>(alloc: Global, words: &'a [&'a str]) -> Result<Request<'a>, E
         return Err(program(alloc)?.error(ErrorKind::MissingSubcommand, message)?);
     };
     let file = files.first().copied();
-    Ok(Request::Run { mode, file, times })
+    Ok(Request::Run {
+        mode,
+        file,
+        times,
+        descriptions,
+    })
 }
 
-/// The name of the subcommand that the words name, its files, and the times that it prints.
+/// The name of the subcommand that the words name, its files, the times that it prints, and the descriptions of programs.
 fn named_in<'a>(
     alloc: Global,
     words: &'a [&'a str],
-) -> Result<(Option<&'a str>, Vec<&'a str>, Times), Error>
+) -> Result<(Option<&'a str>, Vec<&'a str>, Times, Vec<&'a str>), Error>
     ensures named { IfOk result (λ found. option_map (λ text. text.now) found.0 ≡ named_subcommand (texts words.entry.now)) }
     ensures files { IfOk result (λ found. texts found.1.items ≡ named_files (texts words.entry.now)) }
     ensures times { IfOk result (λ found. found.2 ≡ named_times (texts words.entry.now)) }
+    ensures descriptions { IfOk result (λ found. texts found.3.items ≡ named_descriptions (texts words.entry.now)) }
     ensures kinds { FailsBy (fault_of program_app (texts words.entry.now)) result }
     ensures alone { IfErr result (λ error. (mode : Mode) → texts words.entry.now ≡ words_of mode
         → kind_of error ≡ ErrorKind.OutOfMemory) }
@@ -190,19 +223,31 @@ fn named_in<'a>(
         → kind_of error ≡ ErrorKind.OutOfMemory) }
     ensures of_description { IfErr result (λ error. texts words.entry.now ≡ words_of_programs
         → kind_of error ≡ ErrorKind.OutOfMemory) }
+    ensures of_named_calls { IfErr result (λ error. texts words.entry.now ≡ words_of_named_calls
+        → kind_of error ≡ ErrorKind.OutOfMemory) }
 {
     let matches = program(alloc)?.try_get_matches_from(words)?;
-    let files = files_of(alloc, &matches)?;
-    Ok((matches.subcommand_name(), files, times_of(&matches)))
+    let files = values_of(alloc, &matches, FILE)?;
+    let descriptions = values_of(alloc, &matches, PROGRAMS)?;
+    Ok((
+        matches.subcommand_name(),
+        files,
+        times_of(&matches),
+        descriptions,
+    ))
 }
 
-/// The files that a subcommand was given.
-fn files_of<'a>(alloc: Global, matches: &ArgMatches<'a>) -> Result<Vec<&'a str>, AllocError>
-    ensures { IfOk result (λ files. texts files.items ≡ files_in (subcommand_rows_of matches.now)) }
+/// The values of an argument that a subcommand was given.
+fn values_of<'a>(
+    alloc: Global,
+    matches: &ArgMatches<'a>,
+    name: &str,
+) -> Result<Vec<&'a str>, AllocError>
+    ensures { IfOk result (λ values. texts values.items ≡ values_in name.now (subcommand_rows_of matches.now)) }
 {
     match matches.subcommand() {
-        Some((_, found)) => match found.get_strs(FILE) {
-            Some(files) => Vec::from_slice(alloc, files),
+        Some((_, found)) => match found.get_strs(name) {
+            Some(values) => Vec::from_slice(alloc, values),
             None => Ok(Vec::new(alloc)),
         },
         None => Ok(Vec::new(alloc)),

@@ -84,19 +84,26 @@ connection. A return, a reject and an abort name the frame or line of their call
 With --times, the time of the frame stands before each line of a capture, in seconds
 since 1970, or with --times=relative since the first frame; and behind each answer how
 long its call took. Lines of hex have no times.
+With --programs FILE, again for each file, calls, returns and aborts are printed by name
+and value where FILE describes their program in Courier's notation. A program that
+depends upon another one stands behind it. The first fault of a FILE ends the run before
+a packet is read, as for programs. Where something is declared, and its words are not
+exactly one value, they are printed as they are, and `unread` at the end of the line has
+the word that goes on no value, counted from 0, and the reason.
 A line has at most 4,096 bytes.
 
-Exit status: 0 all is fine, 1 something was refused, 2 the command line is wrong,
-3 reading or writing failed, a capture can't be read on, a limit was passed, or there
-was no memory.
+Exit status: 0 all is fine, 1 something was refused, 2 the command line or a description
+is wrong, 3 reading or writing failed, a capture can't be read on, a limit was passed, or
+there was no memory.
 
 Examples:
   xns calls x.pcap
   xns calls --times x.pcap
+  xns calls --programs tally.courier x.pcap
   echo ffff003c0005000000010000aa0001020005000000010000aa0003040400100012345678000000000003000300030000000100000007000200010005 | xns calls
 
-FORMATS.md has each line that is printed, CAPTURES.md says what is read of a capture:
-both are in share/doc/xns where xns is installed.";
+FORMATS.md has each line that is printed, CAPTURES.md says what is read of a capture,
+NOTATION.md of a description: they are in share/doc/xns where xns is installed.";
 
 /// What `xns sim --help` says at its end.
 pub const SIM_HELP: &str = "\

@@ -12,6 +12,8 @@ pub enum Request<'a> {
         file: Option<&'a str>,
         /// Which times it prints of a capture.
         times: Times,
+        /// The names of the files that describe the programs by which it names calls, in order; `-` stands for standard input.
+        descriptions: Vec<&'a str>,
     },
     /// To print the programs that files describe.
     Programs {

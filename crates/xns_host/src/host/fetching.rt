@@ -1,14 +1,15 @@
 //! What a host tells its program next, and which packet goes out next.
 
-ghost use Rattle.std.specs.Prelude.{◌≡◌, ◌<◌, Option, length, false, OnErr, Some, None, Ok, Err, slice_get};
-ghost use Rattle.xns_agenda.specs.Turns.{with_turn};
+ghost use Rattle.std.specs.Prelude.{◌≡◌, ◌<◌, Option, length, true, false, OnErr, Some, None, Ok, Err, slice_get};
+ghost use Rattle.xns_agenda.specs.Turns.{has_turn, with_turn};
 ghost use Rattle.xns_agenda.specs.Waiting.{last_time};
 
 use crate::event::Event;
 use crate::host::Host;
 use crate::host_fault::HostFault;
 use crate::outgoing::Outgoing;
-use crate::slots::{act_in, event_in, is_done_in, note, packet_in, settle_in};
+use crate::slots::{note, settle_in};
+use xns_connection::laws::{a_connection_gives_what_it_made, a_message_is_handed_as_by_a_step};
 
 impl Host {
     ghost use Rattle.xns_host.specs.Hosting.{ActsIn, EachActs, IsApart};
@@ -20,7 +21,7 @@ impl Host {
     ghost use Rattle.xns_host.specs.declared.host_fault.HostFault.TheVariants.{NoMemory};
 
     /// What the connection with this number has to tell the program, if it has anything: it has had its turn.
-    #[tactic(auto, using(crate::proofs::Noting::put_back, crate::proofs::Noting::quiet_noted, crate::proofs::Registered::still_registered, crate::proofs::Undone::still_not_done))]
+    #[tactic(auto, using(crate::proofs::Turns::put_registered, crate::proofs::Turns::put_undone))]
     fn event(&mut self, number: usize) -> Option<Event>
         requires { number < length self.old.guests.items }
         ensures asks { AsksEvent self.old.clock.latest number (places_of self.old) result (places_of self.new) }
@@ -30,11 +31,14 @@ impl Host {
         ensures strays { self.new.strays ≡ self.old.strays }
         ensures set_up { StaysSetUp self.old self.new }
     {
+        a_message_is_handed_as_by_a_step();
         let now = self.clock.latest();
-        let event = event_in(&mut self.guests[number], self.alloc, now, number);
         self.agenda.pass_event(number);
-        let event = event?;
-        let done = is_done_in(&self.guests[number]);
+        let Some(guest) = &mut self.guests[number] else {
+            return None;
+        };
+        let event = guest.tell(self.alloc, now, number)?;
+        let done = guest.is_done();
         note(self.guests.as_slice(), &mut self.agenda, number);
         settle_in(
             &mut self.register,
@@ -59,7 +63,7 @@ impl Host {
     }
 
     /// Does what is due of the connection with this number.
-    #[tactic(auto, using(crate::proofs::Registered::still_registered, crate::proofs::Undone::still_not_done))]
+    #[tactic(auto, using(crate::proofs::Noting::put_back, crate::proofs::Turns::put_registered, crate::proofs::Turns::put_undone))]
     fn act(&mut self, now: u64, number: usize)
         ensures turn { (g : Guest) → slice_get self.old.guests.items number ≡ Some (Some g)
             → ActsAt now number (places_of self.old) (places_of self.new) }
@@ -73,14 +77,18 @@ impl Host {
         if number >= self.guests.len() {
             return;
         }
-        let done = act_in(&mut self.guests[number], now);
+        let Some(guest) = &mut self.guests[number] else {
+            return;
+        };
+        guest.act(now);
+        let over = guest.is_done();
         note(self.guests.as_slice(), &mut self.agenda, number);
         settle_in(
             &mut self.register,
             &mut self.guests,
             &mut self.agenda,
             number,
-            done,
+            over,
         );
     }
 
@@ -101,11 +109,11 @@ impl Host {
     }
 
     /// The next packet of the connection with this number, which has had its turn.
-    #[tactic(auto, using(crate::proofs::Registered::still_registered, crate::proofs::Undone::still_not_done))]
+    #[tactic(auto, using(crate::proofs::Noting::put_back, crate::proofs::Turns::put_registered, crate::proofs::Turns::put_undone))]
     fn packet(&mut self, now: u64, number: usize) -> Result<Option<Outgoing>, HostFault>
-        requires { number < length self.old.guests.items }
-        ensures asks { (g : Guest) → slice_get self.old.guests.items number ≡ Some (Some g)
-            → AsksPacket now number result (places_of self.old) (places_of self.new) }
+        requires within { number < length self.old.guests.items }
+        requires turn { has_turn self.old.agenda.packets number ≡ true }
+        ensures asks { AsksPacket now number result (places_of self.old) (places_of self.new) }
         ensures rested { result ≡ Ok None → self.new.agenda.packets
             ≡ with_turn (with_turn self.old.agenda.packets number false) number false }
         ensures fault { OnErr result (result ≡ Err NoMemory) }
@@ -113,13 +121,14 @@ impl Host {
         ensures strays { self.new.strays ≡ self.old.strays }
         ensures set_up { StaysSetUp self.old self.new }
     {
-        let made = packet_in(&mut self.guests[number], self.alloc, now);
+        a_connection_gives_what_it_made();
         self.agenda.pass_packet(number);
+        let Some(guest) = &mut self.guests[number] else {
+            return Ok(None);
+        };
+        let made = guest.next_packet(self.alloc, now);
         note(self.guests.as_slice(), &mut self.agenda, number);
-        match made {
-            Ok(packet) => Ok(packet),
-            Err(_) => Err(HostFault::NoMemory),
-        }
+        made
     }
 
     /// The next packet that is to go out, with its `via`; also what is due at this time is done. `None`: there is none, until

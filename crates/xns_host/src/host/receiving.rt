@@ -1,6 +1,6 @@
 //! What a host does with a packet that came.
 
-ghost use Rattle.std.specs.Prelude.{◌≡◌, ◌≢◌, ◌≤◌, ℕ, List, Option, length, true, false, IfSome, Some, None, Ok, slice_get};
+ghost use Rattle.std.specs.Prelude.{◌≡◌, ◌≢◌, ◌<◌, ◌≤◌, ◌⊎◌, ℕ, List, Option, length, true, false, Some, None, Ok, Err, slice_get};
 ghost use Rattle.std.specs.BTreeMap.{get};
 ghost use Rattle.xns_idp.specs.Packet.{IsPacket, most_data, packet_model};
 ghost use Rattle.xns_idp.specs.Reading.{packet_of};
@@ -11,13 +11,15 @@ ghost use Rattle.xns_spp.specs.Packet.{IsSppPacket, opener_of, spp_packet_of};
 ghost use Rattle.xns_spp.specs.State.{State};
 ghost use Rattle.xns_small.specs.Echo.{echo_reply};
 
-use crate::connection::Connection;
 use crate::guest::Guest;
 use crate::host::Host;
 use crate::opening_quote::{OpeningQuote, quoted_opening};
 use crate::peer::Peer;
-use crate::slots::{hear_in, not_served_in, note, put_in};
+use crate::slots::{note, put_in};
 use courier_sessions::Program;
+use std::alloc::AllocError;
+use xns_connection::Connection;
+use xns_connection::laws::a_step_keeps_its_promises;
 use xns_idp::packet_type::{ECHO, ERROR, SEQUENCED_PACKET};
 use xns_idp::{Address, Packet, decode};
 use xns_spp::{SppPacket, carried_packet};
@@ -27,10 +29,10 @@ const ECHO_SOCKET: u16 = 2;
 
 impl Host {
     ghost use Rattle.xns_host.specs.Coming.{Comes, Opens, Seats};
-    ghost use Rattle.xns_host.specs.Hosting.{IsThere, address_in};
+    ghost use Rattle.xns_host.specs.Hosting.{HasNoRoom, IsAllInUse, IsThere, address_in};
     ghost use Rattle.xns_host.specs.Identifiers.{StaysInOrder};
     ghost use Rattle.xns_host.specs.Ours.{AsksEcho, IsOf, IsToOpen, QuotesOurs};
-    ghost use Rattle.xns_host.specs.Places.{IsUnmoved, Turns};
+    ghost use Rattle.xns_host.specs.Places.{Turns};
     ghost use Rattle.xns_host.specs.Quotes.{is_opened_by};
     ghost use Rattle.xns_host.specs.Register.{number_by, peer_at, peer_cmp};
     ghost use Rattle.xns_host.specs.Services.{programs_at};
@@ -42,7 +44,7 @@ impl Host {
 
     /// Takes a packet in that came by this `via`, and says whether it was for the host. One that was not changes nothing: it is the
     /// program's to use.
-    pub fn receive(&mut self, now: u64, via: u32, bytes: &[u8]) -> bool
+    pub fn receive(&mut self, now: u64, via: u64, bytes: &[u8]) -> bool
         ensures takes { TakesIn now via bytes.now result self.old self.new }
     {
         let now = self.clock.tell(now);
@@ -58,7 +60,7 @@ impl Host {
     }
 
     /// Answers an Echo request; whether it was one. Where there is no room or no memory it is as if lost.
-    fn echo(&mut self, via: u32, packet: &Packet<'_>) -> bool
+    fn echo(&mut self, via: u64, packet: &Packet<'_>) -> bool
         requires { length packet.now.body.now ≤ most_data }
         ensures asked { result ≡ true → AsksEcho (whole_of self.old) (packet_model packet.now) }
         ensures foreign { result ≡ false → AsksEcho (whole_of self.old) (packet_model packet.now) → ⊥ }
@@ -80,7 +82,7 @@ impl Host {
         ensures refuses { packet.now.kind ≡ ERROR → result ≡ true → (quotes : QuotesOurs (whole_of self.old) (packet_model packet.now))
             × Turns (GuestUnserved now) quotes.number (places_of self.old) (places_of self.new) }
         ensures foreign { result ≡ false → QuotesOurs (whole_of self.old) (packet_model packet.now) → ⊥ }
-        ensures rest { result ≡ false → IsUnmoved (places_of self.old) (places_of self.new) }
+        ensures rest { result ≡ false → places_of self.new ≡ places_of self.old }
         ensures register { self.new.register ≡ self.old.register }
         ensures strays { self.new.strays ≡ self.old.strays }
         ensures set_up { StaysSetUp self.old self.new }
@@ -98,13 +100,13 @@ impl Host {
     }
 
     /// Closes the connection with this number, if it is the one that a quoted packet was to open.
-    #[tactic(auto, using(crate::proofs::Registered::still_registered, crate::proofs::Undone::still_not_done))]
+    #[tactic(auto, using(crate::proofs::Noting::put_back, crate::proofs::Turns::put_registered, crate::proofs::Turns::put_undone))]
     fn not_served(&mut self, now: u64, number: usize, quote: &OpeningQuote) -> bool
         ensures turn { result ≡ true → IsThere (IsToOpen quote.now) (slice_get self.old.guests.items number)
             × Turns (GuestUnserved now) number (places_of self.old) (places_of self.new) }
         ensures foreign { result ≡ false → (g : Guest) (s : State) → slice_get self.old.guests.items number ≡ Some (Some g)
             → StandsFor g.connection.conversation.endpoint s → is_opened_by g s quote.now ≡ false }
-        ensures rest { result ≡ false → IsUnmoved (places_of self.old) (places_of self.new) }
+        ensures rest { result ≡ false → places_of self.new ≡ places_of self.old }
         ensures register { self.new.register ≡ self.old.register }
         ensures strays { self.new.strays ≡ self.old.strays }
         ensures set_up { StaysSetUp self.old self.new }
@@ -112,13 +114,19 @@ impl Host {
         if number >= self.guests.len() {
             return false;
         }
-        let closed = not_served_in(&mut self.guests[number], now, quote);
+        let Some(guest) = &mut self.guests[number] else {
+            return false;
+        };
+        if !guest.is_opened_by(quote) {
+            return false;
+        }
+        guest.not_served(now);
         note(self.guests.as_slice(), &mut self.agenda, number);
-        closed
+        true
     }
 
     /// Takes a sequenced packet in; whether it was for the host.
-    fn sequenced(&mut self, now: u64, via: u32, carrier: &Packet<'_>) -> bool
+    fn sequenced(&mut self, now: u64, via: u64, carrier: &Packet<'_>) -> bool
         requires fits { IsPacket (packet_model carrier.now) }
         requires size { length carrier.now.body.now ≤ most_data }
         requires kind { carrier.now.kind ≡ SEQUENCED_PACKET }
@@ -145,7 +153,7 @@ impl Host {
     }
 
     /// Takes a packet in that names the connection with this number; whether it is one of it.
-    #[tactic(auto, using(crate::proofs::Registered::still_registered, crate::proofs::Undone::still_not_done))]
+    #[tactic(auto, using(crate::proofs::Noting::put_back, crate::proofs::Turns::put_registered, crate::proofs::Turns::put_undone))]
     fn hear(&mut self, now: u64, number: usize, confirms: bool, packet: &SppPacket) -> bool
         requires { IsSppPacket packet.now }
         ensures turn { result ≡ true → IsThere (IsOf packet.now) (slice_get self.old.guests.items number)
@@ -153,34 +161,41 @@ impl Host {
             → Turns (GuestHears now b confirms) number (places_of self.old) (places_of self.new)) }
         ensures foreign { result ≡ false → (g : Guest) (s : State) → slice_get self.old.guests.items number ≡ Some (Some g)
             → StandsFor g.connection.conversation.endpoint s → is_ours_at s.ends packet.now ≡ false }
-        ensures rest { result ≡ false → IsUnmoved (places_of self.old) (places_of self.new) }
+        ensures rest { result ≡ false → places_of self.new ≡ places_of self.old }
         ensures register { self.new.register ≡ self.old.register }
         ensures strays { self.new.strays ≡ self.old.strays }
         ensures set_up { StaysSetUp self.old self.new }
     {
+        a_step_keeps_its_promises();
+        xns_spp::laws::written_packet_is_read_again();
         if number >= self.guests.len() {
             return false;
         }
-        let heard = hear_in(&mut self.guests[number], self.alloc, now, confirms, packet);
+        let Some(guest) = &mut self.guests[number] else {
+            return false;
+        };
+        if !guest.is_ours(packet) {
+            return false;
+        }
+        guest.receive(self.alloc, now, confirms, packet);
         note(self.guests.as_slice(), &mut self.agenda, number);
-        heard
+        true
     }
 
     /// Takes a packet in that names no connection; whether it opens one at a socket that is served. Where there is no room, it is as if
-    /// lost.
-    fn opening(&mut self, now: u64, via: u32, opener: Peer, packet: &SppPacket) -> bool
+    /// lost; where memory is refused too, which is noted.
+    fn opening(&mut self, now: u64, via: u64, opener: Peer, packet: &SppPacket) -> bool
         requires packet { IsSppPacket packet.now }
         requires here { packet.now.target.host ≡ self.old.host }
         requires opener { opener ≡ peer_at packet.now.source packet.now.header.source_id packet.now.target.socket }
         requires unknown { number_by self.old.register.identifiers self.old.register.peers packet.now.header.target_id opener ≡ None }
         ensures opens { (b : List ℕ) → spp_packet_of b ≡ Ok packet.now → result ≡ true
-            → Opens now via b packet.now (whole_of self.old) self.new.register (places_of self.new) }
+            → Opens now via b packet.now (whole_of self.old) self.new.register self.new.strays (places_of self.new) }
         ensures opener { result ≡ true → (opener_of packet.now ≢ None)
             × (programs_at self.old.services.programs packet.now.target.socket ≢ None) }
         ensures answer { opener_of packet.now ≢ None → programs_at self.old.services.programs packet.now.target.socket ≢ None
             → result ≡ true }
-        ensures rest { result ≡ false → (self.new.register ≡ self.old.register) × IsUnmoved (places_of self.old) (places_of self.new) }
-        ensures strays { self.new.strays ≡ self.old.strays }
+        ensures rest { result ≡ false → whole_of self.new ≡ whole_of self.old }
         ensures set_up { StaysSetUp self.old self.new }
     {
         let Some((peer, peer_id)) = packet.opener() else {
@@ -191,54 +206,58 @@ impl Host {
             return false;
         };
         let Ok(programs) = Vec::from_slice(self.alloc, programs.as_slice()) else {
+            self.strays.lose();
             return true;
         };
-        if let Some(number) = self.open(now, via, socket, opener, peer, peer_id, programs) {
-            self.hear(now, number, false, packet);
-        }
+        let Ok(place) = self.open(now, via, socket, opener, peer, peer_id, programs) else {
+            self.strays.lose();
+            return true;
+        };
+        let Some(number) = place else {
+            return true;
+        };
+        self.hear(now, number, false, packet);
         true
     }
 
-    /// Opens a connection for this peer; its number. `None` where there is no room, or no memory.
+    /// Opens a connection for this peer; its number. `None` where no place is free and no connection gives way, or each identifier is in
+    /// use. The only error is want of memory. There is no new connection then either.
     fn open(
         &mut self,
         now: u64,
-        via: u32,
+        via: u64,
         socket: u16,
         opener: Peer,
         peer: Address,
         peer_id: u16,
         programs: Vec<Program>,
-    ) -> Option<usize>
+    ) -> Result<Option<usize>, AllocError>
+        requires known { 0 < peer_id }
         requires unknown { get peer_cmp self.old.register.peers opener ≡ None }
         requires opener { opener ≡ peer_at peer peer_id socket }
-        ensures opened { IfSome result (λ n. Seats now via (whole_of self.old) socket peer peer_id programs.items n self.new.register
-            (places_of self.new)) }
-        ensures none { result ≡ None → places_of self.new ≡ places_of self.old }
-        ensures order { result ≡ None → StaysInOrder self.old.register.identifiers self.new.register.identifiers }
+        ensures opened { (n : ℕ) → result ≡ Ok (Some n)
+            → Seats now via (whole_of self.old) socket peer peer_id programs.items n self.new.register (places_of self.new) }
+        ensures full { result ≡ Ok None → HasNoRoom self.old.guests.items ⊎ IsAllInUse self.old.register.identifiers }
+        ensures unopened { ((n : ℕ) → result ≢ Ok (Some n)) → (places_of self.new ≡ places_of self.old)
+            × StaysInOrder self.old.register.identifiers self.new.register.identifiers }
         ensures strays { self.new.strays ≡ self.old.strays }
         ensures set_up { StaysSetUp self.old self.new }
     {
-        if peer_id == 0 {
-            return None;
-        }
-        let number = self.agenda.place()?;
-        let id = self.register.next()?;
-        let own = self.address(socket);
-        let made = Connection::answering(
-            self.alloc,
-            &self.settings,
-            own,
-            id,
-            peer,
-            peer_id,
-            programs,
-            now,
-        );
-        let Ok(connection) = made else {
-            return None;
+        let Some(number) = self.agenda.place() else {
+            return Ok(None);
         };
-        self.register.enter(opener, number as u16).ok()?;
+        let Some(id) = self.register.next() else {
+            return Ok(None);
+        };
+        let own = self.address(socket);
+        let terms = self.settings.terms();
+        let made = Connection::answering(self.alloc, &terms, own, id, peer, peer_id, programs, now);
+        let Ok(connection) = made else {
+            return Err(AllocError);
+        };
+        if self.register.enter(opener, number as u16).is_err() {
+            return Err(AllocError);
+        }
         let _ = self.register.take(number as u16);
         let guest = Guest {
             connection,
@@ -256,6 +275,6 @@ impl Host {
             number,
             guest,
         );
-        Some(number)
+        Ok(Some(number))
     }
 }

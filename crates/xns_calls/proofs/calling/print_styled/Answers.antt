@@ -5,4 +5,4 @@ use Rattle.xns_calls.proofs.calling.print_styled.Goals as goal
 
 pub returns-in_default-clause-fault : goal.returns-in_default-clause-fault
 returns-in_default-clause-fault g c =
-    at_first (packets_text_with_end g.S.TimeStyle.style) (packet_end_count g.S.TimeStyle.style) (g.R.Read.remaining c.args.reader.now) (g.W.Write.contents c.args.writer.now) refl
+    at_first (packets_text_with_end g.D.Described.programs g.S.TimeStyle.style) (packet_end_count g.D.Described.programs g.S.TimeStyle.style) (g.R.Read.remaining c.args.reader.now) (g.W.Write.contents c.args.writer.now) refl

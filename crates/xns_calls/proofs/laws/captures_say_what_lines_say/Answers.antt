@@ -5,6 +5,6 @@ use Rattle.xns_calls.proofs.laws.captures_say_what_lines_say.Goals as goal
 
 pub returns : goal.returns
 returns c = record {
-  text = λ input file spelled. same_text (lines_of input) (packets_of file) spelled;
-  refused = λ input file spelled. same_refused (lines_of input) (packets_of file) spelled;
+  text = λ programs input file spelled. same_text programs (lines_of input) (packets_of file) spelled;
+  refused = λ programs input file spelled. same_refused programs (lines_of input) (packets_of file) spelled;
 }

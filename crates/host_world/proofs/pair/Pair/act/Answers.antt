@@ -1,7 +1,7 @@
 use Rattle.std.proofs.Common.{◌≡◌}
-use Rattle.xns_host.specs.Deeds.{acted}
-use Rattle.xns_host.specs.Step.{parts_of}
-use Rattle.xns_host.specs.declared.connection.Connection.{Connection}
+use Rattle.xns_connection.specs.Deeds.{acted}
+use Rattle.xns_connection.specs.Step.{parts_of}
+use Rattle.xns_connection.specs.declared.connection.Connection.{Connection}
 use Rattle.host_world.proofs.Paired.{at_side, pair_goes}
 use Rattle.host_world.proofs.pair.Pair.act.Goals as goal
 

@@ -1,4 +1,4 @@
-use Rattle.xns_host.specs.Deeds.{gave}
+use Rattle.xns_connection.specs.Deeds.{gave}
 use Rattle.host_world.proofs.Paired.{pair_answers, pair_unchanged, one_waits, waits_on}
 use Rattle.host_world.proofs.pair.Pair.answer.Goals as goal
 

@@ -1,5 +1,5 @@
 use Rattle.courier_messages.specs.RawCalls.{words_call}
-use Rattle.xns_host.specs.Deeds.{made}
+use Rattle.xns_connection.specs.Deeds.{made}
 use Rattle.host_world.proofs.Paired.{pair_calls, pair_unchanged, one_waits, waits_on}
 use Rattle.host_world.proofs.pair.Pair.call.Goals as goal
 

@@ -1,6 +1,6 @@
 use Rattle.std.proofs.Common.{◌∙◌, ap}
-use Rattle.xns_host.specs.Deeds.{asked}
-use Rattle.xns_host.specs.declared.connection.Connection.{Connection}
+use Rattle.xns_connection.specs.Deeds.{asked}
+use Rattle.xns_connection.specs.declared.connection.Connection.{Connection}
 use Rattle.host_world.proofs.Paired.{one_waits, pair_closes, put}
 use Rattle.host_world.proofs.pair.Pair.close.Goals as goal
 

@@ -13,6 +13,6 @@ returns-clause-stands c =
     record {
       calls = c.known.ensures;
       called = c.known-2.ensures;
-      meets = opens c.in_ok-a.a.conversation c.in_ok-b.b.conversation c.in_ok-a.ensures.tells c.in_ok-b.ensures.tells c.in_ok-a.ensures.packets c.in_ok-b.ensures.packets;
+      meets = opens c.in_ok-a.a.conversation c.in_ok-b.b.conversation c.in_ok-a.ensures.tells c.in_ok-b.ensures.tells c.in_ok-a.ensures.made.silent c.in_ok-b.ensures.made.silent;
       same = λ side. elim side as (λ s. (at m s).conversation ≡ (connection_at p s).conversation) [ A ↦ refl | B ↦ refl ];
     }

@@ -1,7 +1,7 @@
 use Rattle.std.proofs.Common.{sym}
 use Rattle.xns_agenda.specs.Waiting.{HearsAt}
-use Rattle.xns_host.specs.Telling.{Hears}
-use Rattle.xns_host.specs.declared.connection.Connection.{Connection}
+use Rattle.xns_connection.specs.Telling.{Hears}
+use Rattle.xns_connection.specs.declared.connection.Connection.{Connection}
 use Rattle.host_world.proofs.Paired.{heard_there, pair_heard, pair_takes_in}
 use Rattle.host_world.proofs.pair.Pair.receive.Goals as goal
 

@@ -1,5 +1,5 @@
 use Rattle.std.proofs.Common.{ap}
-use Rattle.xns_host.specs.declared.connection.Connection.{Connection}
+use Rattle.xns_connection.specs.declared.connection.Connection.{Connection}
 use Rattle.host_world.proofs.Paired.{pair_rests}
 use Rattle.host_world.proofs.pair.Pair.take_why.Goals as goal
 

@@ -5,7 +5,7 @@ use Rattle.clap.specs.Words.{fault_of, is_simple, is_simple_and_free, subcommand
 use Rattle.xns.proofs.Refusals.{is_free}
 use Rattle.xns_command.specs.declared.mode.Mode.{Mode}
 use Rattle.xns_command.specs.declared.mode.Mode.TheVariants.{Calls, Dump, Sim}
-use Rattle.xns.specs.Command.Arguments.{files_in, flag_in, program_app, texts, times_by, words_of, words_of_programs, words_with_file}
+use Rattle.xns.specs.Command.Arguments.{flag_in, program_app, texts, times_by, values_in, words_of, words_of_named_calls, words_of_programs, words_with_file}
 use Rattle.xns.proofs.command.arguments.named_in.Goals as goal
 
 is_taken : (mode : Mode) → takes program_app (words_of mode) ≡ true
@@ -23,6 +23,10 @@ is_file_taken Sim = refl
 is_description_taken : takes program_app words_of_programs ≡ true
 unfolding clap_on_literals
 is_description_taken = refl
+
+are_named_calls_taken : takes program_app words_of_named_calls ≡ true
+unfolding clap_on_literals
+are_named_calls_taken = refl
 
 is_plain : is_simple program_app ≡ true
 unfolding clap_on_literals
@@ -43,11 +47,22 @@ returns-in_err-matches-clause-of_description c =
     let p = err_from_is_err_and c.from_residual-in_err-matches.result c.from_residual-in_err-matches.ensures.1 in
     rw (p.1, p.2) (λ h. c.in_err-matches.ensures.passes (ap₂ takes c.in_ok-program.ensures h ∙ is_description_taken))
 
+pub returns-in_err-matches-clause-of_named_calls : goal.returns-in_err-matches-clause-of_named_calls
+returns-in_err-matches-clause-of_named_calls c =
+    let p = err_from_is_err_and c.from_residual-in_err-matches.result c.from_residual-in_err-matches.ensures.1 in
+    rw (p.1, p.2) (λ h. c.in_err-matches.ensures.passes (ap₂ takes c.in_ok-program.ensures h ∙ are_named_calls_taken))
+
 pub returns-clause-files : goal.returns-clause-files
 returns-clause-files c =
     let app = c.in_ok-program.ensures in
     let rows = c.in_ok-matches.ensures.matches (ap is_simple app ∙ is_plain) in
-    c.in_ok-files.ensures ∙ ap files_in (rows.1 ∙ ap (λ command. subcommand_of command (texts c.args.words.now)) app)
+    c.in_ok-files.ensures ∙ ap (values_in (codes "file")) (rows.1 ∙ ap (λ command. subcommand_of command (texts c.args.words.now)) app)
+
+pub returns-clause-descriptions : goal.returns-clause-descriptions
+returns-clause-descriptions c =
+    let app = c.in_ok-program.ensures in
+    let rows = c.in_ok-matches.ensures.matches (ap is_simple app ∙ is_plain) in
+    c.in_ok-descriptions.ensures ∙ ap (values_in (codes "programs")) (rows.1 ∙ ap (λ command. subcommand_of command (texts c.args.words.now)) app)
 
 pub returns-clause-times : goal.returns-clause-times
 returns-clause-times c =

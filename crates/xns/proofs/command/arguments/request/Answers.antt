@@ -5,7 +5,7 @@ use Rattle.xns.proofs.Refusals.{by_clap, by_name}
 use Rattle.xns_command.specs.declared.mode.Mode.{Mode}
 use Rattle.xns_command.specs.declared.mode.Mode.TheVariants.{Calls, Dump, Sim}
 use Rattle.xns_command.specs.Modes.{name_of}
-use Rattle.xns.specs.Command.Arguments.{is_programs, named_subcommand, texts, words_of, words_of_programs, words_with_file}
+use Rattle.xns.specs.Command.Arguments.{is_programs, named_subcommand, texts, words_of, words_of_named_calls, words_of_programs, words_with_file}
 use Rattle.xns.proofs.command.arguments.request.Goals as goal
 
 is_named : (mode : Mode) → named_subcommand (words_of mode) ≡ Some (name_of mode)
@@ -59,3 +59,11 @@ pub returns-in_default-clause-of_description : goal.returns-in_default-clause-of
 returns-in_default-clause-of_description c = λ h.
     let named = c.in_ok-name.ensures.named ∙ ap named_subcommand h ∙ named_programs in
     absurd (is_other (ap is_programs (sym named) ∙ sym c.names_programs.ensures ∙ c.if-names_programs.false))
+
+named_calls : named_subcommand words_of_named_calls ≡ Some (name_of Calls)
+unfolding clap_on_literals
+named_calls = refl
+
+pub returns-in_default-clause-of_named_calls : goal.returns-in_default-clause-of_named_calls
+returns-in_default-clause-of_named_calls c = λ h.
+    absurd (c.in_default.ensures.none Calls (c.in_ok-name.ensures.named ∙ ap named_subcommand h ∙ named_calls))

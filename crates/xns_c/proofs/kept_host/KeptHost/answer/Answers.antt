@@ -1,7 +1,7 @@
 use Rattle.std.proofs.Common.{◌≡◌, ap, refl, subst, sym, rules, Some}
 use Rattle.courier_sessions.specs.declared.answer.Answer.{Answer}
-use Rattle.xns_host.specs.Deeds.{gave}
-use Rattle.xns_host.specs.Reasons.{answer_fault_of}
+use Rattle.xns_connection.specs.Deeds.{gave}
+use Rattle.xns_connection.specs.Reasons.{answer_fault_of}
 use Rattle.xns_c.specs.Hosts.{Turns}
 use Rattle.xns_c.specs.declared.kept_host.KeptHost.{KeptHost}
 use Rattle.xns_c.proofs.Hosts.{turned}

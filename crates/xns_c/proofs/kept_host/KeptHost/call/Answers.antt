@@ -1,7 +1,7 @@
 use Rattle.std.proofs.Common.{refl}
 use Rattle.courier_messages.specs.RawCalls.{words_call}
-use Rattle.xns_host.specs.Deeds.{made}
-use Rattle.xns_host.specs.Reasons.{call_fault_of}
+use Rattle.xns_connection.specs.Deeds.{made}
+use Rattle.xns_connection.specs.Reasons.{call_fault_of}
 use Rattle.xns_c.proofs.Hosts.{turned}
 use Rattle.xns_c.proofs.kept_host.KeptHost.call.Goals as goal
 

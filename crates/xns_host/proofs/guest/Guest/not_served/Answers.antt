@@ -1,5 +1,5 @@
 use Rattle.std.proofs.Common.{ap}
-use Rattle.xns_host.specs.declared.connection.Connection.{Connection}
+use Rattle.xns_connection.specs.declared.connection.Connection.{Connection}
 use Rattle.xns_host.proofs.Undone.{not_done_steps}
 use Rattle.xns_host.proofs.guest.Guest.not_served.Goals as goal
 

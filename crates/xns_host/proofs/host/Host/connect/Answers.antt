@@ -1,15 +1,16 @@
-use Rattle.std.proofs.Common.{◌≡◌, inl, inr, refl, rules, subst, ℕ, false, None}
+use Rattle.std.proofs.Common.{◌≡◌, inl, inr, arith, refl, rules, subst, ℕ, true, false, None}
 use Rattle.xns_idp.specs.declared.address.Address.{Address}
 use Rattle.xns_spp.specs.State.{initiator_state}
 use Rattle.xns_agenda.specs.Agenda.{HasNoNumber}
-use Rattle.xns_host.specs.Hosting.{IsPlace}
-use Rattle.xns_host.specs.Settings.{IsBegun}
-use Rattle.xns_host.specs.Story.{new_story}
-use Rattle.xns_host.specs.Telling.{Tells}
+use Rattle.xns_host.specs.Hosting.{IsPlace, address_in}
+use Rattle.xns_host.specs.Settings.{IsMadeBy}
+use Rattle.xns_connection.specs.Story.{new_story}
+use Rattle.xns_connection.specs.Telling.{Tells}
+use Rattle.xns_host.proofs.OnTerms.{made_on, on_terms}
 use Rattle.xns_host.proofs.Waking.{all_in_use, gets_place, no_room, not_both}
 use Rattle.xns_host.proofs.Registered.{all_joined, joined, opened_by_none, turned_over}
 use Rattle.xns_host.proofs.Undone.{came_not_done, not_done_new}
-use Rattle.xns_host.proofs.Placed.{taken_apart, taken_as}
+use Rattle.xns_host.proofs.Placed.{taken_apart, taken_as, taken_there}
 use Rattle.xns_host.proofs.host.Host.connect.Goals as goal
 
 pub put_in-requires-clause-registered : goal.put_in-requires-clause-registered
@@ -51,8 +52,8 @@ returns-clause-full c = λ none.
 
 pub invariant_of-self-2-clause-not_done : goal.invariant_of-self-2-clause-not_done
 invariant_of-self-2-clause-not_done c =
-    came_not_done c.args.self.now.guests.items c.put_in.new.guests.items c.in-Some.number _ c.args.self.now.not_done (taken_apart c.args.self.now.guests.items c.put_in.new.guests.items c.args.self.now.agenda c.put_in.new.agenda c.in-Some.number _ c.put_in.ensures.places) c.put_in.ensures.there
-    (not_done_new c.in-Ok.connection c.in-Ok.ensures.fresh.0)
+    came_not_done c.args.self.now.guests.items c.put_in.new.guests.items c.in-Some.number _ c.args.self.now.not_done (taken_apart c.args.self.now.guests.items c.put_in.new.guests.items c.args.self.now.agenda c.put_in.new.agenda c.in-Some.number _ c.put_in.ensures.places) (taken_there c.args.self.now.guests.items c.put_in.new.guests.items c.args.self.now.agenda c.put_in.new.agenda c.in-Some.number _ c.put_in.ensures.places (omega (arith, c.in-Some.ensures.within, c.args.self.now.sized)))
+    (not_done_new c.in-Ok.connection c.in-Ok.ensures.made.untold)
 
 pub returns-clause-connects : goal.returns-clause-connects
 returns-clause-connects c = record {
@@ -66,18 +67,15 @@ returns-clause-connects c = record {
       confirmed = false;
       heard_of = false;
     };
-    there = c.put_in.ensures.there;
+    there = taken_there c.args.self.now.guests.items c.put_in.new.guests.items c.args.self.now.agenda c.put_in.new.agenda c.in-Some.number _ c.put_in.ensures.places (omega (arith, c.in-Some.ensures.within, c.args.self.now.sized));
     next = c.in-Some-next.ensures.next;
-    tells = subst (λ (own : Address). Tells c.in-Ok.connection.conversation
-        (new_story None (initiator_state own c.in-Some-next.id c.args.peer c.args.self.now.settings.window c.args.self.now.settings.backlog)))
-        c.address-own.ensures c.in-Ok.ensures.tells;
-    begun = subst (λ (t : ℕ). IsBegun c.args.self.now.settings t c.in-Ok.connection.wait) c.tell-now.ensures.result c.in-Ok.ensures.begun;
-    unclosed = c.in-Ok.ensures.open.0;
-    owes = c.in-Ok.ensures.open.1;
-    fresh = c.in-Ok.ensures.fresh.1;
-    owes_no_more = c.in-Ok.ensures.owes;
-    silent = c.in-Ok.ensures.packets;
-    untold = c.in-Ok.ensures.fresh.0;
+    tells = on_terms c.args.self.now.settings c.terms-terms.result c.terms-terms.ensures (λ window backlog. Tells c.in-Ok.connection.conversation
+        (new_story None (initiator_state (address_in c.args.self.now.network c.args.self.now.host c.args.socket) c.in-Some-next.id c.args.peer window backlog)))
+        (subst (λ (own : Address). Tells c.in-Ok.connection.conversation
+        (new_story None (initiator_state own c.in-Some-next.id c.args.peer c.terms-terms.result.window c.terms-terms.result.backlog)))
+        c.address-own.ensures c.in-Ok.ensures.tells);
+    made = subst (λ (t : ℕ). IsMadeBy c.args.self.now.settings t true c.in-Ok.connection) c.tell-now.ensures.result
+        (made_on c.args.self.now.settings c.terms-terms.result c.terms-terms.ensures c.tell-now.result true c.in-Ok.connection c.in-Ok.ensures.made);
     via = refl;
     peer = refl;
     opener = refl;
@@ -86,7 +84,7 @@ returns-clause-connects c = record {
   };
   place = gets_place c.args.self.now.agenda c.args.self.now.guests.items c.args.self.now.noted c.place.ensures.room c.args.self.now.sized
       (c.place.ensures.some c.in-Some.number c.in-Some.is);
-  places = λ g there. taken_as c.put_in.new.guests.items c.in-Some.number _ g _ _ c.put_in.ensures.there there c.put_in.ensures.places;
+  places = λ g there. taken_as c.put_in.new.guests.items c.in-Some.number _ g _ _ (taken_there c.args.self.now.guests.items c.put_in.new.guests.items c.args.self.now.agenda c.put_in.new.agenda c.in-Some.number _ c.put_in.ensures.places (omega (arith, c.in-Some.ensures.within, c.args.self.now.sized))) there c.put_in.ensures.places;
   turned = turned_over c.args.self.now.register.identifiers c.take.new.self.identifiers c.put_in.new.register.identifiers _ c.in-Some-next.id c.take.result
       c.in-Some-next.ensures.next c.take.ensures.given c.take.ensures.some c.put_in.ensures.order;
   unchanged = tt;

@@ -1,52 +1,50 @@
-use Rattle.std.proofs.Common.{◌≡◌, ◌<◌, refl, rules, arith, length, slice_get, Some}
-use Rattle.std.specs.Prelude.{slice_set}
-use Rattle.xns_host.specs.Ours.{IsOf}
-use Rattle.xns_host.specs.Places.{same}
+use Rattle.std.proofs.Common.{◌≡◌, ◌∙◌, ◌++◌, [], refl, rules, arith, subst, sym, false, Some}
+use Rattle.xns_spp.specs.Held.{StandsFor}
+use Rattle.xns_spp.specs.Packet.{spp_packet_spelling}
 use Rattle.xns_host.specs.Went.{GuestHears}
 use Rattle.xns_host.specs.declared.guest.Guest.{Guest}
 use Rattle.xns_host.proofs.Apart.{set_there}
-use Rattle.xns_host.proofs.Hearing.{there_in}
-use Rattle.xns_host.proofs.Noting.{kept_but, same_place}
-use Rattle.xns_host.proofs.Placed.{no_place, turns_at, unmoved_at}
+use Rattle.xns_host.proofs.Placed.{no_place, other_place, turns_at}
+use Rattle.xns_host.proofs.Turns.{heard_stays, heard_undone, is_there, one_guest, stays_noted, stays_registered, stays_undone}
 use Rattle.xns_host.proofs.host.Host.hear.Goals as goal
 
 pub note-requires-clause-others : goal.note-requires-clause-others
 note-requires-clause-others c =
-    kept_but c.args.self.now.agenda c.args.self.now.guests.items c.as_slice.result.now c.args.number c.index_mut.result.now c.hear_in-heard.new.slot
-    c.args.self.now.noted (omega arith) (search rules) (search rules) (search rules)
+    let heard = c.receive.ensures (spp_packet_spelling c.args.packet.now ++ []) (c.written_packet_is_read_again.ensures.again c.args.packet.now [] c.requires) in
+    stays_noted c.args.self.now.agenda c.args.self.now.guests.items c.as_slice.result.now c.args.number c.index_mut.result.now c.in-Some.guest c.receive.new.self
+    c.args.self.now.noted c.in-Some.is (heard_stays c.a_step_keeps_its_promises.ensures c.args.now _ c.args.confirms _ _ heard) (omega arith) (search rules) (search rules)
 
-pub returns-then-number-len-clause-rest : goal.returns-then-number-len-clause-rest
-returns-then-number-len-clause-rest c = λ no. same
+pub invariant_of-self-2-clause-registered : goal.invariant_of-self-2-clause-registered
+invariant_of-self-2-clause-registered c =
+    let heard = c.receive.ensures (spp_packet_spelling c.args.packet.now ++ []) (c.written_packet_is_read_again.ensures.again c.args.packet.now [] c.requires) in
+    stays_registered c.args.self.now.register c.args.self.now.guests.items c.args.number c.index_mut.result.now c.in-Some.guest c.receive.new.self
+    c.args.self.now.registered c.in-Some.is (heard_stays c.a_step_keeps_its_promises.ensures c.args.now _ c.args.confirms _ _ heard) (omega arith) (search rules)
 
-pub returns-clause-rest : goal.returns-clause-rest
-returns-clause-rest c = λ no.
-    let less : c.args.number < length c.args.self.now.guests.items = omega arith in
-    let items : c.as_slice.result.now ≡ slice_set c.args.self.now.guests.items c.args.number c.hear_in-heard.new.slot = search rules in
-    let here : slice_get c.as_slice.result.now c.args.number ≡ Some c.hear_in-heard.new.slot
-    = set_there c.args.self.now.guests.items c.as_slice.result.now c.args.number c.hear_in-heard.new.slot less items in
-    unmoved_at c.args.number c.args.self.now.guests.items _ c.args.self.now.agenda c.note.new.agenda c.index_mut.result.now
-    c.hear_in-heard.new.slot less (search rules) (c.hear_in-heard.ensures.unchanged no) refl (c.note.ensures.is c.hear_in-heard.new.slot here)
+pub invariant_of-self-2-clause-not_done : goal.invariant_of-self-2-clause-not_done
+invariant_of-self-2-clause-not_done c =
+    let heard = c.receive.ensures (spp_packet_spelling c.args.packet.now ++ []) (c.written_packet_is_read_again.ensures.again c.args.packet.now [] c.requires) in
+    stays_undone c.args.self.now.guests.items c.args.number c.index_mut.result.now c.in-Some.guest c.receive.new.self
+    c.args.self.now.not_done c.in-Some.is (heard_undone c.args.now _ c.args.confirms _ _ heard) (omega arith) (search rules)
 
 pub returns-then-number-len-clause-foreign : goal.returns-then-number-len-clause-foreign
-returns-then-number-len-clause-foreign c = λ no g s there stands.
-    absurd (no_place c.args.self.now.guests.items c.args.number (Some g) there (omega arith))
+returns-then-number-len-clause-foreign c = λ no g s there stands. absurd (no_place c.args.self.now.guests.items c.args.number _ there (omega arith))
 
-pub returns-clause-foreign : goal.returns-clause-foreign
-returns-clause-foreign c = λ no g s there stands.
-    let less : c.args.number < length c.args.self.now.guests.items = omega arith in
-    let old : c.index_mut.result.now ≡ Some g
-    = same_place c.args.self.now.guests.items c.args.number c.index_mut.result.now (Some g) less (search rules) there in
-    c.hear_in-heard.ensures.foreign no g s old stands
+pub returns-in_default-clause-foreign : goal.returns-in_default-clause-foreign
+returns-in_default-clause-foreign c = λ no g s there stands.
+    absurd (other_place c.args.self.now.guests.items c.args.number c.index_mut.result.now g (omega arith) (search rules) (search rules) there)
+
+pub returns-then-not-is_ours-clause-foreign : goal.returns-then-not-is_ours-clause-foreign
+returns-then-not-is_ours-clause-foreign c = λ no g s there stands.
+    let here = is_there c.args.self.now.guests.items c.args.number c.index_mut.result.now c.in-Some.guest (omega arith) (search rules) c.in-Some.is in
+    let same : g ≡ c.in-Some.guest = one_guest c.args.self.now.guests.items c.args.number g c.in-Some.guest there here in
+    let not : c.is_ours.result ≡ false = search rules in
+    sym (c.is_ours.ensures s (subst (λ (x : Guest). StandsFor x.connection.conversation.endpoint s) same stands)) ∙ not
 
 pub returns-clause-turn : goal.returns-clause-turn
 returns-clause-turn c = λ yes.
-    let less : c.args.number < length c.args.self.now.guests.items = omega arith in
-    let items : c.as_slice.result.now ≡ slice_set c.args.self.now.guests.items c.args.number c.hear_in-heard.new.slot = search rules in
-    let here : slice_get c.as_slice.result.now c.args.number ≡ Some c.hear_in-heard.new.slot
-    = set_there c.args.self.now.guests.items c.as_slice.result.now c.args.number c.hear_in-heard.new.slot less items in
-    let both = c.hear_in-heard.ensures.turn yes in (
-      there_in _ c.args.self.now.guests.items c.args.number c.index_mut.result.now less (search rules) both.0,
-      λ b read. turns_at (λ (g h : Guest). GuestHears c.args.now b c.args.confirms g h) (IsOf c.args.packet.now) c.args.number
-          c.args.self.now.guests.items _ c.args.self.now.agenda c.note.new.agenda c.index_mut.result.now c.hear_in-heard.new.slot less (search rules)
-          both.0 (both.1 b read) refl (c.note.ensures.is c.hear_in-heard.new.slot here),
+    let here = is_there c.args.self.now.guests.items c.args.number c.index_mut.result.now c.in-Some.guest (omega arith) (search rules) c.in-Some.is in (
+      record { guest = c.in-Some.guest; there = here; is = λ s stands. let e = c.is_ours.ensures s stands in search rules },
+      λ b read. turns_at (λ (g h : Guest). GuestHears c.args.now b c.args.confirms g h) c.args.number c.args.self.now.guests.items
+          c.args.self.now.agenda c.args.self.now.agenda c.note.new.agenda c.in-Some.guest c.receive.new.self here (c.receive.ensures b read) refl
+          (c.note.ensures.is (Some c.receive.new.self) (set_there c.args.self.now.guests.items c.as_slice.result.now c.args.number (Some c.receive.new.self) (omega arith) (search rules))),
     )

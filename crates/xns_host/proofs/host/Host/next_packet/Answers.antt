@@ -1,4 +1,4 @@
-use Rattle.std.proofs.Common.{◌≡◌, ◌<◌, ◌∙◌, ap, sym, refl, rules, length, arith, [], None, Some, Ok, Err}
+use Rattle.std.proofs.Common.{◌≡◌, ◌∙◌, ap, sym, refl, rules, [], None, Some, Ok, Err}
 use Rattle.xns_agenda.specs.Turns.{HasNoTurn}
 use Rattle.xns_host.specs.Places.{another, gives, nobody, nothing, places_with, starves}
 use Rattle.xns_host.specs.Strays.{StrayQueue}
@@ -6,7 +6,7 @@ use Rattle.xns_host.specs.declared.host_fault.HostFault.TheVariants.{NoMemory}
 use Rattle.xns_host.specs.declared.outgoing.Outgoing.{Outgoing}
 use Rattle.xns_host.specs.declared.register.Register.{Register}
 use Rattle.xns_host.proofs.Fetching.{packet_less}
-use Rattle.xns_host.proofs.Placed.{acts_all_at, next_as, next_at, no_stray, packet_as, some_stray, stray_out, who_packs}
+use Rattle.xns_host.proofs.Placed.{acts_all_at, next_as, next_at, no_stray, packet_as, some_stray, stray_out}
 use Rattle.xns_host.proofs.host.Host.next_packet.Goals as goal
 
 pub loop-number-init : goal.loop-number-init
@@ -36,15 +36,12 @@ loop-number-preserved c =
       search rules,
       ap (λ (r : Register). r.identifiers.ahead) c.packet.ensures.register ∙ c.loop-number.invariant.2,
       c.packet.ensures.strays ∙ c.loop-number.invariant.3,
-      (let less : c.in-Some-first_packet.number < length c.loop-number.self.guests.items = omega (arith, c.in-Some-first_packet.ensures.within, c.loop-number.self.sized) in
-          let who = who_packs c.loop-number.self.agenda c.loop-number.self.guests.items c.in-Some-first_packet.number c.loop-number.self.noted less
-          c.in-Some-first_packet.ensures.some.has in
-          let gone = c.loop-number.invariant.4 in
+      (let gone = c.loop-number.invariant.4 in
           record {
             mid = gone.mid;
             acts = gone.acts;
             none = another c.in-Some-first_packet.number gone.none c.in-Some-first_packet.ensures.some
-                (packet_as _ c.in-Some-first_packet.number _ _ c.packet.result (Ok None) none (c.packet.ensures.asks who.0 who.1));
+                (packet_as _ c.in-Some-first_packet.number _ _ c.packet.result (Ok None) none c.packet.ensures.asks);
           }),
     )
 
@@ -68,9 +65,6 @@ pub returns-in_err-packet : goal.returns-in_err-packet
 returns-in_err-packet c = record {
   gives = let made : c.packet.result ≡ Err NoMemory = search rules in
       let result : c.from_residual.result ≡ Err NoMemory = search rules in
-      let less : c.in-Some-first_packet.number < length c.loop-number.self.guests.items = omega (arith, c.in-Some-first_packet.ensures.within, c.loop-number.self.sized) in
-      let who = who_packs c.loop-number.self.agenda c.loop-number.self.guests.items c.in-Some-first_packet.number c.loop-number.self.noted less
-      c.in-Some-first_packet.ensures.some.has in
       let gone = c.loop-number.invariant.4 in
       record {
         mid = gone.mid;
@@ -79,7 +73,7 @@ returns-in_err-packet c = record {
         next = λ none. (
           next_at c.tell-now.result _ _ _ _ c.tell-now.ensures.result (next_as _ _ _ (Err NoMemory) c.from_residual.result (sym result)
               (starves c.in-Some-first_packet.number gone.none c.in-Some-first_packet.ensures.some
-              (packet_as _ c.in-Some-first_packet.number _ _ c.packet.result (Err NoMemory) made (c.packet.ensures.asks who.0 who.1)))),
+              (packet_as _ c.in-Some-first_packet.number _ _ c.packet.result (Err NoMemory) made c.packet.ensures.asks))),
           c.packet.ensures.strays ∙ c.loop-number.invariant.3,
         );
         order = ap (λ (r : Register). r.identifiers.ahead) c.packet.ensures.register ∙ c.loop-number.invariant.2;
@@ -89,17 +83,14 @@ returns-in_err-packet c = record {
 
 pub returns-in-Some-2 : goal.returns-in-Some-2
 returns-in-Some-2 c = record {
-  gives = let less : c.in-Some-first_packet.number < length c.loop-number.self.guests.items = omega (arith, c.in-Some-first_packet.ensures.within, c.loop-number.self.sized) in
-      let who = who_packs c.loop-number.self.agenda c.loop-number.self.guests.items c.in-Some-first_packet.number c.loop-number.self.noted less
-      c.in-Some-first_packet.ensures.some.has in
-      let gone = c.loop-number.invariant.4 in
+  gives = let gone = c.loop-number.invariant.4 in
       record {
         mid = gone.mid;
         acts = acts_all_at c.tell-now.result _ _ _ c.tell-now.ensures.result gone.acts;
         stray = λ o os is. let none : c.args.self.now.strays.waiting ≡ [] = c.loop-number.invariant.0 in absurd (cc);
         next = λ none. (
           next_at c.tell-now.result _ _ _ _ c.tell-now.ensures.result (gives c.in-Some-first_packet.number gone.none c.in-Some-first_packet.ensures.some
-              (packet_as _ c.in-Some-first_packet.number _ _ c.packet.result _ (c.in_ok-packet.was ∙ ap Ok c.in-Some-2.is) (c.packet.ensures.asks who.0 who.1))),
+              (packet_as _ c.in-Some-first_packet.number _ _ c.packet.result _ (c.in_ok-packet.was ∙ ap Ok c.in-Some-2.is) c.packet.ensures.asks)),
           c.packet.ensures.strays ∙ c.loop-number.invariant.3,
         );
         order = ap (λ (r : Register). r.identifiers.ahead) c.packet.ensures.register ∙ c.loop-number.invariant.2;

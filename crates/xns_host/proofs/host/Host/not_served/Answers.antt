@@ -1,52 +1,47 @@
-use Rattle.std.proofs.Common.{◌≡◌, ◌<◌, refl, rules, arith, length, slice_get, Some}
-use Rattle.std.specs.Prelude.{slice_set}
-use Rattle.xns_host.specs.Ours.{IsToOpen}
-use Rattle.xns_host.specs.Places.{same}
+use Rattle.std.proofs.Common.{◌≡◌, ◌∙◌, refl, rules, arith, subst, sym, false, Some}
+use Rattle.xns_spp.specs.Held.{StandsFor}
+use Rattle.xns_host.specs.Quotes.{is_opened_by}
 use Rattle.xns_host.specs.Went.{GuestUnserved}
 use Rattle.xns_host.specs.declared.guest.Guest.{Guest}
 use Rattle.xns_host.proofs.Apart.{set_there}
-use Rattle.xns_host.proofs.Hearing.{there_in}
-use Rattle.xns_host.proofs.Noting.{kept_but, same_place}
-use Rattle.xns_host.proofs.Placed.{no_place, turns_at, unmoved_at}
+use Rattle.xns_host.proofs.Placed.{no_place, other_place, turns_at}
+use Rattle.xns_host.proofs.Turns.{is_there, one_guest, stays_noted, stays_registered, stays_undone, unserved_stays}
 use Rattle.xns_host.proofs.host.Host.not_served.Goals as goal
 
 pub note-requires-clause-others : goal.note-requires-clause-others
 note-requires-clause-others c =
-    kept_but c.args.self.now.agenda c.args.self.now.guests.items c.as_slice.result.now c.args.number c.index_mut.result.now c.not_served_in-closed.new.slot
-    c.args.self.now.noted (omega arith) (search rules) (search rules) (search rules)
+    stays_noted c.args.self.now.agenda c.args.self.now.guests.items c.as_slice.result.now c.args.number c.index_mut.result.now c.in-Some.guest c.not_served.new.self
+    c.args.self.now.noted c.in-Some.is (unserved_stays c.args.now _ _ c.not_served.ensures.unserved c.not_served.ensures.goes) (omega arith) (search rules) (search rules)
 
-pub returns-then-number-len-clause-rest : goal.returns-then-number-len-clause-rest
-returns-then-number-len-clause-rest c = λ no. same
+pub invariant_of-self-2-clause-registered : goal.invariant_of-self-2-clause-registered
+invariant_of-self-2-clause-registered c =
+    stays_registered c.args.self.now.register c.args.self.now.guests.items c.args.number c.index_mut.result.now c.in-Some.guest c.not_served.new.self
+    c.args.self.now.registered c.in-Some.is (unserved_stays c.args.now _ _ c.not_served.ensures.unserved c.not_served.ensures.goes) (omega arith) (search rules)
 
-pub returns-clause-rest : goal.returns-clause-rest
-returns-clause-rest c = λ no.
-    let less : c.args.number < length c.args.self.now.guests.items = omega arith in
-    let items : c.as_slice.result.now ≡ slice_set c.args.self.now.guests.items c.args.number c.not_served_in-closed.new.slot = search rules in
-    let here : slice_get c.as_slice.result.now c.args.number ≡ Some c.not_served_in-closed.new.slot
-    = set_there c.args.self.now.guests.items c.as_slice.result.now c.args.number c.not_served_in-closed.new.slot less items in
-    unmoved_at c.args.number c.args.self.now.guests.items _ c.args.self.now.agenda c.note.new.agenda c.index_mut.result.now
-    c.not_served_in-closed.new.slot less (search rules) (c.not_served_in-closed.ensures.unchanged no) refl (c.note.ensures.is c.not_served_in-closed.new.slot here)
+pub invariant_of-self-2-clause-not_done : goal.invariant_of-self-2-clause-not_done
+invariant_of-self-2-clause-not_done c =
+    stays_undone c.args.self.now.guests.items c.args.number c.index_mut.result.now c.in-Some.guest c.not_served.new.self
+    c.args.self.now.not_done c.in-Some.is c.not_served.ensures.not_done (omega arith) (search rules)
 
 pub returns-then-number-len-clause-foreign : goal.returns-then-number-len-clause-foreign
-returns-then-number-len-clause-foreign c = λ no g s there stands.
-    absurd (no_place c.args.self.now.guests.items c.args.number (Some g) there (omega arith))
+returns-then-number-len-clause-foreign c = λ no g s there stands. absurd (no_place c.args.self.now.guests.items c.args.number _ there (omega arith))
 
-pub returns-clause-foreign : goal.returns-clause-foreign
-returns-clause-foreign c = λ no g s there stands.
-    let less : c.args.number < length c.args.self.now.guests.items = omega arith in
-    let old : c.index_mut.result.now ≡ Some g
-    = same_place c.args.self.now.guests.items c.args.number c.index_mut.result.now (Some g) less (search rules) there in
-    c.not_served_in-closed.ensures.foreign no g s old stands
+pub returns-in_default-clause-foreign : goal.returns-in_default-clause-foreign
+returns-in_default-clause-foreign c = λ no g s there stands.
+    absurd (other_place c.args.self.now.guests.items c.args.number c.index_mut.result.now g (omega arith) (search rules) (search rules) there)
+
+pub returns-then-not-is_opened_by-clause-foreign : goal.returns-then-not-is_opened_by-clause-foreign
+returns-then-not-is_opened_by-clause-foreign c = λ no g s there stands.
+    let here = is_there c.args.self.now.guests.items c.args.number c.index_mut.result.now c.in-Some.guest (omega arith) (search rules) c.in-Some.is in
+    let same : g ≡ c.in-Some.guest = one_guest c.args.self.now.guests.items c.args.number g c.in-Some.guest there here in
+    let not : c.is_opened_by.result ≡ false = search rules in
+    subst (λ (x : Guest). is_opened_by x s c.args.quote.now ≡ false) (sym same)
+    (sym (c.is_opened_by.ensures s (subst (λ (x : Guest). StandsFor x.connection.conversation.endpoint s) same stands)) ∙ not)
 
 pub returns-clause-turn : goal.returns-clause-turn
 returns-clause-turn c = λ yes.
-    let less : c.args.number < length c.args.self.now.guests.items = omega arith in
-    let items : c.as_slice.result.now ≡ slice_set c.args.self.now.guests.items c.args.number c.not_served_in-closed.new.slot = search rules in
-    let here : slice_get c.as_slice.result.now c.args.number ≡ Some c.not_served_in-closed.new.slot
-    = set_there c.args.self.now.guests.items c.as_slice.result.now c.args.number c.not_served_in-closed.new.slot less items in
-    let both = c.not_served_in-closed.ensures.turn yes in (
-      there_in _ c.args.self.now.guests.items c.args.number c.index_mut.result.now less (search rules) both.0,
-      turns_at (λ (g h : Guest). GuestUnserved c.args.now g h) (IsToOpen c.args.quote.now) c.args.number c.args.self.now.guests.items _
-          c.args.self.now.agenda c.note.new.agenda c.index_mut.result.now c.not_served_in-closed.new.slot less (search rules) both.0 both.1 refl
-          (c.note.ensures.is c.not_served_in-closed.new.slot here),
+    let here = is_there c.args.self.now.guests.items c.args.number c.index_mut.result.now c.in-Some.guest (omega arith) (search rules) c.in-Some.is in (
+      record { guest = c.in-Some.guest; there = here; is = λ s stands. let e = c.is_opened_by.ensures s stands in search rules },
+      turns_at (λ (g h : Guest). GuestUnserved c.args.now g h) c.args.number c.args.self.now.guests.items c.args.self.now.agenda c.args.self.now.agenda
+          c.note.new.agenda c.in-Some.guest c.not_served.new.self here c.not_served.ensures.unserved refl (c.note.ensures.is (Some c.not_served.new.self) (set_there c.args.self.now.guests.items c.as_slice.result.now c.args.number (Some c.not_served.new.self) (omega arith) (search rules))),
     )

@@ -1,13 +1,19 @@
-use Rattle.xns_host.proofs.Placed.{taken_apart}
-use Rattle.std.proofs.Common.{◌≡◌, ◌∙◌, ap, refl, rules, subst, sym, ℕ, Some, false}
+use Rattle.xns_host.proofs.Placed.{taken_apart, taken_there}
+use Rattle.std.proofs.Common.{◌≡◌, ◌∙◌, ap, arith, inl, inr, refl, rules, subst, sym, ℕ, None, Some, false}
 use Rattle.std.specs.BTreeMap.{BTreeMap, IsUnchanged, Updates, get}
 use Rattle.xns_idp.specs.declared.address.Address.{Address}
 use Rattle.xns_spp.specs.State.{responder_state}
+use Rattle.xns_host.specs.Hosting.{address_in}
 use Rattle.xns_host.specs.Register.{peer_at, peer_cmp}
-use Rattle.xns_host.specs.Story.{new_story}
-use Rattle.xns_host.specs.Telling.{Tells}
+use Rattle.xns_connection.specs.Story.{new_story}
+use Rattle.xns_connection.specs.Telling.{Tells}
 use Rattle.xns_host.specs.declared.peer.Peer.{Peer}
-use Rattle.xns_host.proofs.Waking.{gets_place}
+use Rattle.xns_host.proofs.OnTerms.{made_on, on_terms}
+use Rattle.xns_agenda.specs.Agenda.{HasNoNumber}
+use Rattle.xns_host.specs.Coming.{Seats}
+use Rattle.xns_host.specs.Places.{places_with}
+use Rattle.xns_host.specs.Turn.{whole_of}
+use Rattle.xns_host.proofs.Waking.{all_in_use, gets_place, no_room}
 use Rattle.xns_host.proofs.Registered.{all_joined, joined_opened, opened_by, turned_over, unentered}
 use Rattle.xns_host.proofs.Undone.{came_not_done, not_done_new}
 use Rattle.xns_host.specs.Identifiers.{Ids, IsNext, TurnsOver}
@@ -29,13 +35,13 @@ invariant_of-self c =
 
 pub put_in-requires-clause-registered : goal.put_in-requires-clause-registered
 put_in-requires-clause-registered c =
-    let entered : Updates peer_cmp c.args.self.now.register.peers c.enter.new.self.peers c.args.opener (Some c.in_ok-number.number) = search rules in
-    let has = joined_opened c.args.self.now.register c.enter.new.self c.take.new.self _ c.in_ok-id.id c.args.opener c.take.result
-    c.enter.ensures.identifiers entered c.requires.unknown c.in_ok-id.ensures.next c.take.ensures.given c.take.ensures.some c.take.ensures.owner
+    let entered : Updates peer_cmp c.args.self.now.register.peers c.enter.new.self.peers c.args.opener (Some c.in-Some.number) = search rules in
+    let has = joined_opened c.args.self.now.register c.enter.new.self c.take.new.self _ c.in-Some-next.id c.args.opener c.take.result
+    c.enter.ensures.identifiers entered c.requires.unknown c.in-Some-next.ensures.next c.take.ensures.given c.take.ensures.some c.take.ensures.owner
     c.take.ensures.peers in
     all_joined c.args.self.now.register c.take.new.self c.args.self.now.guests.items _ _ c.args.self.now.registered has
     (λ o opened. let same : c.args.opener ≡ o = cc in ap (λ (p : Peer). get peer_cmp c.args.self.now.register.peers p) (sym same) ∙ c.requires.unknown)
-    (opened_by c.args.self.now.register c.enter.new.self c.take.new.self c.in_ok-number.number c.args.opener entered c.take.ensures.peers)
+    (opened_by c.args.self.now.register c.enter.new.self c.take.new.self c.in-Some.number c.args.opener entered c.take.ensures.peers)
     (record {
       fits = ∣ record {
         story = _;
@@ -44,7 +50,7 @@ put_in-requires-clause-registered c =
         opener = λ responds. ap Some (c.requires.opener
             ∙ ap (λ (own : Address). peer_at c.args.peer c.args.peer_id own.socket) (sym c.address-own.ensures));
       } ∣₁;
-      known = c.in_ok-id.ensures.known;
+      known = c.in-Some-next.ensures.known;
       own = has.own;
       opener = λ o opened.
           let same : c.args.opener ≡ o = cc in
@@ -54,47 +60,60 @@ put_in-requires-clause-registered c =
 
 pub invariant_of-self-2-clause-not_done : goal.invariant_of-self-2-clause-not_done
 invariant_of-self-2-clause-not_done c =
-    came_not_done c.args.self.now.guests.items c.put_in.new.guests.items c.in_ok-number.number _ c.args.self.now.not_done (taken_apart c.args.self.now.guests.items c.put_in.new.guests.items c.args.self.now.agenda c.put_in.new.agenda c.in_ok-number.number _ c.put_in.ensures.places) c.put_in.ensures.there
-    (not_done_new c.in-Ok.connection c.in-Ok.ensures.fresh.0)
+    came_not_done c.args.self.now.guests.items c.put_in.new.guests.items c.in-Some.number _ c.args.self.now.not_done (taken_apart c.args.self.now.guests.items c.put_in.new.guests.items c.args.self.now.agenda c.put_in.new.agenda c.in-Some.number _ c.put_in.ensures.places) (taken_there c.args.self.now.guests.items c.put_in.new.guests.items c.args.self.now.agenda c.put_in.new.agenda c.in-Some.number _ c.put_in.ensures.places (omega (arith, c.in-Some.ensures.within, c.args.self.now.sized)))
+    (not_done_new c.in-Ok.connection c.in-Ok.ensures.made.untold)
 
 pub returns-clause-opened : goal.returns-clause-opened
-returns-clause-opened c =
+returns-clause-opened c = λ n made.
+    let one : c.in-Some.number ≡ n = cc in
     let t = subst (λ (a : Ids). (i : ℕ) × TurnsOver a c.put_in.new.register.identifiers i) c.enter.ensures.identifiers
-    (turned_over c.enter.new.self.identifiers c.take.new.self.identifiers c.put_in.new.register.identifiers _ c.in_ok-id.id c.take.result
-    (subst (λ (a : Ids). IsNext a c.in_ok-id.id) (sym c.enter.ensures.identifiers) c.in_ok-id.ensures.next) c.take.ensures.given c.take.ensures.some
+    (turned_over c.enter.new.self.identifiers c.take.new.self.identifiers c.put_in.new.register.identifiers _ c.in-Some-next.id c.take.result
+    (subst (λ (a : Ids). IsNext a c.in-Some-next.id) (sym c.enter.ensures.identifiers) c.in-Some-next.ensures.next) c.take.ensures.given c.take.ensures.some
     c.put_in.ensures.order) in
-    record {
+    subst (λ (m : ℕ). Seats c.args.now c.args.via (whole_of c.args.self.now) c.args.socket c.args.peer c.args.peer_id c.args.programs.items m c.put_in.new.register
+    (places_with c.put_in.new.guests.items c.put_in.new.agenda)) one
+    (record {
       guest = record {
         connection = c.in-Ok.connection;
         via = c.args.via;
-        id = c.in_ok-id.id;
+        id = c.in-Some-next.id;
         peer = c.args.peer;
         opener = Some c.args.opener;
         confirmed = false;
         heard_of = false;
       };
       place = gets_place c.args.self.now.agenda c.args.self.now.guests.items c.args.self.now.noted c.place.ensures.room c.args.self.now.sized
-          (c.place.ensures.some c.in_ok-number.number c.in_ok-number.was);
+          (c.place.ensures.some c.in-Some.number c.in-Some.is);
       answering = record {
-        next = c.in_ok-id.ensures.next;
-        tells = subst (λ (own : Address). Tells c.in-Ok.connection.conversation (new_story (Some c.args.programs.items)
-            (responder_state own c.in_ok-id.id c.args.peer c.args.peer_id c.args.self.now.settings.window c.args.self.now.settings.backlog)))
-            c.address-own.ensures c.in-Ok.ensures.tells;
-        begun = c.in-Ok.ensures.begun;
-        unclosed = c.in-Ok.ensures.open.0;
-        unsaid = c.in-Ok.ensures.open.1;
-        fresh = c.in-Ok.ensures.fresh.1;
-        owes_no_more = c.in-Ok.ensures.owes;
-        silent = c.in-Ok.ensures.packets;
-        untold = c.in-Ok.ensures.fresh.0;
+        next = c.in-Some-next.ensures.next;
+        tells = on_terms c.args.self.now.settings c.terms-terms.result c.terms-terms.ensures (λ window backlog. Tells c.in-Ok.connection.conversation
+            (new_story (Some c.args.programs.items) (responder_state (address_in c.args.self.now.network c.args.self.now.host c.args.socket)
+            c.in-Some-next.id c.args.peer c.args.peer_id window backlog)))
+            (subst (λ (own : Address). Tells c.in-Ok.connection.conversation (new_story (Some c.args.programs.items)
+            (responder_state own c.in-Some-next.id c.args.peer c.args.peer_id c.terms-terms.result.window c.terms-terms.result.backlog)))
+            c.address-own.ensures c.in-Ok.ensures.tells);
+        made = made_on c.args.self.now.settings c.terms-terms.result c.terms-terms.ensures c.args.now false c.in-Ok.connection c.in-Ok.ensures.made;
         via = refl;
         peer = refl;
         known_by = ap Some c.requires.opener;
         confirmed = refl;
         heard_of = refl;
       };
-      there = c.put_in.ensures.there;
+      there = taken_there c.args.self.now.guests.items c.put_in.new.guests.items c.args.self.now.agenda c.put_in.new.agenda c.in-Some.number _ c.put_in.ensures.places (omega (arith, c.in-Some.ensures.within, c.args.self.now.sized));
       is = c.put_in.ensures.places;
       identifier = t.0;
       turned = t.1;
-    }
+    })
+
+pub returns-in_default-clause-full : goal.returns-in_default-clause-full
+returns-in_default-clause-full c = λ z.
+    let none : HasNoNumber c.args.self.now.agenda.free c.args.self.now.agenda.closed c.args.self.now.agenda.strangers = search rules in
+    inl (no_room c.args.self.now.agenda c.args.self.now.guests.items c.args.self.now.noted none)
+
+pub returns-in_default-next-clause-full : goal.returns-in_default-next-clause-full
+returns-in_default-next-clause-full c = λ z.
+    let none : c.next.result ≡ None = search rules in
+    inr (all_in_use c.args.self.now.register.identifiers.owners c.args.self.now.register.identifiers.ahead c.next.result c.next.ensures.given none)
+
+pub returns-clause-unopened : goal.returns-clause-unopened
+returns-clause-unopened c = λ never. absurd (never c.in-Some.number refl)

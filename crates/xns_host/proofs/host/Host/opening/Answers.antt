@@ -1,35 +1,36 @@
-use Rattle.std.proofs.Common.{◌≡◌, refl, rules, subst, sym, ℕ, None, Some, true}
+use Rattle.std.proofs.Common.{◌≡◌, ◌∙◌, ap, Ok, refl, rules, subst, sym, ℕ, None, Some, true}
 use Rattle.xns_spp.specs.Ends.{is_ours_at}
 use Rattle.xns_spp.specs.Held.{StandsFor}
 use Rattle.xns_spp.specs.State.{State, responder_state}
-use Rattle.xns_host.specs.Coming.{Seats, full, opened}
+use Rattle.xns_host.specs.Coming.{Opens, Seats, opened}
 use Rattle.xns_host.specs.Hosting.{address_in}
-use Rattle.xns_host.specs.Places.{same}
 use Rattle.xns_host.specs.Services.{programs_at}
+use Rattle.xns_host.specs.Strays.{StrayQueue, lost_stray}
 use Rattle.xns_host.specs.Turn.{places_of, whole_of}
 use Rattle.xns_host.specs.declared.register.Register.{Register}
-use Rattle.xns_host.proofs.Comings.{full_by}
+use Rattle.xns_host.proofs.Comings.{full_by, starved_by}
 use Rattle.xns_host.proofs.Hearing.{of_opened, served_by}
 use Rattle.xns_host.proofs.Placed.{is_true}
 use Rattle.xns_host.proofs.host.Host.opening.Goals as goal
 
-pub returns-in_default-clause-rest : goal.returns-in_default-clause-rest
-returns-in_default-clause-rest c = λ no. (refl, same)
-
-pub returns-in_default-at-clause-rest : goal.returns-in_default-at-clause-rest
-returns-in_default-at-clause-rest c = λ no. (refl, same)
-
 pub returns-in_default-from_slice-clause-opens : goal.returns-in_default-from_slice-clause-opens
-returns-in_default-from_slice-clause-opens c = λ b read yes. full refl
+returns-in_default-from_slice-clause-opens c = λ b read yes. starved_by c.args.now _ b c.args.packet.now _ _ _ _ c.lose.ensures refl refl
 
 pub returns-in_default-open-clause-opens : goal.returns-in_default-open-clause-opens
 returns-in_default-open-clause-opens c = λ b read yes.
-    let none : c.open.result ≡ None = search rules in
-    full_by c.args.now _ b c.args.packet.now _ c.open.new.self.register _ (c.open.ensures.none none) (c.open.ensures.order none)
+    let kept = c.open.ensures.unopened (λ n made. absurd (search rules)) in
+    starved_by c.args.now _ b c.args.packet.now (whole_of c.args.self.now) c.open.new.self.register _ _
+    (c.lose-in_default-open.ensures ∙ ap lost_stray c.open.ensures.strays) kept.0 kept.1
 
-pub returns-in-Some-open-clause-opens : goal.returns-in-Some-open-clause-opens
-returns-in-Some-open-clause-opens c = λ b read yes.
-    let made = c.in-Some-open.ensures.opened in
+pub returns-in_default-place-clause-opens : goal.returns-in_default-place-clause-opens
+returns-in_default-place-clause-opens c = λ b read yes.
+    let none : c.open.result ≡ Ok None = search rules in
+    let kept = c.open.ensures.unopened (λ n made. absurd (search rules)) in
+    full_by c.args.now _ b c.args.packet.now (whole_of c.args.self.now) c.open.new.self.register _ _ c.open.ensures.strays kept.0 (c.open.ensures.full none) kept.1
+
+pub returns-clause-opens : goal.returns-clause-opens
+returns-clause-opens c = λ b read yes.
+    let made = c.open.ensures.opened c.in-Some-place.number (c.in-Ok-open.is ∙ ap Ok c.in-Some-place.is) in
     let end : ℕ → State
     = λ socket. responder_state (address_in c.args.self.now.network c.args.self.now.host socket) made.guest.id c.in-Some.peer c.in-Some.peer_id
     c.args.self.now.settings.window c.args.self.now.settings.backlog in
@@ -41,11 +42,12 @@ returns-in-Some-open-clause-opens c = λ b read yes.
     c.args.self.now.settings.window c.args.self.now.settings.backlog c.requires.here (search rules) in
     let heard : c.hear.result ≡ true
     = is_true c.hear.result (λ no. let not = c.hear.ensures.foreign no made.guest (end c.args.packet.now.target.socket) made.there stands in absurd (cc)) in
-    opened c.in-Some-open.number c.in-Some.peer_id c.in-Some.peer c.in-Ok.programs.items (search rules)
+    subst (λ (q : StrayQueue). Opens c.args.now c.args.via b c.args.packet.now (whole_of c.args.self.now) c.hear.new.self.register q (places_of c.hear.new.self))
+    (sym (c.hear.ensures.strays ∙ c.open.ensures.strays)) (opened c.in-Some-place.number c.in-Some.peer_id c.in-Some.peer c.in-Ok.programs.items (search rules)
     (subst (λ (n : ℕ). programs_at c.args.self.now.services.programs n ≡ Some c.in-Ok.programs.items) socket
     (served_by _ c.at.ensures c.in-Some-at.is (search rules)))
     (subst (λ (r : Register). Seats c.args.now c.args.via (whole_of c.args.self.now) c.args.packet.now.target.socket c.in-Some.peer c.in-Some.peer_id
-    c.in-Ok.programs.items c.in-Some-open.number r (places_of c.open.new.self)) (sym c.hear.ensures.register)
+    c.in-Ok.programs.items c.in-Some-place.number r (places_of c.open.new.self)) (sym c.hear.ensures.register)
     (subst (λ (n : ℕ). Seats c.args.now c.args.via (whole_of c.args.self.now) n c.in-Some.peer c.in-Some.peer_id c.in-Ok.programs.items
-    c.in-Some-open.number c.open.new.self.register (places_of c.open.new.self)) socket made))
-    ((c.hear.ensures.turn heard).1 b read)
+    c.in-Some-place.number c.open.new.self.register (places_of c.open.new.self)) socket made))
+    ((c.hear.ensures.turn heard).1 b read))

@@ -1,7 +1,6 @@
 use Rattle.std.proofs.Common.{refl, rules, sym}
 use Rattle.xns_idp.specs.Packet.{packet_model}
 use Rattle.xns_host.specs.Coming.{foreign}
-use Rattle.xns_host.specs.Places.{same}
 use Rattle.xns_host.specs.Turn.{places_of, whole_of}
 use Rattle.xns_host.proofs.Comings.{comes_at, comes_echo, comes_refused, whole_at}
 use Rattle.xns_host.proofs.Foreign.{other_not_ours, unread_not_ours}
@@ -11,7 +10,7 @@ pub returns-in_default : goal.returns-in_default
 returns-in_default c = record {
   takes = record {
     clock = search rules;
-    comes = foreign (unread_not_ours (whole_of c.args.self.now) c.args.bytes.now c.decode.result c.decode.ensures.exact (λ x yes. absurd (search rules))) same;
+    comes = foreign (unread_not_ours (whole_of c.args.self.now) c.args.bytes.now c.decode.result c.decode.ensures.exact (λ x yes. absurd (search rules)));
   };
 }
 
@@ -20,7 +19,7 @@ returns-in_default-kind c = record {
   takes = record {
     clock = search rules;
     comes = foreign (other_not_ours (whole_of c.args.self.now) c.args.bytes.now (packet_model c.in-Ok.packet) c.in-Ok.field-0-1 (sym c.in-Ok.ensures.exact)
-        (λ kind. absurd (search rules)) (λ kind. absurd (search rules)) (λ kind. absurd (search rules))) same;
+        (λ kind. absurd (search rules)) (λ kind. absurd (search rules)) (λ kind. absurd (search rules)));
   };
 }
 

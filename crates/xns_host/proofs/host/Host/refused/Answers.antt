@@ -2,7 +2,7 @@ use Rattle.std.proofs.Common.{◌≡◌, ◌∙◌, rules, subst, sym, ℕ, Some
 use Rattle.xns_idp.specs.Packet.{packet_model}
 use Rattle.xns_host.specs.Hosting.{IsThere}
 use Rattle.xns_host.specs.Ours.{IsToOpen}
-use Rattle.xns_host.specs.Places.{Turns, same}
+use Rattle.xns_host.specs.Places.{Turns}
 use Rattle.xns_host.specs.Turn.{places_of, whole_of}
 use Rattle.xns_host.specs.Went.{GuestUnserved}
 use Rattle.xns_host.specs.declared.guest.Guest.{Guest}
@@ -43,12 +43,3 @@ returns-clause-foreign c = λ no.
     (sym c.quoted_opening.ensures ∙ c.in-Some.is) (sym c.owner.ensures ∙ c.in-Some-owner.is)
     (λ g s there stands. c.not_served.ensures.foreign no g s
     (subst (λ (n : ℕ). slice_get c.args.self.now.guests.items n ≡ Some (Some g)) (sym c.from.ensures) there) stands)
-
-pub returns-then-ne-clause-rest : goal.returns-then-ne-clause-rest
-returns-then-ne-clause-rest c = λ no. same
-
-pub returns-in_default-clause-rest : goal.returns-in_default-clause-rest
-returns-in_default-clause-rest c = λ no. same
-
-pub returns-in_default-owner-clause-rest : goal.returns-in_default-owner-clause-rest
-returns-in_default-owner-clause-rest c = λ no. same

@@ -5,7 +5,7 @@ use Rattle.xns_spp.specs.Packet.{SppPacketModel, opener_of}
 use Rattle.xns_host.specs.Coming.{foreign}
 use Rattle.xns_host.specs.Hosting.{IsThere, confirms}
 use Rattle.xns_host.specs.Ours.{IsOf}
-use Rattle.xns_host.specs.Places.{Turns, same}
+use Rattle.xns_host.specs.Places.{Turns}
 use Rattle.xns_host.specs.Services.{programs_at}
 use Rattle.xns_host.specs.Turn.{places_of, whole_of}
 use Rattle.xns_host.specs.Went.{GuestHears}
@@ -21,7 +21,7 @@ returns-in_default-clause-comes c = λ b taken read.
     (λ p is n. let one = the_packet b (packet_model c.args.carrier.now) taken p c.carried_packet.result read is c.carried_packet.ensures.value in
     absurd (search rules))
     (λ p is n. let one = the_packet b (packet_model c.args.carrier.now) taken p c.carried_packet.result read is c.carried_packet.ensures.value in
-    absurd (search rules))) same
+    absurd (search rules)))
 
 pub returns-then-ne-clause-comes : goal.returns-then-ne-clause-comes
 returns-then-ne-clause-comes c = λ b taken read.
@@ -35,7 +35,7 @@ returns-then-ne-clause-comes c = λ b taken read.
     let same : p ≡ c.in-Ok.packet
     = one_spelled b (packet_model c.args.carrier.now) taken p c.in-Ok.packet c.carried_packet.result read is c.carried_packet.ensures.value c.in-Ok.is in
     let ours : c.in-Ok.packet.target.host ≡ c.args.self.now.host = ap (λ (q : SppPacketModel). q.target.host) (sym same) ∙ o.here in
-    absurd (search rules))) same
+    absurd (search rules)))
 
 pub returns-in-Some-clause-comes : goal.returns-in-Some-clause-comes
 returns-in-Some-clause-comes c = λ b taken read.
@@ -79,4 +79,4 @@ returns-in-None-clause-comes c = λ b taken read.
     let bad : true ≡ false = sym yes ∙ no in
     cc))
     c.opening.ensures.rest
-    (whole_by c.args.self.now c.opening.new.self _ _ _ c.opening.ensures.set_up refl c.opening.ensures.strays refl)
+    (whole_by c.args.self.now c.opening.new.self _ _ _ c.opening.ensures.set_up refl refl refl)

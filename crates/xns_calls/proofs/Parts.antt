@@ -1,0 +1,216 @@
+-- The parts of a text, and what they say of a flow.
+use Rattle.std.proofs.Common.{◌≡◌, ◌∙◌, ap, sym, refl, subst, arith, ℕ, ◌<◌, ◌==◌, Bool, true, false, cond, List, [], ◌∷◌, ◌++◌, length, drop, append_assoc, append-nil, Option, Some, None}
+use Rattle.std.specs.Prelude.{not}
+use Rattle.std.specs.List.{flat_map}
+use Rattle.std.proofs.lemmas.Bool.Decides.{nat_tests}
+use Rattle.std.proofs.Math.Seq.{drop-append_seam}
+use Rattle.xns_idp.specs.Packet.{PacketModel}
+use Rattle.xns_spp.specs.declared.header.Header.{Header}
+use Rattle.xns_spp.specs.declared.item.Item.{Item}
+use Rattle.xns_calls.specs.Capture.{Known, heading_at, scene_in}
+use Rattle.xns_calls.specs.Events.{AreWithinReach, Event, IsAmong, acknowledged, acknowledged_event, after_event, after_events, captured, captured_event, captured_in, meanwhile}
+use Rattle.xns_calls.specs.Exchange.{Scene, after_acknowledge, after_packet, both_ended, ended, of_other, seen_from_other}
+use Rattle.xns_calls.specs.Input.{FlowName, Part, Said, is_same, parts_text, said_texts, text_in, told}
+use Rattle.xns_calls.specs.Reading.{Told}
+use Rattle.xns_calls.specs.Whole.{AreOf, IsWhole, flow_text, new_text}
+use Rattle.xns_calls.specs.declared.connection.Connection.{Connection}
+use Rattle.xns_calls.specs.declared.heading.Heading.{Heading}
+use Rattle.xns_calls.proofs.Adding.{Adds, acknowledge_adds, ended_adds, packet_adds}
+use Rattle.xns_calls.specs.declared.origin.Origin.{Origin}
+
+-- ---- texts
+
+pub drop_all : (xs : List ℕ) → drop (length xs) xs ≡ []
+drop_all xs = ap (drop (length xs)) (sym (append-nil xs)) ∙ drop-append_seam xs []
+
+pub added : (h : Heading) (a b : List ℕ) → (x : Adds h a b) → drop (length a) b ≡ said_texts h x.said
+added h a b x = ap (drop (length a)) x.is ∙ drop-append_seam a (said_texts h x.said)
+
+-- what an event prints is what is new in the text
+pub captured_new : (h : Heading) (o : Option ℕ) (item : Item) (t : Told)
+    → flow_text (captured_event h o item) t ≡ drop (length t.text) (after_events (captured_event h o item) t).text
+captured_new h None item t = sym (drop_all t.text)
+captured_new h (Some n) item t = append-nil (new_text (captured h n item) t)
+
+pub acknowledged_new : (h : Heading) (o : Option ℕ) (t : Told)
+    → flow_text (acknowledged_event h o) t ≡ drop (length t.text) (after_events (acknowledged_event h o) t).text
+acknowledged_new h None t = sym (drop_all t.text)
+acknowledged_new h (Some n) t = append-nil (new_text (acknowledged h n) t)
+
+pub item_new : (p : Bool) (h : Heading) (o : Option ℕ) (item : Item) (t : Told)
+    → flow_text (cond p [] (captured_event h o item)) t ≡ drop (length t.text) (after_events (cond p [] (captured_event h o item)) t).text
+item_new true h o item t = sym (drop_all t.text)
+item_new false h o item t = captured_new h o item t
+
+pub flow_append : (xs ys : List Event) (t : Told) → flow_text (xs ++ ys) t ≡ flow_text xs t ++ flow_text ys (after_events xs t)
+flow_append [] ys t = refl
+flow_append (e ∷ xs) ys t =
+    ap (λ z. new_text e t ++ z) (flow_append xs ys (after_event e t))
+    ∙ sym (append_assoc (new_text e t) (flow_text xs (after_event e t)) (flow_text ys (after_events xs (after_event e t))))
+
+pub after_append : (xs ys : List Event) (t : Told) → after_events (xs ++ ys) t ≡ after_events ys (after_events xs t)
+after_append [] ys t = refl
+after_append (e ∷ xs) ys t = after_append xs ys (after_event e t)
+
+-- ---- what others do meanwhile is nothing to whether a flow is whole
+
+abbrev pub plain_one : Event → List Event
+plain_one (captured h n item) = captured h n item ∷ []
+plain_one (acknowledged h n) = acknowledged h n ∷ []
+plain_one (meanwhile calls text is_refused) = []
+
+abbrev pub plain : List Event → List Event
+plain events = flat_map plain_one events
+
+pub plain_of : (items : List Item) (events : List Event) → AreOf items (plain events) → AreOf items events
+plain_of items [] h = tt
+plain_of items (captured heading n item ∷ more) h = (h.0, plain_of items more h.1)
+plain_of items (acknowledged heading n ∷ more) h = (h.0, plain_of items more h.1)
+plain_of items (meanwhile calls text is_refused ∷ more) h = (tt, plain_of items more h)
+
+pub plain_captured : (events : List Event) (before : List ℕ) → captured_in (plain events) before ≡ captured_in events before
+plain_captured [] before = refl
+plain_captured (captured h n item ∷ more) before = plain_captured more (n ∷ before)
+plain_captured (acknowledged h n ∷ more) before = plain_captured more before
+plain_captured (meanwhile calls text is_refused ∷ more) before = plain_captured more before
+
+pub plain_reach : (first : ℕ) (before : List ℕ) (events : List Event) → AreWithinReach first before (plain events) → AreWithinReach first before events
+plain_reach first before [] h = tt
+plain_reach first before (captured heading n item ∷ more) h = (h.0, plain_reach first (n ∷ before) more h.1)
+plain_reach first before (acknowledged heading n ∷ more) h = (h.0, plain_reach first before more h.1)
+plain_reach first before (meanwhile calls text is_refused ∷ more) h = (λ n le late. absurd late, plain_reach first before more h)
+
+pub plain_whole : (items : List Item) (events : List Event) → IsWhole items (plain events) → IsWhole items events
+plain_whole items events w = record {
+  of = plain_of items events w.of;
+  all = λ n lt. subst (IsAmong n) (plain_captured events []) (w.all n lt);
+  reach = plain_reach 0 [] events w.reach;
+}
+
+pub captured_plain : (h : Heading) (o : Option ℕ) (item : Item) → plain (captured_event h o item) ≡ captured_event h o item
+captured_plain h None item = refl
+captured_plain h (Some n) item = refl
+
+pub item_plain : (p : Bool) (h : Heading) (o : Option ℕ) (item : Item) → plain (cond p [] (captured_event h o item)) ≡ cond p [] (captured_event h o item)
+item_plain true h o item = refl
+item_plain false h o item = captured_plain h o item
+
+pub ack_plain : (h : Heading) (o : Option ℕ) → plain (acknowledged_event h o) ≡ acknowledged_event h o
+ack_plain h None = refl
+ack_plain h (Some n) = refl
+
+pub acknowledged_plain : (h : Heading) (o : Option ℕ) (others : Event) → plain_one others ≡ [] → plain (acknowledged_event h o ++ others ∷ []) ≡ acknowledged_event h o
+acknowledged_plain h None others none = ap (λ z. z ++ []) none
+acknowledged_plain h (Some n) others none = ap (λ z. acknowledged h n ∷ (z ++ [])) none
+
+-- ---- lists
+
+pub same_number : (i : ℕ) → (i == i) ≡ true
+same_number i = grind (arith, nat_tests)
+
+pub other_number : (i j : ℕ) → i < j → (i == j) ≡ false
+other_number i j lt = grind (arith, nat_tests)
+
+pub number_tells : (i j : ℕ) → (i == j) ≡ false → i ≡ j → ⊥
+number_tells i j e same = no_both (i == j) e (subst (λ k. (i == k) ≡ true) same (same_number i))
+  where
+    no_both : (p : Bool) → p ≡ false → p ≡ true → ⊥
+    no_both true a b = (cc)
+    no_both false a b = (cc)
+
+-- ---- parts
+
+abbrev pub flow_at : ℕ → Bool → FlowName
+flow_at m b = record { connection = m; is_behind = b }
+
+pub own_text : (n : Origin) (i : ℕ) (b : Bool) (said : List Said) → text_in (flow_at i b) (told n (flow_at i b) said) ≡ said_texts (heading_at n i b) said
+own_text n i true said = ap (λ p. cond p (said_texts (heading_at n i true) said) []) (same_number i)
+own_text n i false said = ap (λ p. cond p (said_texts (heading_at n i false) said) []) (same_number i)
+
+pub other_text : (n : Origin) (i : ℕ) (b : Bool) (said : List Said) → text_in (flow_at i b) (told n (flow_at i (not b)) said) ≡ []
+other_text n i true said = ap (λ (p : Bool). cond p [] []) (same_number i)
+other_text n i false said = ap (λ (p : Bool). cond p [] []) (same_number i)
+
+pub behind_text : (n : Origin) (i : ℕ) (q : Bool) (said : List Said) → text_in (flow_at i (not q)) (told n (flow_at i q) said) ≡ []
+behind_text n i true said = ap (λ (p : Bool). cond p [] []) (same_number i)
+behind_text n i false said = ap (λ (p : Bool). cond p [] []) (same_number i)
+
+pub far_text : (n : Origin) (i j : ℕ) (b q : Bool) (said : List Said) → (i == j) ≡ false → text_in (flow_at i b) (told n (flow_at j q) said) ≡ []
+far_text n i j b q said e = ap (λ (p : Bool). cond p (cond (is_same b q) (said_texts (heading_at n j q) said) []) []) e
+
+pub two_of : (a b c d : List ℕ) → a ≡ c → b ≡ d → a ++ (b ++ []) ≡ c ++ d
+two_of a b c d e f = ap (λ z. z ++ (b ++ [])) e ∙ ap (λ z. c ++ z) (append-nil b ∙ f)
+
+pub scene_text : (b : Bool) (c : Connection) (k : Known) → (scene_in b c k).text ≡ k.text
+scene_text true c k = refl
+scene_text false c k = refl
+
+pub acknowledged_said : Origin → ℕ → Bool → Header → Scene → List Said
+acknowledged_said n i q f s = (acknowledge_adds (heading_at n i q) f.acknowledge s).said
+
+pub packet_said : Origin → ℕ → Bool → PacketModel → Header → List ℕ → Scene → List Said
+packet_said n i q packet f content s = (packet_adds (heading_at n i q) packet f content s).said
+
+-- what a packet of a flow says of the flow behind it, and of the flow
+abbrev pub packet_parts : Origin → ℕ → Bool → PacketModel → Header → List ℕ → Scene → List Part
+packet_parts n i q packet f content s = told n (flow_at i (not q)) (acknowledged_said n i q f s) ∷ told n (flow_at i q) (packet_said n i q packet f content s) ∷ []
+
+pub two_texts : (a b c x y : List ℕ) → b ≡ a ++ x → c ≡ b ++ y → c ≡ a ++ (x ++ (y ++ []))
+two_texts a b c x y e f = f ∙ ap (λ z. z ++ y) e ∙ append_assoc a x y ∙ ap (λ z. a ++ (x ++ z)) (sym (append-nil y))
+
+pub packet_text : (n : Origin) (i : ℕ) (q : Bool) (packet : PacketModel) (f : Header) (content : List ℕ) (s : Scene)
+    → (after_packet (heading_at n i q) packet f content s).text ≡ s.text ++ parts_text (packet_parts n i q packet f content s)
+unfolding acknowledged_said packet_said
+packet_text n i q packet f content s =
+    let h = heading_at n i q in
+    let x = acknowledge_adds h f.acknowledge s in
+    let y = packet_adds h packet f content s in
+    two_texts s.text (after_acknowledge h f.acknowledge s).text (after_packet h packet f content s).text (said_texts (of_other h) x.said) (said_texts h y.said) x.is y.is
+
+pub acknowledged_is : (n : Origin) (i : ℕ) (q : Bool) (f : Header) (s : Scene)
+    → (after_acknowledge (heading_at n i q) f.acknowledge s).text ≡ s.text ++ said_texts (of_other (heading_at n i q)) (acknowledged_said n i q f s)
+unfolding acknowledged_said
+acknowledged_is n i q f s = (acknowledge_adds (heading_at n i q) f.acknowledge s).is
+
+pub acknowledged_text : (n : Origin) (i : ℕ) (q : Bool) (f : Header) (s : Scene)
+    → drop (length s.text) (after_acknowledge (heading_at n i q) f.acknowledge s).text ≡ said_texts (of_other (heading_at n i q)) (acknowledged_said n i q f s)
+unfolding acknowledged_said
+acknowledged_text n i q f s =
+    let h = heading_at n i q in added (of_other h) s.text (after_acknowledge h f.acknowledge s).text (acknowledge_adds h f.acknowledge s)
+
+pub said_text_of : (n : Origin) (i : ℕ) (q : Bool) (packet : PacketModel) (f : Header) (content : List ℕ) (s : Scene)
+    → drop (length (after_acknowledge (heading_at n i q) f.acknowledge s).text) (after_packet (heading_at n i q) packet f content s).text
+    ≡ said_texts (heading_at n i q) (packet_said n i q packet f content s)
+unfolding packet_said
+said_text_of n i q packet f content s =
+    let h = heading_at n i q in added h (after_acknowledge h f.acknowledge s).text (after_packet h packet f content s).text (packet_adds h packet f content s)
+
+-- what the end of a connection says of its flows
+pub first_ended_said : Origin → ℕ → Scene → List Said
+first_ended_said n m s = (ended_adds (heading_at n m false) s).said
+
+pub second_ended_said : Origin → ℕ → Scene → List Said
+second_ended_said n m s = (ended_adds (heading_at n m true) (seen_from_other (ended (heading_at n m false) s))).said
+
+abbrev pub ended_parts : Origin → ℕ → Scene → List Part
+ended_parts n m s = told n (flow_at m false) (first_ended_said n m s) ∷ told n (flow_at m true) (second_ended_said n m s) ∷ []
+
+pub ended_text : (n : Origin) (m : ℕ) (s : Scene) → (both_ended (heading_at n m false) s).text ≡ s.text ++ parts_text (ended_parts n m s)
+unfolding both_ended first_ended_said second_ended_said
+ended_text n m s =
+    let h = heading_at n m false in
+    let x = ended_adds h s in
+    let y = ended_adds (of_other h) (seen_from_other (ended h s)) in
+    two_texts s.text (ended h s).text (both_ended h s).text (said_texts h x.said) (said_texts (of_other h) y.said) x.is y.is
+
+pub first_ended : (n : Origin) (m : ℕ) (s : Scene) → drop (length s.text) (ended (heading_at n m false) s).text ≡ said_texts (heading_at n m false) (first_ended_said n m s)
+unfolding first_ended_said
+first_ended n m s = let h = heading_at n m false in added h s.text (ended h s).text (ended_adds h s)
+
+pub second_ended : (n : Origin) (m : ℕ) (s : Scene)
+    → drop (length (ended (heading_at n m false) s).text) (ended (heading_at n m true) (seen_from_other (ended (heading_at n m false) s))).text
+    ≡ said_texts (heading_at n m true) (second_ended_said n m s)
+unfolding second_ended_said
+second_ended n m s =
+    let s' = seen_from_other (ended (heading_at n m false) s) in
+    let h = heading_at n m true in added h s'.text (ended h s').text (ended_adds h s')

@@ -1,8 +1,0 @@
-use Rattle.std.proofs.Common.{refl}
-use Rattle.xns_calls.proofs.Places.{on_ok_with}
-use Rattle.xns_calls.proofs.Printed.{end_printed}
-use Rattle.xns_calls.proofs.printer.CallsPrinterLinePrinter.print_end.Goals as goal
-
-pub returns-clause-ok : goal.returns-clause-ok
-returns-clause-ok c = on_ok_with c.take_end.result _ _ c.take_end.ensures.known (λ known. λ lines few begun h.
-    end_printed c.args.self.now _ c.args.page.now _ lines c.args.part known c.take_end.ensures.placed refl begun h)

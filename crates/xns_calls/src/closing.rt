@@ -1,0 +1,62 @@
+//! With what a flow has closed its connection.
+ghost use Rattle.std.specs.Prelude.{◌≡◌};
+ghost use Rattle.xns_calls.specs.Over.{closed_with, closes as closes_of, has_closed, has_replied};
+
+/// The datastream of an item that asks to close the connection.
+const END: u8 = 254;
+
+/// The datastream of an item that answers it.
+const END_REPLY: u8 = 255;
+
+/// With what a flow has closed its connection.
+#[derive(Clone, Copy, Debug, PartialEq, Eq)]
+pub enum Closing {
+    /// With nothing yet.
+    Open,
+    /// With an item of datastream 254, End.
+    End,
+    /// With an item of datastream 255, EndReply.
+    EndReply,
+}
+
+/// Whether an item of this datastream closes a connection.
+pub fn closes(stream: u8) -> bool
+    ensures { result ≡ closes_of stream }
+{
+    stream == END || stream == END_REPLY
+}
+
+impl Closing {
+    /// The same once an item of this datastream has come, which closes the connection.
+    pub fn with(self, stream: u8) -> Closing
+        ensures { result ≡ closed_with stream self }
+    {
+        if stream == END_REPLY {
+            return Closing::EndReply;
+        }
+        match self {
+            Closing::Open | Closing::End => Closing::End,
+            Closing::EndReply => Closing::EndReply,
+        }
+    }
+
+    /// Whether the flow has closed it.
+    pub fn has_closed(self) -> bool
+        ensures { result ≡ has_closed self }
+    {
+        match self {
+            Closing::Open => false,
+            Closing::End | Closing::EndReply => true,
+        }
+    }
+
+    /// Whether the flow has closed it with EndReply.
+    pub fn has_replied(self) -> bool
+        ensures { result ≡ has_replied self }
+    {
+        match self {
+            Closing::Open | Closing::End => false,
+            Closing::EndReply => true,
+        }
+    }
+}

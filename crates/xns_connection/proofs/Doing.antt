@@ -1,0 +1,262 @@
+-- What is done at a connection, in what its scene says of a story.
+use Rattle.std.proofs.Common.{◌≡◌, ◌∙◌, ap, sym, refl, subst, ℕ, ◌≤◌, ◌+◌, List, [], ◌∷◌, ◌++◌, length-append, take, drop, length, Bool, true, false, Option, Some, None, arith}
+use Rattle.std.specs.Prelude.{◌||◌, if◌then◌else◌}
+use Rattle.std.specs.Option.{is_some}
+use Rattle.courier_messages.specs.RawCalls.{RawCall}
+use Rattle.courier_messages.specs.declared.message.Message.{Message}
+use Rattle.courier_sessions.specs.Answering as answering
+use Rattle.courier_sessions.specs.Answering.{Answering, after_call, answer_message, answer_refusal, why_unlisted}
+use Rattle.courier_sessions.specs.Talk as talk
+use Rattle.courier_sessions.specs.Talk.{Talk, call_refusal}
+use Rattle.courier_sessions.specs.Talks.{HasDone}
+use Rattle.courier_sessions.specs.declared.answer.Answer.{Answer}
+use Rattle.courier_sessions.specs.declared.answer_refusal.AnswerRefusal.{AnswerRefusal}
+use Rattle.courier_sessions.specs.declared.answer_refusal.AnswerRefusal.TheVariants as unanswered
+use Rattle.courier_sessions.specs.declared.call_refusal.CallRefusal.{CallRefusal}
+use Rattle.courier_sessions.specs.declared.call_refusal.CallRefusal.TheVariants as uncalled
+use Rattle.courier_sessions.specs.declared.program.Program.{Program}
+use Rattle.courier_sessions.specs.declared.unlisted.Unlisted.{Unlisted}
+use Rattle.xns_spp.specs.Held.{StandsFor}
+use Rattle.xns_spp.specs.Laws.{AnEndOnlyGrows, OtherStepsAcceptAndHandUpNothing}
+use Rattle.xns_spp.specs.Receiving.{after_receive}
+use Rattle.xns_spp.specs.Sending.{waiting_count}
+use Rattle.xns_spp.specs.State.{State}
+use Rattle.xns_spp.specs.declared.item.Item.{Item}
+use Rattle.xns_connection.specs.Closing.{drains, closing_items, Knows}
+use Rattle.xns_connection.specs.Deeds.{Deed, nothing, asked, made, gave, took, heard, answered_for, done, handed_by, side_answered, side_called, side_taken, told_by, wanted_by, with_answer, with_taken}
+use Rattle.xns_connection.specs.Moving.{Scene, scene}
+use Rattle.xns_connection.specs.Refusing.{answer_fault, call_fault, side_answer_fault, side_call_fault}
+use Rattle.xns_connection.specs.Step.{May}
+use Rattle.xns_connection.specs.Story.{Story, SideHas, CallerHas, ServerHas, asked_of, is_stopped, listed_call, waiting_message, with_handed}
+use Rattle.xns_connection.specs.Telling.{Tells}
+use Rattle.xns_connection.specs.declared.conversation.Conversation.{Conversation}
+use Rattle.xns_connection.specs.declared.refusal.Refusal.{Refusal}
+use Rattle.xns_connection.specs.declared.refusal.Refusal.TheVariants as faults
+use Rattle.xns_connection.specs.declared.side.Side.{Side}
+use Rattle.xns_connection.specs.declared.side.Side.TheVariants.{Calls, Answers}
+use Rattle.xns_connection.proofs.Handing.{ServerAnswers, ServerHands, answers, hands}
+use Rattle.xns_connection.proofs.Leading.{going, gone}
+use Rattle.xns_connection.proofs.Says.{Says, says_of}
+use Rattle.xns_connection.proofs.Tellings.{has_at, nothing_said, same_front}
+
+-- the laws of the layers below
+abbrev pub CallerMakes : Type 0
+CallerMakes = (made : List RawCall) (fed given : List Item) (handed : List Message) (t : Talk) (c : RawCall) → HasDone made fed given handed t
+    → call_refusal t c ≡ None → HasDone (made ++ c ∷ []) fed given handed (talk.called t c)
+
+abbrev pub CallerHands : Type 0
+CallerHands = (made : List RawCall) (fed given : List Item) (handed : List Message) (t : Talk) (m : Message) → HasDone made fed given handed t
+    → t.outcome ≡ Some m → HasDone made fed given (handed ++ m ∷ []) (record t { outcome = None })
+
+pub record Underneath : Type 0 where
+  pub makes : CallerMakes
+  pub hands_up : CallerHands
+  pub hands_call : ServerHands
+  pub gives : ServerAnswers
+  pub grows : AnEndOnlyGrows
+  pub stays : OtherStepsAcceptAndHandUpNothing
+
+-- the side is another, and the story too, but for what its end did
+says_other : (x : Scene) (h m : Story) (side : Side) → Says x h → SideHas m side → m.fed ≡ h.fed → m.given ≡ h.given
+    → (drains side x.closing ≡ false → drains x.side x.closing ≡ false) → Says (record x { side = side }) m
+says_other x h m side s has fed given still =
+    let front : List Item = take x.state.handed x.state.taken in
+    record {
+      has = has;
+      fed = subst (λ (xs : List Item). (rest : List Item) × (xs ++ rest ≡ front)) (sym fed) s.fed;
+      all = λ z. fed ∙ s.all (still z);
+      given = ap (λ (xs : List Item). xs ++ closing_items x.closing) given ∙ s.given;
+      knows = subst (λ (xs : List Item). Knows x.closing (drop (length xs) front)) (sym fed) s.knows;
+    }
+
+-- ---- a call
+
+no_fault : (o : Option CallRefusal) → call_fault o ≡ None → o ≡ None
+no_fault None e = refl
+no_fault (Some uncalled.Stopped) e = absurd (cc)
+no_fault (Some uncalled.Busy) e = absurd (cc)
+no_fault (Some uncalled.TooLong) e = absurd (cc)
+no_fault (Some uncalled.NoMemory) e = absurd (cc)
+
+may_call : (a b : Bool) (o : Option Refusal) → (if a || b then Some faults.Closing else o) ≡ None → (a ≡ false) × (o ≡ None)
+may_call true b o e = absurd (cc)
+may_call false true o e = absurd (cc)
+may_call false false o e = (refl, e)
+
+called : Underneath → (side : Side) (h : Story) (call : RawCall) → is_stopped side ≡ false → side_call_fault side call ≡ None → SideHas h side
+    → SideHas (record h { made = h.made ++ call ∷ [] }) (side_called side call)
+called laws (Calls t) h call free may has =
+    going (record h { made = h.made ++ call ∷ [] }) (talk.called t call)
+    (laws.makes h.made h.fed h.given h.handed t call (gone h t has free) (no_fault (call_refusal t call) may)) has.table
+called laws (Answers a) h call free may has = absurd (cc)
+
+-- ---- an answer
+
+no_reason : (o : Option AnswerRefusal) → answer_fault o ≡ None → o ≡ None
+no_reason None e = refl
+no_reason (Some unanswered.NoCall) e = absurd (cc)
+no_reason (Some unanswered.TooLong) e = absurd (cc)
+no_reason (Some unanswered.NoMemory) e = absurd (cc)
+
+may_answer : (a : Bool) (o : Option Refusal) → (if a then Some faults.Closing else o) ≡ None → (a ≡ false) × (o ≡ None)
+may_answer true o e = absurd (cc)
+may_answer false o e = (refl, e)
+
+record Gives (side : Side) (h m : Story) : Type 0 where
+  has : SideHas m side
+  fed : m.fed ≡ h.fed
+  given : m.given ≡ h.given
+
+given_to : Underneath → (a : Answering) (o : Option ℕ) (h : Story) (kind : Answer) (words : List ℕ) → a.asked ≡ o
+    → answer_fault (answer_refusal o kind words) ≡ None → ServerHas h a
+    → Gives (Answers (answered_for o a kind words)) h (with_answer o kind words h)
+given_to laws a None h kind words is may has = absurd (cc)
+given_to laws a (Some k) h kind words is may has =
+    let none = no_reason (answer_refusal (Some k) kind words) may in
+    let right : answer_refusal a.asked kind words ≡ None = ap (λ (o : Option ℕ). answer_refusal o kind words) is ∙ none in
+    record { has = answers laws.gives h a (answering.answered a (answer_message kind k words)) kind k words is right refl has; fed = refl; given = refl }
+
+given : Underneath → (side : Side) (h : Story) (kind : Answer) (words : List ℕ) → side_answer_fault side kind words ≡ None → SideHas h side
+    → Gives (side_answered side kind words) h (with_answer (asked_of side) kind words h)
+given laws (Calls t) h kind words may has = absurd (cc)
+given laws (Answers a) h kind words may has = given_to laws a a.asked h kind words refl may has
+
+-- ---- a message
+
+taken_from : Underneath → (t : Talk) (o : Option Message) (h : Story) → t.outcome ≡ o → CallerHas h t
+    → Gives (Calls (record t { outcome = None })) h (with_taken o (Calls t) h)
+taken_from laws t None h is has =
+    let same : t ≡ record t { outcome = None } = ap (λ (o : Option Message). record t { outcome = o }) is in
+    record { has = subst (λ (u : Talk). CallerHas h u) same has; fed = refl; given = refl }
+taken_from laws t (Some m) h is has =
+    let done = laws.hands_up h.made h.fed h.given h.handed (record t { failed = false; phase = has.phase }) m has.done is in
+    record { has = record { phase = has.phase; done = done; going = has.going; table = has.table }; fed = refl; given = refl }
+
+is_listed_call : (programs : List Program) (o : Option Message) (m : Message) → listed_call programs o ≡ Some m
+    → (o ≡ Some m) × (why_unlisted programs m ≡ None)
+is_listed_call programs None m e = absurd (cc)
+is_listed_call programs (Some k) m e = by (why_unlisted programs k) refl e where
+  by : (w : Option Unlisted) → why_unlisted programs k ≡ w → (if is_some w then None else Some k) ≡ Some m
+      → (Some k ≡ Some m) × (why_unlisted programs m ≡ None)
+  by None is f =
+      let same : k ≡ m = cc in
+      (f, ap (λ (x : Message). why_unlisted programs x) (sym same) ∙ is)
+  by (Some w) is f = absurd (cc)
+
+call_from : Underneath → (a : Answering) (o : Option Message) (h : Story) → listed_call a.programs a.call ≡ o → ServerHas h a
+    → Gives (Answers (handed_by o a)) h (with_taken o (Answers a) h)
+call_from laws a None h is has = record { has = has; fed = refl; given = refl }
+call_from laws a (Some m) h is has =
+    let listed = is_listed_call a.programs a.call m is in
+    record { has = hands laws.hands_call h a (after_call a m) m listed.0 listed.1 refl has; fed = refl; given = refl }
+
+taken : Underneath → (side : Side) (h : Story) → SideHas h side → Gives (side_taken side) h (with_taken (waiting_message side) side h)
+taken laws (Calls t) h has = taken_from laws t t.outcome h refl has
+taken laws (Answers a) h has = call_from laws a (listed_call a.programs a.call) h refl has
+
+taken_stops : (side : Side) → is_stopped (side_taken side) ≡ is_stopped side
+taken_stops (Calls t) = refl
+taken_stops (Answers a) = by (listed_call a.programs a.call) where
+  by : (o : Option Message) → (handed_by o a).failed ≡ a.failed
+  by None = refl
+  by (Some m) = refl
+
+called_stops : (side : Side) (call : RawCall) → is_stopped (side_called side call) ≡ is_stopped side
+called_stops (Calls t) call = refl
+called_stops (Answers a) call = refl
+
+answered_stops : (side : Side) (kind : Answer) (words : List ℕ) → is_stopped (side_answered side kind words) ≡ is_stopped side
+answered_stops (Calls t) kind words = refl
+answered_stops (Answers a) kind words = by a.asked where
+  by : (o : Option ℕ) → (answered_for o a kind words).failed ≡ a.failed
+  by None = refl
+  by (Some k) = refl
+
+-- ---- whatever it is
+
+-- it does not change whether what comes is read
+pub done_drains : (deed : Deed) (x : Scene) → drains (done deed x).side (done deed x).closing ≡ drains x.side x.closing
+done_drains nothing x = refl
+done_drains asked x = refl
+done_drains (made call) x = ap (λ (b : Bool). b || (x.closing.end_sent || (x.closing.reply_sent || x.closing.deaf))) (called_stops x.side call)
+done_drains (gave kind words) x = ap (λ (b : Bool). b || (x.closing.end_sent || (x.closing.reply_sent || x.closing.deaf))) (answered_stops x.side kind words)
+done_drains took x = ap (λ (b : Bool). b || (x.closing.end_sent || (x.closing.reply_sent || x.closing.deaf))) (taken_stops x.side)
+done_drains (heard bytes) x = refl
+
+pub done_wanted : (deed : Deed) (x : Scene) → (done deed x).closing.wanted ≡ wanted_by deed x.closing.wanted
+done_wanted nothing x = refl
+done_wanted asked x = refl
+done_wanted (made call) x = refl
+done_wanted (gave kind words) x = refl
+done_wanted took x = refl
+done_wanted (heard bytes) x = refl
+
+answer_state : (o : Option ℕ) (kind : Answer) (words : List ℕ) (h : Story) → (with_answer o kind words h).state ≡ h.state
+answer_state None kind words h = refl
+answer_state (Some k) kind words h = refl
+
+handed_state : (side : Side) (h : Story) (m : Message) → (with_handed side h m).state ≡ h.state
+handed_state (Calls t) h m = refl
+handed_state (Answers a) h m = refl
+
+taken_state : (o : Option Message) (side : Side) (h : Story) → (with_taken o side h).state ≡ h.state
+taken_state None side h = refl
+taken_state (Some m) side h = handed_state side h m
+
+pub told_state : (deed : Deed) (t : Conversation) (h : Story) → (done deed (scene t h.state)).state ≡ (told_by deed t.side h).state
+told_state nothing t h = refl
+told_state asked t h = refl
+told_state (made call) t h = refl
+told_state (gave kind words) t h = sym (answer_state (asked_of t.side) kind words h)
+told_state took t h = sym (taken_state (waiting_message t.side) t.side h)
+told_state (heard bytes) t h = refl
+
+-- as many items wait to be read, or more
+pub done_waits : Underneath → (deed : Deed) (t : Conversation) (s : State) → StandsFor t.endpoint s
+    → waiting_count s ≤ waiting_count (done deed (scene t s)).state
+done_waits laws nothing t s stands = omega arith
+done_waits laws asked t s stands = omega arith
+done_waits laws (made call) t s stands = omega arith
+done_waits laws (gave kind words) t s stands = omega arith
+done_waits laws took t s stands = omega arith
+done_waits laws (heard bytes) t s stands =
+    let g = (laws.grows.receive s bytes).taken in
+    let size : length s.taken + length g.0 ≡ length (after_receive s bytes).taken = sym (length-append s.taken g.0) ∙ ap length g.1 in
+    let same = (laws.stays.receive s bytes).handed in
+    omega (arith, size, same)
+
+pub did : Underneath → (deed : Deed) (t : Conversation) (h : Story) → May t deed → Tells t h → Says (done deed (scene t h.state)) (told_by deed t.side h)
+did laws nothing t h may tells = says_of tells
+did laws asked t h may tells = record {
+  has = tells.has;
+  fed = tells.fed;
+  all = tells.all;
+  given = tells.given;
+  knows = record { wanted = tells.knows.wanted; heard = tells.knows.heard };
+}
+did laws (made call) t h may tells =
+    let k = may_call (drains t.side t.closing) t.closing.wanted (side_call_fault t.side call) may in
+    says_other (scene t h.state) h (record h { made = h.made ++ call ∷ [] }) (side_called t.side call) (says_of tells)
+    (called laws t.side h call (nothing_said t.side t.closing k.0).0 k.1 tells.has) refl refl (λ z. k.0)
+did laws (gave kind words) t h may tells =
+    let k = may_answer (drains t.side t.closing) (side_answer_fault t.side kind words) may in
+    let g = given laws t.side h kind words k.1 tells.has in
+    says_other (scene t h.state) h (with_answer (asked_of t.side) kind words h) (side_answered t.side kind words) (says_of tells) g.has g.fed g.given (λ z. k.0)
+did laws took t h may tells =
+    let g = taken laws t.side h tells.has in
+    says_other (scene t h.state) h (with_taken (waiting_message t.side) t.side h) (side_taken t.side) (says_of tells) g.has g.fed g.given
+    (λ z. sym (done_drains took (scene t h.state)) ∙ z)
+did laws (heard bytes) t h may tells =
+    let s : State = h.state in
+    let v : State = after_receive s bytes in
+    let g = laws.grows.receive s bytes in
+    let k = laws.stays.receive s bytes in
+    let few = tells.stands.fits.bounds.handed_taken in
+    let front : take v.handed v.taken ≡ take s.handed s.taken = ap (λ (n : ℕ). take n v.taken) k.handed ∙ same_front s.handed s.taken v.taken few g.taken in
+    record {
+      has = has_at v h t.side tells.has;
+      fed = subst (λ (xs : List Item). (rest : List Item) × (h.fed ++ rest ≡ xs)) (sym front) tells.fed;
+      all = λ z. tells.all z ∙ sym front;
+      given = tells.given ∙ sym k.accepted;
+      knows = subst (λ (xs : List Item). Knows t.closing (drop (length h.fed) xs)) (sym front) tells.knows;
+    }

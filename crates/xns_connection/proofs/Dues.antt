@@ -1,0 +1,61 @@
+-- What is due of a connection that is not closed, and of one that is.
+use Rattle.std.proofs.Common.{◌≡◌, ◌≢◌, ◌∙◌, ap, refl, ℕ, Bool, true, false}
+use Rattle.std.specs.Prelude.{◌==◌, if◌then◌else◌}
+use Rattle.xns_connection.specs.Connecting.{is_again, is_open_due, is_closed_due}
+use Rattle.xns_agenda.specs.Waiting.{Waiting, after_step, after_word, after_heard, later, waiting_on, idling}
+use Rattle.xns_agenda.specs.declared.due.Due.{Due}
+use Rattle.xns_agenda.specs.declared.due.Due.TheVariants.{Never, AgainAt, AskAt, ForgetAt}
+
+-- ---- a step
+
+again_by : (w : Waiting) (d : Due) (now : ℕ) → w.due ≡ d → is_open_due d ≡ true → is_again (waiting_on w d now).due ≡ true
+again_by w Never now is free = refl
+again_by w (AgainAt t) now is free = ap is_again is
+again_by w (AskAt t) now is free = refl
+again_by w (ForgetAt t) now is free = absurd (cc)
+
+-- where something waits for the peer, it goes out again
+pub step_again : (w v : Waiting) (b : Bool) (now : ℕ) → is_open_due w.due ≡ true → v ≡ after_step w b now → b ≢ false → is_again v.due ≡ true
+step_again w v true now free is some = ap (λ (u : Waiting). is_again u.due) is ∙ again_by w w.due now refl free
+step_again w v false now free is some = absurd (some refl)
+
+idle_open : (b : Bool) (t : ℕ) → is_open_due (if b then Never else AskAt t) ≡ true
+idle_open true t = refl
+idle_open false t = refl
+
+waits_open : (w : Waiting) (d : Due) (now : ℕ) → w.due ≡ d → is_open_due d ≡ true → is_open_due (waiting_on w d now).due ≡ true
+waits_open w Never now is free = refl
+waits_open w (AgainAt t) now is free = ap is_open_due is
+waits_open w (AskAt t) now is free = refl
+waits_open w (ForgetAt t) now is free = absurd (cc)
+
+idles_open : (w : Waiting) (d : Due) → w.due ≡ d → is_open_due d ≡ true → is_open_due (idling w d).due ≡ true
+idles_open w Never is free = idle_open (w.pace.idle == 0) (later w.heard_at w.pace.idle)
+idles_open w (AgainAt t) is free = idle_open (w.pace.idle == 0) (later w.heard_at w.pace.idle)
+idles_open w (AskAt t) is free = ap is_open_due is
+idles_open w (ForgetAt t) is free = absurd (cc)
+
+pub step_open : (w v : Waiting) (b : Bool) (now : ℕ) → is_open_due w.due ≡ true → v ≡ after_step w b now → is_open_due v.due ≡ true
+step_open w v true now free is = ap (λ (u : Waiting). is_open_due u.due) is ∙ waits_open w w.due now refl free
+step_open w v false now free is = ap (λ (u : Waiting). is_open_due u.due) is ∙ idles_open w w.due refl free
+
+-- ---- a word of the peer
+
+heard_by : (w : Waiting) (d : Due) (more : Bool) → w.due ≡ d → is_open_due d ≡ true → is_open_due (after_heard w d more).due ≡ true
+heard_by w Never more is free = refl
+heard_by w (AgainAt t) true is free = refl
+heard_by w (AgainAt t) false is free = ap is_open_due is
+heard_by w (AskAt t) more is free = refl
+heard_by w (ForgetAt t) more is free = absurd (cc)
+
+pub word_open : (w v : Waiting) (more : Bool) (now : ℕ) → v ≡ after_word w more now → is_open_due w.due ≡ true → is_open_due v.due ≡ true
+word_open w v more now is free = ap (λ (u : Waiting). is_open_due u.due) is ∙ heard_by (record w { misses = 0; heard_at = now }) w.due more refl free
+
+heard_shut : (w : Waiting) (d : Due) (more : Bool) → w.due ≡ d → is_closed_due d ≡ true → is_closed_due (after_heard w d more).due ≡ true
+heard_shut w Never more is shut = refl
+heard_shut w (AgainAt t) more is shut = absurd (cc)
+heard_shut w (AskAt t) more is shut = absurd (cc)
+heard_shut w (ForgetAt t) more is shut = ap is_closed_due is
+
+pub word_shut : (w v : Waiting) (more : Bool) (now : ℕ) → v ≡ after_word w more now → is_closed_due w.due ≡ true → is_closed_due v.due ≡ true
+word_shut w v more now is shut = ap (λ (u : Waiting). is_closed_due u.due) is ∙ heard_shut (record w { misses = 0; heard_at = now }) w.due more refl shut

@@ -1,0 +1,23 @@
+-- Steps of one moment.
+use Rattle.std.proofs.Common.{◌≡◌, refl, subst, sym, ℕ, Bool, true, false}
+use Rattle.xns_agenda.specs.Waiting.{HearsAt, StepsAt, Waiting, after_step, after_word, close, lingering, no_word, step, still, word}
+
+pub no_step : (w v : Waiting) (now : ℕ) → v ≡ w → StepsAt now w v
+no_step w v now same = subst (λ (u : Waiting). StepsAt now w u) (sym same) still
+
+pub one_step : (w v : Waiting) (b : Bool) (now : ℕ) → v ≡ after_step w b now → StepsAt now w v
+one_step w v b now is = subst (λ (u : Waiting). StepsAt now w u) (sym is) (step still b)
+
+pub one_close : (w v : Waiting) (now : ℕ) → v ≡ lingering w now → StepsAt now w v
+one_close w v now is = subst (λ (u : Waiting). StepsAt now w u) (sym is) (close still)
+
+-- a word of the peer may have come first
+pub hears_at : (foreign : Bool) (w u v : Waiting) (more : Bool) (now : ℕ) → (foreign ≡ true → u ≡ w) → (foreign ≡ false → u ≡ after_word w more now)
+    → StepsAt now u v → HearsAt now w v
+hears_at true w u v more now same heard steps = no_word (subst (λ (x : Waiting). StepsAt now x v) (same refl) steps)
+hears_at false w u v more now same heard steps = word more (subst (λ (x : Waiting). StepsAt now x v) (heard refl) steps)
+
+pub steps_then : (now : ℕ) (u w : Waiting) {v : Waiting} → StepsAt now u w → StepsAt now w v → StepsAt now u v
+steps_then now u w first still = first
+steps_then now u w first (step next b) = step (steps_then now u w first next) b
+steps_then now u w first (close next) = close (steps_then now u w first next)

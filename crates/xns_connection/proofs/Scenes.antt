@@ -1,0 +1,108 @@
+-- A conversation at its scene, step after step.
+use Rattle.std.proofs.Common.{◌≡◌, ◌≢◌, ◌∙◌, ap, refl, sym, subst, ℕ, suc, ◌+◌, Bool, true, false, Result, Ok, Err, arith}
+use Rattle.std.specs.Prelude.{◌&&◌, if◌then◌else◌, is_ok}
+use Rattle.courier_sessions.specs.declared.feed_refusal.FeedRefusal.{FeedRefusal}
+use Rattle.courier_sessions.specs.declared.feed_refusal.FeedRefusal.TheVariants.{Stopped, Busy, TooLong, Attention, Fault, NoMemory}
+use Rattle.xns_spp.specs.Held.{StandsFor}
+use Rattle.xns_spp.specs.Sending.{send_answer}
+use Rattle.xns_spp.specs.State.{State}
+use Rattle.xns_connection.specs.Closing.{closing_item, end_stream, end_reply_stream}
+use Rattle.xns_connection.specs.Moving.{Scene, scene, IsAt, Moves, Settles, taken_one, taken_many, may_end, may_reply, ended, replied, closed_up, deafened}
+use Rattle.xns_connection.specs.declared.closing.Closing.{Closing}
+use Rattle.xns_connection.specs.declared.conversation.Conversation.{Conversation}
+use Rattle.xns_connection.specs.declared.side.Side.{Side}
+
+pub scene_at : {t : Conversation} {x : Scene} → IsAt t x → scene t x.state ≡ x
+scene_at {t} {x} at =
+    let one : scene t x.state ≡ record { side = x.side; closing = t.closing; state = x.state } =
+    ap (λ (b : Side). let y : Scene = record { side = b; closing = t.closing; state = x.state } in y) at.side in
+    one ∙ ap (λ (c : Closing). let y : Scene = record { side = x.side; closing = c; state = x.state } in y) at.closing
+
+-- from where it is it comes to where that leads
+pub then_at : {t u : Conversation} {x : Scene} (f : Scene → Scene) → IsAt t x → ((s : State) → StandsFor t.endpoint s → IsAt u (f (scene t s)))
+    → IsAt u (f x)
+then_at {t} {u} {x} f at next = subst (λ (y : Scene). IsAt u (f y)) (scene_at at) (next x.state at.stands)
+
+pub at_first : (t : Conversation) (s : State) → StandsFor t.endpoint s → IsAt t (scene t s)
+at_first t s stands = record { stands = stands; side = refl; closing = refl }
+
+pub many_more : (n : ℕ) (x : Scene) → taken_many (n + 1) x ≡ taken_one (taken_many n x)
+unfolding taken_many
+many_more n x =
+    let e : n + 1 ≡ suc n = omega arith in
+    subst (λ (m : ℕ). taken_many m x ≡ taken_one (taken_many n x)) (sym e) refl
+
+-- ---- what is not said
+
+and_no : (a b : Bool) → b ≡ false → (a && b) ≡ false
+and_no true b e = e
+and_no false b e = refl
+
+unless : (b : Bool) (u : Conversation) (x y : Scene) → b ≡ false → IsAt u x → IsAt u (if b then y else x)
+unless true u x y e at = absurd (cc)
+unless false u x y e at = at
+
+same_at : (t u : Conversation) (s : State) → u ≡ t → StandsFor t.endpoint s → IsAt u (scene t s)
+same_at t u s same stands = subst (λ (w : Conversation). IsAt w (scene t s)) (sym same) (at_first t s stands)
+
+pub not_ended : (t u : Conversation) (s : State) → u ≡ t → is_ok (send_answer s (closing_item end_stream)) ≡ false → StandsFor t.endpoint s
+    → IsAt u (ended (scene t s))
+not_ended t u s same full stands = unless _ u _ _ (and_no (may_end (scene t s)) _ full) (same_at t u s same stands)
+
+pub not_replied : (t u : Conversation) (s : State) → u ≡ t → is_ok (send_answer s (closing_item end_reply_stream)) ≡ false
+    → StandsFor t.endpoint s → IsAt u (replied (scene t s))
+not_replied t u s same full stands = unless _ u _ _ (and_no (may_reply (scene t s)) _ full) (same_at t u s same stands)
+
+-- ---- all that can move
+
+pub deaf_at : {t u : Conversation} {x : Scene} → IsAt t x → u ≡ record t { closing = record t.closing { deaf = true } } → IsAt u (deafened x)
+deaf_at {t} {u} {x} at same =
+    let w : Conversation = record t { closing = record t.closing { deaf = true } } in
+    let there : IsAt w (deafened x) = record { stands = at.stands; side = at.side; closing = ap (λ (c : Closing). record c { deaf = true }) at.closing } in
+    subst (λ (z : Conversation). IsAt z (deafened x)) (sym same) there
+
+pub settled_at : (t a b u : Conversation) (s : State) (r : Result (Unit {0}) FeedRefusal) → (x : Scene) × IsAt a x × Moves (scene t s) r x
+    → (r ≡ Ok tt → b ≡ a) → (r ≢ Ok tt → r ≢ Err NoMemory → b ≡ record a { closing = record a.closing { deaf = true } }) → r ≢ Err NoMemory
+    → ((v : State) → StandsFor b.endpoint v → IsAt u (closed_up (scene b v))) → (x : Scene) × IsAt u x × Settles (scene t s) r x
+settled_at t a b u s r moved good bad fed next = by r refl where
+  deaf : (e : FeedRefusal) → r ≡ Err e → IsAt b (deafened moved.0)
+  deaf e is = deaf_at moved.1 (bad (λ z. absurd (cc)) fed)
+
+  by : (q : Result (Unit {0}) FeedRefusal) → r ≡ q → (x : Scene) × IsAt u x × Settles (scene t s) r x
+  by (Ok v) is = (
+    closed_up moved.0,
+    then_at closed_up (subst (λ (w : Conversation). IsAt w moved.0) (sym (good is)) moved.1) next,
+    subst (λ (z : Result (Unit {0}) FeedRefusal). Settles (scene t s) z (closed_up moved.0)) (sym is)
+        (record { mid = moved.0; moves = subst (λ (z : Result (Unit {0}) FeedRefusal). Moves (scene t s) z moved.0) is moved.2; is = refl }),
+  )
+  by (Err NoMemory) is = absurd (fed is)
+  by (Err Stopped) is = (
+    closed_up (deafened moved.0),
+    then_at closed_up (deaf Stopped is) next,
+    subst (λ (z : Result (Unit {0}) FeedRefusal). Settles (scene t s) z (closed_up (deafened moved.0))) (sym is)
+        (record { mid = moved.0; moves = subst (λ (z : Result (Unit {0}) FeedRefusal). Moves (scene t s) z moved.0) is moved.2; is = refl }),
+  )
+  by (Err Busy) is = (
+    closed_up (deafened moved.0),
+    then_at closed_up (deaf Busy is) next,
+    subst (λ (z : Result (Unit {0}) FeedRefusal). Settles (scene t s) z (closed_up (deafened moved.0))) (sym is)
+        (record { mid = moved.0; moves = subst (λ (z : Result (Unit {0}) FeedRefusal). Moves (scene t s) z moved.0) is moved.2; is = refl }),
+  )
+  by (Err TooLong) is = (
+    closed_up (deafened moved.0),
+    then_at closed_up (deaf TooLong is) next,
+    subst (λ (z : Result (Unit {0}) FeedRefusal). Settles (scene t s) z (closed_up (deafened moved.0))) (sym is)
+        (record { mid = moved.0; moves = subst (λ (z : Result (Unit {0}) FeedRefusal). Moves (scene t s) z moved.0) is moved.2; is = refl }),
+  )
+  by (Err Attention) is = (
+    closed_up (deafened moved.0),
+    then_at closed_up (deaf Attention is) next,
+    subst (λ (z : Result (Unit {0}) FeedRefusal). Settles (scene t s) z (closed_up (deafened moved.0))) (sym is)
+        (record { mid = moved.0; moves = subst (λ (z : Result (Unit {0}) FeedRefusal). Moves (scene t s) z moved.0) is moved.2; is = refl }),
+  )
+  by (Err (Fault f)) is = (
+    closed_up (deafened moved.0),
+    then_at closed_up (deaf (Fault f) is) next,
+    subst (λ (z : Result (Unit {0}) FeedRefusal). Settles (scene t s) z (closed_up (deafened moved.0))) (sym is)
+        (record { mid = moved.0; moves = subst (λ (z : Result (Unit {0}) FeedRefusal). Moves (scene t s) z moved.0) is moved.2; is = refl }),
+  )

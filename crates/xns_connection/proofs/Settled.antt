@@ -1,0 +1,253 @@
+-- What all that can move does to what a scene says of a story.
+use Rattle.std.proofs.Common.{[], ◌≡◌, ◌≢◌, ◌∙◌, ap, sym, refl, subst, List, ◌++◌, append-nil, take, drop, length, Bool, true, false, Result, Ok, Err, OnOk, IfErr}
+use Rattle.std.specs.Prelude.{◌||◌}
+use Rattle.std.proofs.Math.Seq.{drop-length}
+use Rattle.courier_sessions.specs.declared.feed_refusal.FeedRefusal.{FeedRefusal}
+use Rattle.courier_sessions.specs.declared.feed_refusal.FeedRefusal.TheVariants.{Stopped, Busy, TooLong, Attention, Fault, NoMemory}
+use Rattle.xns_spp.specs.Laws.{ItemsAreAcceptedOrChangeNothing}
+use Rattle.xns_spp.specs.State.{State, IsState}
+use Rattle.xns_spp.specs.declared.item.Item.{Item}
+use Rattle.xns_connection.specs.Closing.{drains, closing_items, Knows}
+use Rattle.xns_connection.specs.Moving.{IsAt, Scene, Settles, Moves, drains_only, converses, Pumps, Rounds, once, again, Converses, calms, starves, refuses, refuses_on, closed_up, deafened, settled_by}
+use Rattle.xns_connection.specs.Story.{Story, GoesOn, IsMoved, IsListed, IsHeld, is_stopped}
+use Rattle.xns_connection.specs.Telling.{IsUnrefused}
+use Rattle.xns_connection.specs.declared.closing.Closing.{Closing}
+use Rattle.xns_connection.specs.declared.conversation.Conversation.{Conversation}
+use Rattle.xns_connection.specs.declared.side.Side.{Side}
+use Rattle.xns_connection.specs.declared.side.Side.TheVariants.{Calls, Answers}
+use Rattle.xns_connection.proofs.Fills.{Below, Fills, HasConversed, Until, at_end, has_conversed}
+use Rattle.xns_connection.proofs.Leading.{goes_on, same_messages, stays}
+use Rattle.xns_connection.proofs.Says.{Says, Follows, IsSaid, closed_drained, closes_up, deaf_drained, deaf_follows, follows_then}
+use Rattle.xns_connection.proofs.Tellings.{nothing_said, reads_by, unsaid, on_ok, if_err, deafened as deafens}
+
+-- ---- the side of a scene
+
+fills_of : (x : Scene) (h : Story) → drains x.side x.closing ≡ false → Says x h → Fills x.side x.state h
+fills_of x h free s =
+    let k = nothing_said x.side x.closing free in
+    record { has = s.has; fed = s.all free; given = sym (append-nil h.given) ∙ ap (λ (xs : List Item). h.given ++ xs) (sym k.1) ∙ s.given }
+
+none_left : (s : State) (h : Story) → h.fed ≡ take s.handed s.taken → drop (length h.fed) (take s.handed s.taken) ≡ []
+none_left s h fed = ap (λ (xs : List Item). drop (length h.fed) xs) (sym fed) ∙ drop-length h.fed
+
+says_by : (x : Scene) (h m : Story) (next : Side) (v : State) → drains x.side x.closing ≡ false → Says x h → Fills next v m
+    → Says (record x { side = next; state = v }) m
+says_by x h m next v free s f =
+    let nothing = (nothing_said x.side x.closing free).1 in
+    let knows : Knows x.closing [] = subst (Knows x.closing) (none_left x.state h (s.all free)) s.knows in
+    record {
+      has = f.has;
+      fed = ([], append-nil m.fed ∙ f.fed);
+      all = λ z. f.fed;
+      given = ap (λ (xs : List Item). m.given ++ xs) nothing ∙ append-nil m.given ∙ f.given;
+      knows = subst (Knows x.closing) (sym (none_left v m f.fed)) knows;
+    }
+
+-- ---- an end's history is one
+
+pumps_fits : (side next : Side) (s v : State) (r : Result (Unit {0}) FeedRefusal) → Pumps side s r next v → IsState v
+pumps_fits (Calls t) (Calls n) s v r p = p.fits
+pumps_fits (Calls t) (Answers b) s v r p = absurd p
+pumps_fits (Answers a) (Calls n) s v r p = absurd p
+pumps_fits (Answers a) (Answers b) s v r p = p.fits
+
+rounds_fits : {side next : Side} {s v : State} → Rounds side s next v → IsState v
+rounds_fits {side} {next} {s} {v} (once p) = pumps_fits side next s v (Ok tt) p
+rounds_fits (again {free = other} {next = next} {v = v} {w = w} r still rejected p) = pumps_fits other next v w (Ok tt) p
+
+conversed_fits : {side next : Side} {s v : State} {r : Result (Unit {0}) FeedRefusal} → Converses side s r next v → IsState v
+conversed_fits (calms rounds listed) = rounds_fits rounds
+conversed_fits (starves rounds unlisted) = rounds_fits rounds
+conversed_fits {side} {next} {s} {v} (refuses e p) = pumps_fits side next s v (Err e) p
+conversed_fits (refuses_on {free = other} {next = next} {v = v} {w = w} e rounds still rejected p) = pumps_fits other next v w (Err e) p
+
+-- ---- items move
+
+-- the scene before the side refused an item, and its story
+pub record Refusal (x : Scene) (h : Story) (e : FeedRefusal) : Type 0 where
+  pub last : Scene
+  pub story : Story
+  pub says : Says last story
+  pub goes : GoesOn (at_end x.state h) (at_end last.state story)
+  pub still : drains last.side last.closing ≡ false
+  pub held : IsHeld last.side last.state e
+  pub fits : IsState last.state
+
+record HasMoved (x : Scene) (r : Result (Unit {0}) FeedRefusal) (y : Scene) (h : Story) : Type 0 where
+  story : Story
+  says : Says y story
+  goes : GoesOn (at_end x.state h) (at_end y.state story)
+  calm : OnOk r (drains y.side y.closing ≡ false → IsMoved y.side y.state × IsListed y.side)
+  until : IfErr r (λ e. Refusal x h e)
+  reads : IsUnrefused r → drains x.side x.closing ≡ false → drains y.side y.closing ≡ false
+
+still_reads : (x : Scene) (h : Story) (next : Side) (v : State) (r : Result (Unit {0}) FeedRefusal) → drains x.side x.closing ≡ false
+    → HasConversed x.state v r next h → IsUnrefused r → drains next x.closing ≡ false
+still_reads x h next v (Ok u) free k fine = reads_by x.side next x.closing free k.calm.0
+still_reads x h next v (Err e) free k fine = reads_by x.side next x.closing free (k.short (fine (λ z. cc)))
+
+has_moved : Below → {x y : Scene} {r : Result (Unit {0}) FeedRefusal} (h : Story) → Says x h → Moves x r y → HasMoved x r y h
+has_moved below {x} {y} {r} h s (drains_only drain) = record {
+  story = h;
+  says = s;
+  goes = stays (at_end x.state h);
+  calm = λ free. absurd (cc);
+  until = tt;
+  reads = λ fine free. free;
+}
+has_moved below {x} {y} {r} h s (converses {result = result} {next = next} {v = v} free c) =
+    let k = has_conversed below x.side x.state h (nothing_said x.side x.closing free).0 (fills_of x h free s) c in
+    record {
+      story = k.story;
+      says = says_by x h k.story next v free s k.fills;
+      goes = k.goes;
+      calm = on_ok _ _ result (λ p z. (p.1, p.2)) k.calm;
+      until = if_err (λ e. Until x.state h e v) (λ e. Refusal x h e) result (λ e p. record {
+        last = record x { side = p.last; state = v };
+        story = p.story;
+        says = says_by x h p.story p.last v free s p.fills;
+        goes = p.goes;
+        still = reads_by x.side p.last x.closing free p.still;
+        held = p.held;
+        fits = conversed_fits c;
+      }) k.until;
+      reads = λ fine z. still_reads x h next v result free k fine;
+    }
+
+moves_closing : {x y : Scene} {r : Result (Unit {0}) FeedRefusal} → Moves x r y → y.closing ≡ x.closing
+moves_closing (drains_only drain) = refl
+moves_closing (converses free c) = refl
+
+-- ---- what comes of it
+
+-- what is done then
+pub data How : Result (Unit {0}) FeedRefusal → Scene → Scene → Type 0 where
+  good : (u : Unit {0}) (mid : Scene) → How (Ok u) mid (closed_up mid)
+  short : (mid : Scene) → How (Err NoMemory) mid mid
+  bad : (e : FeedRefusal) (mid : Scene) → e ≢ NoMemory → How (Err e) mid (closed_up (deafened mid))
+
+pub how : (r : Result (Unit {0}) FeedRefusal) (mid : Scene) → How r mid (settled_by r mid)
+how (Ok u) mid = good u mid
+how (Err NoMemory) mid = short mid
+how (Err Stopped) mid = bad Stopped mid (λ z. cc)
+how (Err Busy) mid = bad Busy mid (λ z. cc)
+how (Err TooLong) mid = bad TooLong mid (λ z. cc)
+how (Err Attention) mid = bad Attention mid (λ z. cc)
+how (Err (Fault f)) mid = bad (Fault f) mid (λ z. cc)
+
+pub record HasSettled (x : Scene) (r : Result (Unit {0}) FeedRefusal) (to : Scene) (h : Story) : Type 0 where
+  pub story : Story
+  pub says : Says to story
+  pub goes : GoesOn (at_end x.state h) (at_end to.state story)
+  pub calm : r ≢ Err NoMemory → drains to.side to.closing ≡ false → IsMoved to.side to.state × IsListed to.side
+  pub until : IfErr r (λ e. Refusal x h e)
+  pub reads : IsUnrefused r → drains x.side x.closing ≡ false → closing_items to.closing ≡ [] → drains to.side to.closing ≡ false
+
+pub goes_follow : {y z : Scene} (s : State) (h m : Story) → Follows y z → GoesOn (at_end s h) (at_end y.state m)
+    → GoesOn (at_end s h) (at_end z.state m)
+goes_follow {y} {z} s h m f g =
+    goes_on (at_end s h) (at_end y.state m) (at_end z.state m) g (same_messages (at_end y.state m) (at_end z.state m) f.runs refl refl refl refl refl)
+
+-- what was read is read on, where nothing was put out
+reads_closed : (side : Side) (c d : Closing) → drains side c ≡ false → d.deaf ≡ c.deaf → closing_items d ≡ [] → drains side d ≡ false
+reads_closed side c d free deaf none =
+    let k = unsaid d.end_sent d.reply_sent none in
+    let is = parts (is_stopped side) c.end_sent c.reply_sent c.deaf free in
+    ap (λ (b : Bool). b || (d.end_sent || (d.reply_sent || d.deaf))) is.0 ∙ ap (λ (b : Bool). b || (d.reply_sent || d.deaf)) k.0
+    ∙ ap (λ (b : Bool). b || d.deaf) k.1 ∙ deaf ∙ is.1 where
+      parts : (a b c d : Bool) → (a || (b || (c || d))) ≡ false → (a ≡ false) × (d ≡ false)
+      parts true b c d z = absurd (cc)
+      parts false true c d z = absurd (cc)
+      parts false false true d z = absurd (cc)
+      parts false false false d z = (refl, z)
+
+-- one that reads no more does so for good
+never : (mid to : Scene) → Follows (deafened mid) to → drains to.side to.closing ≡ false → ⊥
+never mid to f free =
+    deafens (is_stopped mid.side) mid.closing.end_sent mid.closing.reply_sent (subst (λ (y : Scene). drains y.side y.closing ≡ false) (f.still free) free)
+
+pub has_settled : Below → ItemsAreAcceptedOrChangeNothing → {x mid to : Scene} {r : Result (Unit {0}) FeedRefusal} (h : Story) → Says x h
+    → Moves x r mid → How r mid to → HasSettled x r to h
+has_settled below law {x} h s moves (good u mid) =
+    let k = has_moved below h s moves in
+    let p = closes_up below.next law mid in
+    let f = p.closes.follows in
+    record {
+      story = k.story;
+      says = f.says k.story k.says;
+      goes = goes_follow x.state h k.story f k.goes;
+      calm = λ some free.
+          let same = f.still free in
+          subst (λ (y : Scene). IsMoved y.side y.state × IsListed y.side) (sym same)
+          (k.calm (subst (λ (y : Scene). drains y.side y.closing ≡ false) same free));
+      until = tt;
+      reads = λ fine free none.
+          let to : Scene = closed_up mid in
+          ap (λ (y : Side). drains y to.closing) f.side ∙ reads_closed mid.side mid.closing to.closing (k.reads fine free) p.closes.deaf none;
+    }
+has_settled below law {x} h s moves (short mid) =
+    let k = has_moved below h s moves in
+    record { story = k.story; says = k.says; goes = k.goes; calm = λ some. absurd (some refl); until = k.until; reads = λ fine free none. k.reads fine free }
+has_settled below law {x} h s moves (bad e mid other) =
+    let k = has_moved below h s moves in
+    let p = closes_up below.next law (deafened mid) in
+    let f = follows_then (deaf_follows mid) p.closes.follows in
+    record {
+      story = k.story;
+      says = f.says k.story k.says;
+      goes = goes_follow x.state h k.story f k.goes;
+      calm = λ some free. absurd (never mid (closed_up (deafened mid)) p.closes.follows free);
+      until = k.until;
+      reads = λ fine free none. absurd (other (let is = fine (λ z. cc) in cc));
+    }
+
+-- ---- what needs no story
+
+pub record IsSettled (x : Scene) (r : Result (Unit {0}) FeedRefusal) (to : Scene) : Type 0 where
+  pub said : r ≢ Err NoMemory → IsSaid to
+  pub wanted : to.closing.wanted ≡ x.closing.wanted
+  pub still : drains to.side to.closing ≡ false → drains x.side x.closing ≡ false
+
+moves_still : {x y : Scene} {r : Result (Unit {0}) FeedRefusal} → Moves x r y → drains y.side y.closing ≡ false → drains x.side x.closing ≡ false
+moves_still (drains_only drain) free = free
+moves_still (converses free c) z = free
+
+pub is_settled : Below → ItemsAreAcceptedOrChangeNothing → {x mid to : Scene} {r : Result (Unit {0}) FeedRefusal} → Moves x r mid → How r mid to
+    → IsSettled x r to
+is_settled below law moves (good u mid) =
+    let p = closes_up below.next law mid in
+    record {
+      said = λ some. p.said;
+      wanted = p.closes.follows.wanted ∙ ap (λ (c : Closing). c.wanted) (moves_closing moves);
+      still = λ free. moves_still moves (subst (λ (y : Scene). drains y.side y.closing ≡ false) (p.closes.follows.still free) free);
+    }
+is_settled below law moves (short mid) = record {
+  said = λ some. absurd (some refl);
+  wanted = ap (λ (c : Closing). c.wanted) (moves_closing moves);
+  still = moves_still moves;
+}
+is_settled below law moves (bad e mid other) =
+    let p = closes_up below.next law (deafened mid) in
+    record {
+      said = λ some. p.said;
+      wanted = p.closes.follows.wanted ∙ ap (λ (c : Closing). c.wanted) (moves_closing moves);
+      still = λ free. absurd (never mid (closed_up (deafened mid)) p.closes.follows free);
+    }
+
+-- ---- one that reads no more does so for good
+
+moves_drained : {x y : Scene} {r : Result (Unit {0}) FeedRefusal} → Moves x r y → drains x.side x.closing ≡ true → drains y.side y.closing ≡ true
+moves_drained (drains_only drain) d = d
+moves_drained (converses free c) d = absurd (cc)
+
+how_drained : {r : Result (Unit {0}) FeedRefusal} {mid to : Scene} → How r mid to → drains mid.side mid.closing ≡ true → drains to.side to.closing ≡ true
+how_drained (good u mid) d = closed_drained mid d
+how_drained (short mid) d = d
+how_drained (bad e mid other) d = closed_drained (deafened mid) (deaf_drained mid)
+
+-- so does a conversation
+pub still_drained : (t : Conversation) (x to : Scene) (r : Result (Unit {0}) FeedRefusal) → IsAt t to → Settles x r to → drains x.side x.closing ≡ true
+    → drains t.side t.closing ≡ true
+still_drained t x to r at k d =
+    ap (λ (c : Closing). drains t.side c) at.closing ∙ ap (λ (y : Side). drains y to.closing) at.side
+    ∙ how_drained (subst (λ (y : Scene). How r k.mid y) (sym k.is) (how r k.mid)) (moves_drained k.moves d)

@@ -1,0 +1,23 @@
+use Rattle.std.proofs.Common.{◌∙◌, ap, refl}
+use Rattle.xns_connection.specs.Closing.{drains}
+use Rattle.xns_connection.specs.Deeds.{asked}
+use Rattle.xns_connection.specs.Moving.{scene}
+use Rattle.xns_connection.specs.declared.conversation.Conversation.{Conversation}
+use Rattle.xns_connection.proofs.Steps.{same_history, step_by}
+use Rattle.xns_connection.proofs.connection.Connection.close.Goals as goal
+
+pub settled-requires-clause-deaf : goal.settled-requires-clause-deaf
+settled-requires-clause-deaf c = λ some. ap (λ (t : Conversation). drains t.side t.closing) c.close.ensures.rest ∙ c.args.self.now.deaf some
+
+pub settled-requires-clause-stands : goal.settled-requires-clause-stands
+settled-requires-clause-stands c = same_history _ _ (ap (λ (t : Conversation). t.endpoint) c.close.ensures.rest) c.args.self.now.stands
+
+pub invariant_of-self-clause-stands : goal.invariant_of-self-clause-stands
+invariant_of-self-clause-stands c = c.settled.ensures.stands
+
+pub returns : goal.returns
+returns c = record {
+  step = step_by c.args.now asked c.args.self.now _ c.close.new.self (ap (λ (t : Conversation). t.endpoint) c.close.ensures.rest)
+      (λ s. ap (λ (t : Conversation). scene t s) c.close.ensures.rest) (λ s. refl) (λ s. refl) c.settled.ensures.moved tt (λ k. k)
+      (ap (λ (t : Conversation). t.packets) c.close.ensures.rest) refl;
+}

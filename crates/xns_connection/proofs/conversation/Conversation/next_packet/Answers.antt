@@ -1,0 +1,28 @@
+use Rattle.std.proofs.Common.{subst, ℕ, List, Option}
+use Rattle.std.proofs.Common.{sym}
+use Rattle.std.proofs.Common.{◌≡◌, OnErr, Err, Result, rules}
+use Rattle.std.specs.declared.alloc.AllocError.{AllocError}
+use Rattle.xns_spp.specs.State.{State}
+use Rattle.xns_connection.specs.Giving.{Giving, GivesAs, IsGiving, IsShort, at_first, giving, older}
+use Rattle.xns_spp.specs.Held.{StandsFor}
+use Rattle.xns_connection.proofs.Nexts.{next_at, next_short}
+use Rattle.xns_connection.proofs.conversation.Conversation.next_packet.Goals as goal
+
+pub returns-clause-at : goal.returns-clause-at
+returns-clause-at c =
+    next_at c.newer_packet.result c.args.self.now c.older_packet.new.self c.newer_packet.new.self c.args.owed.now c.older_packet.new.owed c.newer_packet.new.owed
+    (λ s stands. subst (λ (p : Option (List ℕ)). GivesAs (older (giving c.args.self.now c.args.owed.now s)) p c.older_packet.new.self c.older_packet.new.owed) c.in_default.is
+    (c.in_ok-packet.ensures.at s stands)) c.newer_packet.ensures.at
+
+pub returns-clause-short : goal.returns-clause-short
+returns-clause-short c =
+    next_short c.newer_packet.result c.args.self.now c.older_packet.new.self c.newer_packet.new.self c.args.owed.now c.older_packet.new.owed c.newer_packet.new.owed
+    (λ s stands. subst (λ (p : Option (List ℕ)). GivesAs (older (giving c.args.self.now c.args.owed.now s)) p c.older_packet.new.self c.older_packet.new.owed) c.in_default.is
+    (c.in_ok-packet.ensures.at s stands)) c.newer_packet.ensures.short
+
+pub returns-in_err-packet-clause-short : goal.returns-in_err-packet-clause-short
+returns-in_err-packet-clause-short c =
+    let is : c.from_residual.result ≡ Err c.in_err-packet.field-0.0 = search rules in
+    subst (λ (r : Result (Option (List ℕ)) AllocError). OnErr r ((s : State) → StandsFor c.args.self.now.endpoint s
+    → (y : Giving) × IsShort (giving c.args.self.now c.args.owed.now s) y × IsGiving c.older_packet.new.self c.older_packet.new.owed y)) (sym is)
+    (λ s stands. (giving c.args.self.now c.args.owed.now s, at_first, c.in_err-packet.ensures.stays s stands))

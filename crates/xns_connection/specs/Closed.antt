@@ -1,0 +1,30 @@
+-- Why a connection is closed, or is not, after its items moved.
+use Rattle.std.specs.Prelude.{◌≡◌, ◌≢◌, Bool, true, ◌++◌, length, take, Option, None, Result, Err, IfErr}
+use Rattle.courier_sessions.specs.declared.feed_refusal.FeedRefusal.{FeedRefusal}
+use Rattle.courier_sessions.specs.declared.feed_refusal.FeedRefusal.TheVariants.{NoMemory}
+use Rattle.xns_spp.specs.Growth.{Begins}
+use Rattle.xns_spp.specs.Held.{StandsFor}
+use Rattle.xns_spp.specs.State.{State}
+use Rattle.xns_connection.specs.Closing.{end_stream, put_if}
+use Rattle.xns_connection.specs.Connecting.{why_after, why_given_up}
+use Rattle.xns_connection.specs.Story.{Story}
+use Rattle.xns_connection.specs.Telling.{GoesUntil, IsUnrefused, ReadsOn, Tells, is_over}
+use Rattle.xns_connection.specs.declared.conversation.Conversation.{Conversation}
+use Rattle.xns_connection.specs.declared.why.Why.{Why}
+use Rattle.xns_connection.specs.declared.why.Why.TheVariants.{Silent}
+
+-- after something was done its items moved, and this came of it: what its side refused, if it did, and else whether the closing exchange is
+-- over, says why it is closed, if it was not closed before. That memory was refused is noted, and nothing else is
+pub record ClosesBy (old : Conversation) (base : Story → Story) (new : Conversation) (moving : Bool) (was closed : Option Why) : Type 0 where
+  pub moved : Result (Unit {0}) FeedRefusal
+  pub refused : IfErr moved (λ e. GoesUntil old base e)
+  pub reads : IsUnrefused moved → closed ≡ was → ReadsOn old new
+  pub why : was ≡ None → (s : State) → StandsFor new.endpoint s → closed ≡ why_after new.closing (is_over new.closing s) moved
+  pub short : moving ≡ true → moved ≡ Err NoMemory
+  pub noted : moved ≡ Err NoMemory → moving ≡ true
+
+-- where a connection whose peer is silent counts as closed by the exchange, the peer has acknowledged all that the side said, and End, if it
+-- was put out
+abbrev pub ASilentCloseLosesNothing : Type 0
+ASilentCloseLosesNothing = (t : Conversation) (h : Story) → Tells t h → why_given_up t.closing (length t.endpoint.unacknowledged) ≢ Silent
+    → Begins (h.given ++ put_if t.closing.end_sent end_stream) (take h.state.acknowledged h.state.accepted)

@@ -1,0 +1,14 @@
+pub mod Acting
+pub mod Agreeing
+pub mod Closed
+pub mod Closing
+pub mod Connecting
+pub mod Deeds
+pub mod Giving
+pub mod Living
+pub mod Moving
+pub mod Reasons
+pub mod Refusing
+pub mod Step
+pub mod Story
+pub mod Telling

@@ -1,0 +1,62 @@
+-- Why a connection makes no call, and gives no answer.
+use Rattle.std.specs.Prelude.{◌≡◌, ℕ, List, Option, Some, None, Result, Ok, Err}
+use Rattle.courier_messages.specs.RawCalls.{RawCall}
+use Rattle.courier_sessions.specs.Answering as answering
+use Rattle.courier_sessions.specs.Talk as talk
+use Rattle.courier_sessions.specs.declared.answer.Answer.{Answer}
+use Rattle.courier_sessions.specs.declared.answer_refusal.AnswerRefusal.{AnswerRefusal}
+use Rattle.courier_sessions.specs.declared.answer_refusal.AnswerRefusal.TheVariants as unanswered
+use Rattle.courier_sessions.specs.declared.call_refusal.CallRefusal.{CallRefusal}
+use Rattle.courier_sessions.specs.declared.call_refusal.CallRefusal.TheVariants as uncalled
+use Rattle.xns_connection.specs.declared.refusal.Refusal.{Refusal}
+use Rattle.xns_connection.specs.declared.refusal.Refusal.TheVariants.{Busy, PeerCalls, NoCall, Closing, TooLong, NoMemory}
+use Rattle.xns_connection.specs.declared.side.Side.{Side}
+use Rattle.xns_connection.specs.declared.side.Side.TheVariants as sides
+
+-- what is told of a call
+abbrev pub call_result : Result (Unit {0}) CallRefusal → Result (Unit {0}) Refusal
+call_result (Ok u) = Ok u
+call_result (Err uncalled.Stopped) = Err Closing
+call_result (Err uncalled.Busy) = Err Busy
+call_result (Err uncalled.TooLong) = Err TooLong
+call_result (Err uncalled.NoMemory) = Err NoMemory
+
+abbrev pub call_fault : Option CallRefusal → Option Refusal
+call_fault None = None
+call_fault (Some uncalled.Stopped) = Some Closing
+call_fault (Some uncalled.Busy) = Some Busy
+call_fault (Some uncalled.TooLong) = Some TooLong
+call_fault (Some uncalled.NoMemory) = Some NoMemory
+
+-- why a side makes no call
+abbrev pub side_call_fault : Side → RawCall → Option Refusal
+side_call_fault (sides.Calls t) c = call_fault (talk.call_refusal t c)
+side_call_fault (sides.Answers a) c = Some PeerCalls
+
+-- what is told of an answer
+abbrev pub answer_result : Result (Unit {0}) AnswerRefusal → Result (Unit {0}) Refusal
+answer_result (Ok u) = Ok u
+answer_result (Err unanswered.NoCall) = Err NoCall
+answer_result (Err unanswered.TooLong) = Err TooLong
+answer_result (Err unanswered.NoMemory) = Err NoMemory
+
+abbrev pub answer_fault : Option AnswerRefusal → Option Refusal
+answer_fault None = None
+answer_fault (Some unanswered.NoCall) = Some NoCall
+answer_fault (Some unanswered.TooLong) = Some TooLong
+answer_fault (Some unanswered.NoMemory) = Some NoMemory
+
+-- why a side gives no answer
+abbrev pub side_answer_fault : Side → Answer → List ℕ → Option Refusal
+side_answer_fault (sides.Calls t) answer words = Some NoCall
+side_answer_fault (sides.Answers a) answer words = answer_fault (answering.answer_refusal a.asked answer words)
+
+-- what is answered where this is the reason against it: memory is refused only where there is none
+abbrev pub Answers : Option Refusal → Result (Unit {0}) Refusal → Type 0
+Answers fault (Ok u) = fault ≡ None
+Answers fault (Err NoMemory) = fault ≡ None
+Answers fault (Err Busy) = fault ≡ Some Busy
+Answers fault (Err PeerCalls) = fault ≡ Some PeerCalls
+Answers fault (Err NoCall) = fault ≡ Some NoCall
+Answers fault (Err Closing) = fault ≡ Some Closing
+Answers fault (Err TooLong) = fault ≡ Some TooLong

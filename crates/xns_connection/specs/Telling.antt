@@ -1,0 +1,126 @@
+-- What a connection has done, with the closing exchange (XSIS 028112, Sequenced Packet Protocol, Termination).
+use Rattle.std.specs.Prelude.{◌≡◌, ◌≢◌, ◌<◌, ℕ, List, [], ◌++◌, Bool, true, false, not, ◌&&◌, ◌||◌, ◌==◌, nat_lt, if◌then◌else◌, length, take, drop, Option, None, Result, Ok, Err, is_ok}
+use Rattle.std.specs.Option.{option_to_list}
+use Rattle.courier_sessions.specs.Answering.{has_items}
+use Rattle.xns_spp.specs.Ends.{is_open}
+use Rattle.xns_spp.specs.Growth.{Begins}
+use Rattle.xns_spp.specs.Held.{Held, StandsFor}
+use Rattle.xns_spp.specs.Receiving.{after_receive}
+use Rattle.xns_spp.specs.Sending.{flush_answer, send_answer, waiting_count}
+use Rattle.xns_spp.specs.State.{State}
+use Rattle.xns_spp.specs.Telling.{told_answer, unacknowledged_count}
+use Rattle.courier_sessions.specs.declared.feed_refusal.FeedRefusal.{FeedRefusal}
+use Rattle.courier_sessions.specs.declared.feed_refusal.FeedRefusal.TheVariants.{NoMemory}
+use Rattle.xns_spp.specs.declared.item.Item.{Item}
+use Rattle.xns_connection.specs.Closing.{closing_item, closing_items, drains, end_reply_stream, end_stream, Knows}
+use Rattle.xns_connection.specs.Story.{Story, SideHas, GoesOn, made_on, out_of, has_call, IsMoved, IsListed, IsHeld}
+use Rattle.xns_connection.specs.declared.closing.Closing.{Closing}
+use Rattle.xns_connection.specs.declared.conversation.Conversation.{Conversation}
+use Rattle.xns_connection.specs.declared.owed.Owed.{Owed}
+
+-- End is to be put out: behind all that is out, and after the answer to a call that waits
+abbrev pub owes_end : Conversation → Bool
+owes_end t = t.closing.wanted && (not (drains t.side t.closing) && (not (has_call t.side) && not (has_items (out_of t.side))))
+
+-- it is put out, unless there is no room for it
+abbrev pub HasSaidEnd : Conversation → Type 0
+HasSaidEnd t = owes_end t ≡ true → (s : State) → StandsFor t.endpoint s → is_ok (send_answer s (closing_item end_stream)) ≡ false
+
+-- EndReply is to be put out
+abbrev pub owes_reply : Conversation → Bool
+owes_reply t = t.closing.reply_wanted && (not t.closing.reply_sent && (drains t.side t.closing && not (has_items (out_of t.side))))
+
+-- it is put out, unless there is no room for it
+abbrev pub HasSaidReply : Conversation → Type 0
+HasSaidReply t = owes_reply t ≡ true → (s : State) → StandsFor t.endpoint s → is_ok (send_answer s (closing_item end_reply_stream)) ≡ false
+
+-- something waits for the peer
+abbrev pub waits : State → Bool
+waits s = not (is_open s.ends) || nat_lt 0 (unacknowledged_count s)
+
+-- the closing exchange is over, and its last item has arrived
+abbrev pub is_over : Closing → State → Bool
+is_over c s = c.reply_sent && (c.reply_heard && (unacknowledged_count s == 0))
+
+-- the items that were handed up and not fed to the side
+abbrev pub drained : Story → List Item
+drained h = drop (length h.fed) (take h.state.handed h.state.taken)
+
+pub record Tells (conversation : Conversation) (h : Story) : Type 0 where
+  pub stands : StandsFor conversation.endpoint h.state
+  pub has : SideHas h conversation.side
+  -- the side was fed what was handed up, all of it until it drains
+  pub fed : Begins h.fed (take h.state.handed h.state.taken)
+  pub all : drains conversation.side conversation.closing ≡ false → h.fed ≡ take h.state.handed h.state.taken
+  pub given : h.given ++ closing_items conversation.closing ≡ h.state.accepted
+  -- the others say what is known of the peer's closing
+  pub knows : Knows conversation.closing (drained h)
+
+-- whatever it had done goes on so: the program makes no call and is handed nothing; once it drains it does so for good, and once it was
+-- asked to close it stays asked
+pub record Goes (old new : Conversation) : Type 0 where
+  pub still : drains new.side new.closing ≡ false → drains old.side old.closing ≡ false
+  pub wanted : old.closing.wanted ≡ true → new.closing.wanted ≡ true
+  pub on : (h : Story) → Tells old h → (m : Story) × Tells new m × GoesOn h m
+
+-- the same, and it gives this packet, or none: the first of those that waited and of those that were made on the way, behind; the others
+-- wait, in order
+pub record Gives (old new : Conversation) (packet : Option (List ℕ)) : Type 0 where
+  pub on : (h : Story) → Tells old h
+      → (m : Story) × Tells new m × (on : GoesOn h m) × (option_to_list packet ++ new.packets.items ≡ old.packets.items ++ made_on on.path)
+
+-- the same, after what can move has moved, and nothing was added to the packets that wait
+abbrev pub MovesAndGives : (old new : Conversation) → Option (List ℕ) → Type 0
+MovesAndGives old new packet = (mid : Conversation) × Goes old mid × (mid.packets ≡ old.packets) × Gives mid new packet
+
+-- the same, and no item is left that may go out for the first time
+pub record Rested (old new : Conversation) : Type 0 where
+  pub on : (h : Story) → Tells old h → (m : Story) × Tells new m × GoesOn h m × (flush_answer m.state ≡ [])
+
+-- the same, from where it is after these bytes came
+pub record Hears (old new : Conversation) (bytes : List ℕ) : Type 0 where
+  pub wanted : old.closing.wanted ≡ true → new.closing.wanted ≡ true
+  pub on : (h : Story) → Tells old h → (m : Story) × Tells new m × GoesOn (record h { state = after_receive h.state bytes }) m
+
+-- no item waits at the end to be read
+abbrev pub NoneWaits : Held → Type 0
+NoneWaits endpoint = (s : State) → StandsFor endpoint s → waiting_count s ≡ 0
+
+-- where only closing items are read, none waits
+abbrev pub ReadsAll : (old new : Conversation) → Type 0
+ReadsAll old new = (h : Story) → Tells old h → drains new.side new.closing ≡ true → NoneWaits new.endpoint
+
+-- the packet without an item that is owed
+abbrev pub word_answer : Owed → State → Option (List ℕ)
+word_answer o s = if o.asks || o.word then told_answer s o.asks else None
+
+-- where fewer items wait at the end than before, there is more room, and the peer is owed a word
+abbrev pub OwesRoom : (old new : Held) → (word : Bool) → Type 0
+OwesRoom old new word = (s v : State) → StandsFor old s → StandsFor new v → waiting_count v < waiting_count s → word ≡ true
+
+-- a packet of the peer has more acknowledged, or opens the connection
+abbrev pub is_progress : State → State → Bool
+is_progress s v = nat_lt (unacknowledged_count v) (unacknowledged_count s) || (is_open v.ends && not (is_open s.ends))
+
+-- the same, up to where no item can move between the side and its end, and no call is to be rejected
+pub record Calm (old new : Conversation) : Type 0 where
+  pub on : (h : Story) → Tells old h → (m : Story) × Tells new m × GoesOn h m × IsMoved new.side m.state × IsListed new.side
+
+-- the same, from where it is after something else was done
+pub record CalmFrom (old new : Conversation) (base : Story → Story) : Type 0 where
+  pub on : (h : Story) → Tells old h → (m : Story) × Tells new m × GoesOn (base h) m × IsMoved new.side m.state × IsListed new.side
+
+-- whatever it had done went on from where it is after something else was done, up to where no more was moved for this reason; till then
+-- what came was read
+pub record GoesUntil (old : Conversation) (base : Story → Story) (e : FeedRefusal) : Type 0 where
+  pub on : (h : Story) → Tells old h → (last : Conversation) × (m : Story) × Tells last m × GoesOn (base h) m
+      × (drains last.side last.closing ≡ false) × IsHeld last.side m.state e
+
+-- the side refused no item
+abbrev pub IsUnrefused : Result (Unit {0}) FeedRefusal → Type 0
+IsUnrefused moved = moved ≢ Ok tt → moved ≡ Err NoMemory
+
+-- where the end puts nothing out of the closing exchange, what was read is read on
+abbrev pub ReadsOn : (old new : Conversation) → Type 0
+ReadsOn old new = (h : Story) → Tells old h → drains old.side old.closing ≡ false → closing_items new.closing ≡ []
+    → drains new.side new.closing ≡ false

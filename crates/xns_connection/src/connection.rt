@@ -1,0 +1,354 @@
+//! A conversation with its waits.
+
+ghost use Rattle.std.specs.Prelude.{◌≡◌, ◌≢◌, ◌<◌, ◌&&◌, ◌||◌, [], ℕ, List, not, if◌then◌else◌, true};
+ghost use Rattle.std.specs.Prelude.{OnOk, OnErr, Some, None, Ok};
+ghost use Rattle.std.specs.Option.{is_some};
+ghost use Rattle.courier_messages.specs.RawCalls.{words_call};
+ghost use Rattle.xns_spp.specs.Ends.{is_open, is_ours_at};
+ghost use Rattle.xns_spp.specs.Held.{StandsFor};
+ghost use Rattle.xns_spp.specs.Packet.{IsSppPacket, spp_packet_of};
+ghost use Rattle.xns_spp.specs.Receiving.{StoresBytes};
+ghost use Rattle.xns_spp.specs.Sending.{tick_answer};
+ghost use Rattle.xns_spp.specs.State.{State};
+ghost use Rattle.xns_spp.specs.Telling.{own_name, peer_name};
+ghost use Rattle.xns_connection.specs.Closing.{drains};
+ghost use Rattle.xns_connection.specs.Connecting.{is_again, is_dead, is_open_due, is_closed_due, why_given_up, owed_after};
+ghost use Rattle.xns_connection.specs.Moving.{HasHistory};
+ghost use Rattle.xns_connection.specs.Reasons.{call_fault_of, answer_fault_of};
+ghost use Rattle.xns_connection.specs.Refusing.{Answers};
+ghost use Rattle.xns_connection.specs.Deeds.{acted, asked, gave, heard, made, nothing, unserved};
+ghost use Rattle.xns_connection.specs.Story.{waiting_message, has_message};
+ghost use Rattle.xns_connection.specs.Telling.{Goes};
+ghost use Rattle.xns_agenda.specs.Waiting.{IsDueAfter, StepsAt, act_at, last_time};
+ghost use Rattle.xns_agenda.specs.declared.act.Act.TheVariants.{GiveUp};
+ghost use Rattle.xns_connection.specs.declared.why.Why.TheVariants.{NotServed};
+
+mod making;
+
+use crate::conversation::Conversation;
+use crate::owed::Owed;
+use crate::refusal::Refusal;
+use crate::settling::{is_progress, note, owed_after, settled, wait_unless};
+use crate::why::Why;
+use crate::why_closed::{is_dead, why_given_up};
+use courier_messages::PiecedMessage;
+use courier_sessions::Answer;
+use std::alloc::{AllocError, Global};
+use xns_agenda::{Act, Due, Wait};
+use xns_idp::Address;
+use xns_spp::{Bytes, SppPacket};
+
+/// A connection: what it says, when it says it again, and why it is closed.
+#[derive(Drop)]
+pub struct Connection {
+    conversation: Conversation,
+    wait: Wait,
+    owed: Owed,
+    closed: Option<Why>,
+    /// Whether the program was told that it is closed.
+    told: bool,
+    // What waits for the peer goes out again at a time that is set.
+    ghost timed: { closed ≡ None → (s : State) → StandsFor conversation.endpoint s → tick_answer s ≢ [] → is_again wait.due ≡ true },
+    ghost open_due: { closed ≡ None → is_open_due wait.due ≡ true },
+    ghost closed_due: { closed ≢ None → is_closed_due wait.due ≡ true },
+    ghost deaf: { closed ≢ None → drains conversation.side conversation.closing ≡ true },
+    ghost stands: { HasHistory conversation.endpoint },
+}
+
+impl Connection {
+    ghost use Rattle.xns_connection.specs.Step.{GivesNext, Hands, MovesOwed, Step, parts_of};
+
+    /// Moves what can move.
+    fn go_on(&mut self, alloc: Global, now: u64)
+        ensures step { Step now nothing self.old self.new }
+    {
+        settled(
+            &mut self.conversation,
+            alloc,
+            &mut self.owed,
+            &mut self.closed,
+            &mut self.wait,
+            now,
+        );
+    }
+
+    /// Takes in a packet that was read from bytes, at this time. Where memory is refused it is as if the packet were lost.
+    pub fn receive(&mut self, alloc: Global, now: u64, packet: &SppPacket) -> Result<(), AllocError>
+        requires { IsSppPacket packet.now }
+        ensures unchanged { OnErr result (self.new ≡ self.old) }
+        ensures memory { OnErr result ((s : State) (b : List ℕ) → StandsFor self.old.conversation.endpoint s
+            → spp_packet_of b ≡ Ok packet.now → StoresBytes s b) }
+        ensures step { OnOk result ((b : List ℕ) → spp_packet_of b ≡ Ok packet.now → Step now (heard b) self.old self.new) }
+    {
+        xns_spp::laws::written_packet_is_read_again();
+        let before = self.conversation.endpoint.unacknowledged();
+        let was_open = self.conversation.endpoint.is_open();
+        let input = self.conversation.receive(alloc, packet)?;
+        let more = is_progress(&self.conversation, before, was_open);
+        let left = self.conversation.endpoint.unacknowledged() > 0;
+        note(input, more, left, &mut self.owed, &mut self.wait, now);
+        settled(
+            &mut self.conversation,
+            alloc,
+            &mut self.owed,
+            &mut self.closed,
+            &mut self.wait,
+            now,
+        );
+        Ok(())
+    }
+
+    /// Moves what memory was refused for.
+    #[tactic(auto, using(crate::proofs::Moments::no_step))]
+    fn move_owed(&mut self, alloc: Global, now: u64)
+        ensures moved { MovesOwed self.old.owed.moving now self.old self.new }
+    {
+        if !self.owed.moving {
+            return;
+        }
+        self.go_on(alloc, now);
+    }
+
+    /// Does what is due at this time, and says what that is. After `GiveUp` the connection is closed; after `Forget` it may go, once the
+    /// program was told that it is closed. A [dead](Connection::is_dead) one may go as soon as the program was told.
+    pub fn act(&mut self, now: u64) -> Act
+        ensures act { result ≡ act_at self.old.wait now }
+        ensures later { now < last_time → IsDueAfter now self.new.wait.due }
+        ensures goes { Goes self.old.conversation self.new.conversation }
+        ensures packets { self.new.conversation.packets ≡ self.old.conversation.packets }
+        ensures step { parts_of self.new ≡ acted (parts_of self.old) now }
+    {
+        let act = self.wait.act(now);
+        self.owed = owed_after(self.owed, act);
+        if let Act::GiveUp = act {
+            let left = self.conversation.endpoint.unacknowledged();
+            self.closed = Some(why_given_up(self.conversation.closing, left));
+            self.conversation.give_up();
+            return act;
+        }
+        act
+    }
+
+    /// Nobody hears the packet that was to open the connection: it is closed, unless it is open or closed.
+    #[tactic(auto, using(crate::proofs::Moments::no_step, crate::proofs::Moments::one_close))]
+    pub fn not_served(&mut self, now: u64)
+        ensures goes { Goes self.old.conversation self.new.conversation }
+        ensures owed { self.new.owed ≡ self.old.owed }
+        ensures closed { self.old.closed ≢ None → self.new ≡ self.old }
+        ensures steps { StepsAt now self.old.wait self.new.wait }
+        ensures told { self.new.told ≡ self.old.told }
+        ensures step { (s : State) → StandsFor self.old.conversation.endpoint s → parts_of self.new ≡ unserved (parts_of self.old) s now }
+    {
+        if self.conversation.endpoint.is_open() {
+            return;
+        }
+        if self.closed.is_some() {
+            return;
+        }
+        self.closed = Some(Why::NotServed);
+        self.conversation.give_up();
+        self.wait.linger(now);
+    }
+
+    /// The next packet that is to go out. `None` where there is none, until something is done again; always, where the connection is
+    /// [dead](Connection::is_dead). The only error is want of memory: what is to go out stays so.
+    pub fn next_packet(&mut self, alloc: Global, now: u64) -> Result<Option<Bytes>, AllocError>
+        ensures step { GivesNext now result self.old self.new }
+    {
+        self.move_owed(alloc, now);
+        if self.is_dead() {
+            self.owed = Owed::SILENT;
+            return Ok(None);
+        }
+        let packet = self.conversation.next_packet(alloc, &mut self.owed);
+        wait_unless(&self.conversation, self.closed, &mut self.wait, now);
+        packet
+    }
+
+    /// Puts out a call. It is refused, and nothing is changed, as `Closing` where the connection closes or is closed; `PeerCalls`; `Busy`
+    /// where a call waits for its answer, or the answer was not fetched; `TooLong` over 65,530 words; `NoMemory`.
+    #[tactic(auto, using(crate::proofs::Moments::no_step))]
+    pub fn call(
+        &mut self,
+        alloc: Global,
+        now: u64,
+        program: u32,
+        version: u16,
+        procedure: u16,
+        words: &[u16],
+    ) -> Result<(), Refusal>
+        ensures refused { Answers (call_fault_of self.old.conversation (words_call program version procedure words.now)) result }
+        ensures step { OnOk result (Step now (made (words_call program version procedure words.now)) self.old self.new) }
+        ensures unchanged { OnErr result (self.new ≡ self.old) }
+    {
+        self.conversation
+            .call(alloc, program, version, procedure, words)?;
+        settled(
+            &mut self.conversation,
+            alloc,
+            &mut self.owed,
+            &mut self.closed,
+            &mut self.wait,
+            now,
+        );
+        Ok(())
+    }
+
+    /// Answers the call that was handed. It is refused, and nothing is changed, as `Closing` where the connection closes or is closed;
+    /// `NoCall` where none was handed that is not answered; `TooLong` over 131,072 bytes; `NoMemory`.
+    #[tactic(auto, using(crate::proofs::Moments::no_step))]
+    pub fn answer(
+        &mut self,
+        alloc: Global,
+        now: u64,
+        kind: Answer,
+        words: &[u16],
+    ) -> Result<(), Refusal>
+        ensures refused { Answers (answer_fault_of self.old.conversation kind words.now) result }
+        ensures step { OnOk result (Step now (gave kind words.now) self.old self.new) }
+        ensures unchanged { OnErr result (self.new ≡ self.old) }
+    {
+        self.conversation.answer(alloc, kind, words)?;
+        settled(
+            &mut self.conversation,
+            alloc,
+            &mut self.owed,
+            &mut self.closed,
+            &mut self.wait,
+            now,
+        );
+        Ok(())
+    }
+
+    /// Closes once all that it has to say is said.
+    pub fn close(&mut self, alloc: Global, now: u64)
+        ensures step { Step now asked self.old self.new }
+    {
+        self.conversation.close();
+        settled(
+            &mut self.conversation,
+            alloc,
+            &mut self.owed,
+            &mut self.closed,
+            &mut self.wait,
+            now,
+        );
+    }
+
+    /// The message that waits for the program, once: an answer, or a call. `None` where none waits.
+    #[tactic(auto, using(crate::proofs::Moments::no_step))]
+    pub fn take_message(&mut self, alloc: Global, now: u64) -> Option<PiecedMessage>
+        ensures message { result ≡ waiting_message self.old.conversation.side }
+        ensures step { Hands now self.old self.new }
+    {
+        let message = self.conversation.take_message()?;
+        if !self.owed.moving && self.conversation.is_calm() {
+            return Some(message);
+        }
+        settled(
+            &mut self.conversation,
+            alloc,
+            &mut self.owed,
+            &mut self.closed,
+            &mut self.wait,
+            now,
+        );
+        Some(message)
+    }
+
+    /// Why it is closed, once.
+    pub fn take_why(&mut self) -> Option<Why>
+        ensures why { result ≡ (if self.old.told then None else self.old.closed) }
+        ensures told { self.new.told ≡ self.old.told || is_some self.old.closed }
+        ensures rest { self.new ≡ record self.old { told = self.new.told } }
+    {
+        if self.told {
+            return None;
+        }
+        let why = self.closed?;
+        self.told = true;
+        Some(why)
+    }
+
+    /// Whether there may be something to tell the program.
+    pub fn has_event(&self) -> bool
+        ensures { result ≡ has_message self.now.conversation.side || (is_some self.now.closed && not self.now.told) }
+    {
+        self.conversation.side.has_message() || (self.closed.is_some() && !self.told)
+    }
+
+    /// Whether there may be a packet that is to go out.
+    pub fn has_packet(&self) -> bool
+        ensures { result ≡ self.now.owed.fresh }
+    {
+        self.owed.fresh
+    }
+
+    /// What is due, and when. Where something waits for the peer of a connection that is not closed, it goes out again at that time.
+    pub fn due(&self) -> Due
+        ensures due { result ≡ self.now.wait.due }
+        ensures timed { self.now.closed ≡ None → (s : State) → StandsFor self.now.conversation.endpoint s → tick_answer s ≢ []
+            → is_again result ≡ true }
+        ensures open { self.now.closed ≡ None → is_open_due result ≡ true }
+        ensures closed { self.now.closed ≢ None → is_closed_due result ≡ true }
+    {
+        self.wait.due()
+    }
+
+    /// When the last word of the peer came; at a new connection, when it was made.
+    pub fn heard_at(&self) -> u64
+        ensures { result ≡ self.now.wait.heard_at }
+    {
+        self.wait.heard_at()
+    }
+
+    /// Whether it is closed.
+    pub fn is_closed(&self) -> bool
+        ensures { result ≡ is_some self.now.closed }
+    {
+        self.closed.is_some()
+    }
+
+    /// Whether it is closed by silence, by a refusal or by an Error packet: nothing of it goes out, and it does not linger. One that is
+    /// closed by the closing exchange is not dead.
+    pub fn is_dead(&self) -> bool
+        ensures { result ≡ is_dead self.now.closed }
+    {
+        is_dead(self.closed)
+    }
+
+    /// Whether the program was told that it is closed.
+    pub fn is_told(&self) -> bool
+        ensures { result ≡ self.now.told }
+    {
+        self.told
+    }
+
+    /// Whether its peer has replied.
+    pub fn is_open(&self) -> bool
+        ensures { (s : State) → StandsFor self.now.conversation.endpoint s → result ≡ is_open s.ends }
+    {
+        self.conversation.endpoint.is_open()
+    }
+
+    /// Whether a packet belongs to the connection.
+    pub fn is_ours(&self, packet: &SppPacket) -> bool
+        ensures { (s : State) → StandsFor self.now.conversation.endpoint s → result ≡ is_ours_at s.ends packet.now }
+    {
+        self.conversation.endpoint.is_packet_ours(packet)
+    }
+
+    /// Its own address and connection identifier.
+    pub fn own(&self) -> (Address, u16)
+        ensures { (s : State) → StandsFor self.now.conversation.endpoint s → result ≡ own_name s.ends }
+    {
+        self.conversation.endpoint.own()
+    }
+
+    /// The peer's. `None` before the connection is open.
+    pub fn peer(&self) -> Option<(Address, u16)>
+        ensures { (s : State) → StandsFor self.now.conversation.endpoint s → result ≡ peer_name s.ends }
+    {
+        self.conversation.endpoint.peer()
+    }
+}

@@ -1,0 +1,350 @@
+//! An endpoint, its side, and the closing exchange between both.
+
+ghost use Rattle.std.specs.Prelude.{◌≡◌, ◌≢◌, ◌||◌, ℕ, [], List, true, false, is_ok, IfOk, OnOk, OnErr, Some, None, Ok, Err};
+ghost use Rattle.courier_messages.specs.RawCalls.{words_call};
+ghost use Rattle.courier_sessions.specs.declared.feed_refusal.FeedRefusal.TheVariants.{NoMemory};
+ghost use Rattle.xns_spp.specs.Held.{StandsFor};
+ghost use Rattle.xns_spp.specs.Packet.{IsSppPacket, spp_packet_of};
+ghost use Rattle.xns_spp.specs.Receiving.{input_answer, after_receive, StoresBytes};
+ghost use Rattle.xns_spp.specs.Sending.{send_answer, after_send, tick_answer, waiting_count};
+ghost use Rattle.xns_spp.specs.State.{State};
+ghost use Rattle.xns_connection.specs.Closing.{closing_item, noted, drains};
+ghost use Rattle.xns_connection.specs.Moving.{IsAt, Moves, Scene, Settles, closed_up, drained_out, ended, is_calm, replied, scene, taken_many, taken_one};
+ghost use Rattle.xns_connection.specs.Deeds.{side_answered, side_called, side_taken};
+ghost use Rattle.xns_connection.specs.Refusing.{Answers};
+ghost use Rattle.xns_connection.specs.declared.closing.TheConstants.Closing.{NONE};
+ghost use Rattle.xns_connection.specs.Story.{waiting_message};
+
+mod giving;
+
+use crate::closing::Closing;
+use crate::refusal::Refusal;
+use crate::side::Side;
+use courier_messages::PiecedMessage;
+use courier_sessions::{Answer, FeedRefusal};
+use std::alloc::{AllocError, Global};
+use std::collections::VecDeque;
+use xns_spp::{Bytes, Endpoint, Input, Item, SppPacket};
+
+/// The datastream of the item that asks for an end of the connection.
+const END: u8 = 254;
+
+/// The datastream of the item that answers it.
+const END_REPLY: u8 = 255;
+
+/// The end of a connection and its side.
+#[derive(Drop)]
+pub struct Conversation {
+    pub endpoint: Endpoint,
+    /// Packets that were made and are to go out.
+    pub packets: VecDeque<Bytes>,
+    pub side: Side,
+    pub closing: Closing,
+}
+
+/// An item of the closing exchange.
+fn closing_item(alloc: Global, stream: u8) -> Item
+    ensures { result ≡ closing_item stream }
+{
+    Item {
+        stream,
+        attention: false,
+        last: true,
+        body: Bytes::new(Vec::new(alloc)),
+    }
+}
+
+/// What is known of closing after an item of this datastream. An EndReply that nobody asked for counts as End and EndReply.
+fn noted(closing: Closing, stream: u8) -> Closing
+    ensures { result ≡ noted closing stream }
+{
+    let mut after = closing;
+    if stream == END {
+        after.reply_wanted = true;
+    } else if stream == END_REPLY {
+        after.reply_wanted = true;
+        after.reply_heard = true;
+    }
+    after
+}
+
+impl Conversation {
+    ghost use Rattle.xns_connection.specs.Reasons.{call_fault_of, answer_fault_of};
+    ghost use Rattle.xns_connection.specs.Telling.{is_over, owes_end, owes_reply, waits};
+
+    /// One in which nothing was said.
+    pub fn new(alloc: Global, endpoint: Endpoint, side: Side) -> Conversation
+        ensures endpoint { result.endpoint ≡ endpoint }
+        ensures side { result.side ≡ side }
+        ensures closing { result.closing ≡ NONE }
+        ensures packets { result.packets.items ≡ [] }
+    {
+        Conversation {
+            endpoint,
+            packets: VecDeque::new(alloc),
+            side,
+            closing: Closing::NONE,
+        }
+    }
+
+    /// Whether what comes is looked at for the closing exchange alone.
+    fn drains(&self) -> bool
+        ensures { result ≡ drains self.now.side self.now.closing }
+    {
+        self.side.is_stopped()
+            || self.closing.end_sent
+            || self.closing.reply_sent
+            || self.closing.deaf
+    }
+
+    /// Takes the item that waits first, if one does, and notes what it says of closing.
+    fn take_one(&mut self)
+        requires { drains self.old.side self.old.closing ≡ true }
+        ensures packets { self.new.packets ≡ self.old.packets }
+        ensures drains { drains self.new.side self.new.closing ≡ true }
+        ensures at { (s : State) → StandsFor self.old.endpoint s → IsAt self.new (taken_one (scene self.old s)) }
+    {
+        let Some(item) = self.endpoint.take() else {
+            return;
+        };
+        self.closing = noted(self.closing, item.stream);
+    }
+
+    /// Takes all that waits, and notes what is said of closing.
+    fn drain(&mut self)
+        requires { drains self.old.side self.old.closing ≡ true }
+        ensures packets { self.new.packets ≡ self.old.packets }
+        ensures at { (s : State) → StandsFor self.old.endpoint s → IsAt self.new (taken_many (waiting_count s) (scene self.old s)) }
+    {
+        for turn in 0..self.endpoint.waiting() {
+            self.take_one();
+        }
+    }
+
+    /// Takes all that waits, where it is looked at for the closing exchange alone.
+    fn drain_out(&mut self)
+        ensures packets { self.new.packets ≡ self.old.packets }
+        ensures at { (s : State) → StandsFor self.old.endpoint s → IsAt self.new (drained_out (scene self.old s)) }
+    {
+        if self.drains() {
+            self.drain();
+        }
+    }
+
+    /// Whether EndReply is to be put out.
+    fn owes_reply(&self) -> bool
+        ensures { result ≡ owes_reply self.now }
+    {
+        self.closing.reply_wanted
+            && !self.closing.reply_sent
+            && self.drains()
+            && !self.side.has_out()
+    }
+
+    /// Whether End is to be put out.
+    fn owes_end(&self) -> bool
+        ensures { result ≡ owes_end self.now }
+    {
+        self.closing.wanted && !self.drains() && !self.side.has_call() && !self.side.has_out()
+    }
+
+    /// Puts out an item of the closing exchange, unless there is no room; whether it did.
+    fn put(&mut self, alloc: Global, stream: u8) -> bool
+        ensures answer { (s : State) → StandsFor self.old.endpoint s → result ≡ is_ok (send_answer s (closing_item stream)) }
+        ensures stands { (s : State) → StandsFor self.old.endpoint s → StandsFor self.new.endpoint (after_send s (closing_item stream)) }
+        ensures beside { (self.new.side ≡ self.old.side) × (self.new.closing ≡ self.old.closing) }
+        ensures packets { self.new.packets ≡ self.old.packets }
+        ensures refused { result ≡ false → self.new ≡ self.old }
+    {
+        self.endpoint.send(closing_item(alloc, stream)).is_ok()
+    }
+
+    /// Answers an End, once.
+    fn say_reply(&mut self, alloc: Global)
+        ensures packets { self.new.packets ≡ self.old.packets }
+        ensures at { (s : State) → StandsFor self.old.endpoint s → IsAt self.new (replied (scene self.old s)) }
+    {
+        if !self.owes_reply() {
+            return;
+        }
+        if self.put(alloc, END_REPLY) {
+            self.closing.reply_sent = true;
+        }
+    }
+
+    /// Asks for an end, once, where that is wanted: behind all that is out, and after the answer to a call that waits.
+    fn say_end(&mut self, alloc: Global)
+        ensures packets { self.new.packets ≡ self.old.packets }
+        ensures at { (s : State) → StandsFor self.old.endpoint s → IsAt self.new (ended (scene self.old s)) }
+    {
+        if !self.owes_end() {
+            return;
+        }
+        if self.put(alloc, END) {
+            self.closing.end_sent = true;
+        }
+    }
+
+    /// Moves items between the side and the endpoint, unless what comes is looked at for the closing exchange alone.
+    fn converse(&mut self, alloc: Global) -> Result<(), FeedRefusal>
+        ensures packets { self.new.packets ≡ self.old.packets }
+        ensures moves { (s : State) → StandsFor self.old.endpoint s → (x : Scene) × IsAt self.new x × Moves (scene self.old s) result x }
+    {
+        if self.drains() {
+            return Ok(());
+        }
+        self.side.converse(alloc, &mut self.endpoint)
+    }
+
+    /// Says what is to be said of closing, and looks at what waits where it is looked at for that alone.
+    fn close_up(&mut self, alloc: Global)
+        ensures packets { self.new.packets ≡ self.old.packets }
+        ensures at { (s : State) → StandsFor self.old.endpoint s → IsAt self.new (closed_up (scene self.old s)) }
+    {
+        self.say_end(alloc);
+        self.drain_out();
+        self.say_reply(alloc);
+    }
+
+    /// What comes is read no more, but for the closing exchange.
+    pub fn give_up(&mut self)
+        ensures drains { drains self.new.side self.new.closing ≡ true }
+        ensures rest { self.new ≡ record self.old { closing = record self.old.closing { deaf = true } } }
+    {
+        self.closing.deaf = true;
+    }
+
+    /// The side reads no more where it refused an item, unless memory was refused.
+    fn mark(&mut self, moved: Result<(), FeedRefusal>)
+        ensures packets { self.new.packets ≡ self.old.packets }
+        ensures good { moved ≡ Ok tt → self.new ≡ self.old }
+        ensures memory { moved ≡ Err NoMemory → self.new ≡ self.old }
+        ensures given_up { moved ≢ Ok tt → moved ≢ Err NoMemory
+            → self.new ≡ record self.old { closing = record self.old.closing { deaf = true } } }
+    {
+        match moved {
+            Ok(()) | Err(FeedRefusal::NoMemory) => {}
+            Err(_) => self.give_up(),
+        }
+    }
+
+    /// Moves what can move. An `Err` is why the side refused an item: it reads no more then, unless it is `NoMemory`, after which the
+    /// same call goes on.
+    pub fn settle(&mut self, alloc: Global) -> Result<(), FeedRefusal>
+        ensures packets { self.new.packets ≡ self.old.packets }
+        ensures settles { (s : State) → StandsFor self.old.endpoint s → (x : Scene) × IsAt self.new x × Settles (scene self.old s) result x }
+    {
+        let moved = self.converse(alloc);
+        self.mark(moved);
+        if let Err(FeedRefusal::NoMemory) = moved {
+            return moved;
+        }
+        self.close_up(alloc);
+        moved
+    }
+
+    /// Whether nothing can move, and nothing is to be said or read of closing.
+    pub fn is_calm(&self) -> bool
+        ensures value { (s : State) → StandsFor self.now.endpoint s → result ≡ is_calm (scene self.now s) }
+    {
+        if self.drains() || self.closing.wanted {
+            return false;
+        }
+        if self.side.has_out() || self.side.has_message() {
+            return false;
+        }
+        self.endpoint.waiting() == 0
+    }
+
+    /// The program wants an end.
+    pub fn close(&mut self)
+        ensures rest { self.new ≡ record self.old { closing = record self.old.closing { wanted = true } } }
+    {
+        self.closing.wanted = true;
+    }
+
+    /// Takes in a packet that was read from bytes. The only error is want of memory: it is as if the packet were lost.
+    pub fn receive(&mut self, alloc: Global, packet: &SppPacket) -> Result<Input, AllocError>
+        requires { IsSppPacket packet.now }
+        ensures answer { IfOk result (λ i. (s : State) (b : List ℕ) → StandsFor self.old.endpoint s → spp_packet_of b ≡ Ok packet.now
+            → i ≡ input_answer s b) }
+        ensures stands { OnOk result ((s : State) (b : List ℕ) → StandsFor self.old.endpoint s → spp_packet_of b ≡ Ok packet.now
+            → StandsFor self.new.endpoint (after_receive s b)) }
+        ensures rest { self.new ≡ record self.old { endpoint = self.new.endpoint } }
+        ensures unchanged { OnErr result (self.new ≡ self.old) }
+        ensures memory { OnErr result ((s : State) (b : List ℕ) → StandsFor self.old.endpoint s → spp_packet_of b ≡ Ok packet.now
+            → StoresBytes s b) }
+    {
+        self.endpoint.input_packet(alloc, packet)
+    }
+
+    /// Whether something waits for the peer: it is not open, or an item is not acknowledged.
+    pub fn waits(&self) -> bool
+        ensures value { (s : State) → StandsFor self.now.endpoint s → result ≡ waits s }
+        ensures tick { (s : State) → StandsFor self.now.endpoint s → result ≡ false → tick_answer s ≡ [] }
+    {
+        !self.endpoint.is_open() || self.endpoint.unacknowledged() > 0
+    }
+
+    /// Whether the closing exchange is over, and its last item has arrived.
+    pub fn is_over(&self) -> bool
+        ensures { (s : State) → StandsFor self.now.endpoint s → result ≡ is_over self.now.closing s }
+    {
+        self.closing.reply_sent && self.closing.reply_heard && self.endpoint.unacknowledged() == 0
+    }
+
+    /// Puts out a call. It is refused, and nothing is changed, as `Closing` where the conversation closes; `PeerCalls`; `Busy`; `TooLong`;
+    /// `NoMemory`.
+    pub fn call(
+        &mut self,
+        alloc: Global,
+        program: u32,
+        version: u16,
+        procedure: u16,
+        words: &[u16],
+    ) -> Result<(), Refusal>
+        ensures answer { Answers (call_fault_of self.old (words_call program version procedure words.now)) result }
+        ensures is { result ≡ Ok tt
+            → self.new ≡ record self.old { side = side_called self.old.side (words_call program version procedure words.now) } }
+        ensures drains { drains self.new.side self.new.closing ≡ drains self.old.side self.old.closing }
+        ensures endpoint { self.new.endpoint ≡ self.old.endpoint }
+        ensures packets { self.new.packets ≡ self.old.packets }
+        ensures unchanged { OnErr result (self.new ≡ self.old) }
+    {
+        if self.drains() {
+            return Err(Refusal::Closing);
+        }
+        if self.closing.wanted {
+            return Err(Refusal::Closing);
+        }
+        self.side.call(alloc, program, version, procedure, words)
+    }
+
+    /// Answers the call that was handed. It is refused, and nothing is changed, as `Closing` where the conversation closes; `NoCall`;
+    /// `TooLong`; `NoMemory`.
+    pub fn answer(&mut self, alloc: Global, answer: Answer, words: &[u16]) -> Result<(), Refusal>
+        ensures answer { Answers (answer_fault_of self.old answer words.now) result }
+        ensures is { result ≡ Ok tt → self.new ≡ record self.old { side = side_answered self.old.side answer words.now } }
+        ensures drains { drains self.new.side self.new.closing ≡ drains self.old.side self.old.closing }
+        ensures endpoint { self.new.endpoint ≡ self.old.endpoint }
+        ensures packets { self.new.packets ≡ self.old.packets }
+        ensures unchanged { OnErr result (self.new ≡ self.old) }
+    {
+        if self.drains() {
+            return Err(Refusal::Closing);
+        }
+        self.side.answer(alloc, answer, words)
+    }
+
+    /// The message that waits for the program, once.
+    pub fn take_message(&mut self) -> Option<PiecedMessage>
+        ensures message { result ≡ waiting_message self.old.side }
+        ensures is { self.new ≡ record self.old { side = side_taken self.old.side } }
+        ensures drains { drains self.new.side self.new.closing ≡ drains self.old.side self.old.closing }
+        ensures endpoint { self.new.endpoint ≡ self.old.endpoint }
+        ensures packets { self.new.packets ≡ self.old.packets }
+        ensures none { result ≡ None → self.new ≡ self.old }
+    {
+        self.side.take_message()
+    }
+}

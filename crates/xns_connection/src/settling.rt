@@ -1,0 +1,182 @@
+//! What becomes of a connection when something was done: what can move moves, and what is waited for, and owed, is set anew.
+
+ghost use Rattle.std.specs.Prelude.{◌≡◌, ◌≢◌, ◌<◌, ◌&&◌, ◌||◌, [], not, nat_lt, true, false};
+ghost use Rattle.std.specs.Prelude.{Some, None, Err};
+ghost use Rattle.courier_sessions.specs.declared.feed_refusal.FeedRefusal.TheVariants.{NoMemory};
+ghost use Rattle.std.specs.Option.{is_some};
+ghost use Rattle.xns_spp.specs.Ends.{is_open};
+ghost use Rattle.xns_spp.specs.Held.{StandsFor};
+ghost use Rattle.xns_spp.specs.Sending.{tick_answer};
+ghost use Rattle.xns_spp.specs.State.{State};
+ghost use Rattle.xns_spp.specs.Telling.{unacknowledged_count};
+ghost use Rattle.xns_connection.specs.Closing.{drains};
+ghost use Rattle.xns_connection.specs.Connecting.{is_again, is_open_due, is_closed_due, why_after, owed_after, is_foreign};
+ghost use Rattle.xns_connection.specs.Moving.{HasHistory};
+ghost use Rattle.xns_connection.specs.Deeds.{ClosesThen, GoesOnBy, is_starved};
+ghost use Rattle.xns_connection.specs.Telling.{waits};
+ghost use Rattle.xns_agenda.specs.Waiting.{StepsAt, after_step, after_word};
+ghost use Rattle.xns_agenda.specs.declared.act.Act.TheVariants.{GiveUp};
+
+use crate::conversation::Conversation;
+use crate::owed::Owed;
+use crate::why::Why;
+use crate::why_closed::why_after;
+use courier_sessions::FeedRefusal;
+use std::alloc::Global;
+use xns_agenda::{Act, Wait};
+use xns_spp::{Dropped, Input};
+
+/// Whether a packet is no word of the peer.
+fn is_foreign(dropped: Option<Dropped>) -> bool
+    ensures { result ≡ is_foreign dropped }
+{
+    matches!(
+        dropped,
+        Some(Dropped::NotIdp | Dropped::NotSpp | Dropped::NotOurs | Dropped::AheadOfUs)
+    )
+}
+
+/// What a connection that is not closed waits for after a step.
+#[tactic(auto, using(crate::proofs::Moments::one_step))]
+pub fn wait_on(conversation: &Conversation, wait: &mut Wait, now: u64)
+    requires { is_open_due wait.old.due ≡ true }
+    ensures waits { (s : State) → StandsFor conversation.now.endpoint s → wait.new ≡ after_step wait.old (waits s) now }
+    ensures steps { StepsAt now wait.old wait.new }
+    ensures timed { (s : State) → StandsFor conversation.now.endpoint s → tick_answer s ≢ [] → is_again wait.new.due ≡ true }
+    ensures open_due { is_open_due wait.new.due ≡ true }
+{
+    wait.step(conversation.waits(), now);
+}
+
+/// Notes why a connection is closed after its items moved, if it is, and what is waited for then.
+#[tactic(auto, using(crate::proofs::Moments::no_step, crate::proofs::Moments::one_close))]
+fn after_moving(
+    conversation: &mut Conversation,
+    moved: Result<(), FeedRefusal>,
+    closed: &mut Option<Why>,
+    wait: &mut Wait,
+    now: u64,
+)
+    requires deaf { closed.old ≢ None → drains conversation.old.side conversation.old.closing ≡ true }
+    requires open_due { closed.old ≡ None → is_open_due wait.old.due ≡ true }
+    requires closed_due { closed.old ≢ None → is_closed_due wait.old.due ≡ true }
+    ensures closes { ClosesThen now conversation.old moved conversation.new closed.old closed.new wait.old wait.new }
+    ensures timed { closed.new ≡ None → (s : State) → StandsFor conversation.new.endpoint s → tick_answer s ≢ []
+        → is_again wait.new.due ≡ true }
+    ensures open_due { closed.new ≡ None → is_open_due wait.new.due ≡ true }
+    ensures closed_due { closed.new ≢ None → is_closed_due wait.new.due ≡ true }
+    ensures deaf { closed.new ≢ None → drains conversation.new.side conversation.new.closing ≡ true }
+{
+    if closed.is_some() {
+        return;
+    }
+    let why = why_after(conversation, moved);
+    if why.is_some() {
+        *closed = why;
+        conversation.give_up();
+        wait.linger(now);
+        return;
+    }
+    wait_on(conversation, wait, now);
+}
+
+/// Whether memory was refused while items moved.
+fn is_starved(moved: Result<(), FeedRefusal>) -> bool
+    ensures { result ≡ is_starved moved }
+{
+    matches!(moved, Err(FeedRefusal::NoMemory))
+}
+
+/// Moves what can move; notes why the connection is closed then, if it is, and what is waited for.
+pub fn settled(
+    conversation: &mut Conversation,
+    alloc: Global,
+    owed: &mut Owed,
+    closed: &mut Option<Why>,
+    wait: &mut Wait,
+    now: u64,
+)
+    requires deaf { closed.old ≢ None → drains conversation.old.side conversation.old.closing ≡ true }
+    requires open_due { closed.old ≡ None → is_open_due wait.old.due ≡ true }
+    requires closed_due { closed.old ≢ None → is_closed_due wait.old.due ≡ true }
+    requires stands { HasHistory conversation.old.endpoint }
+    ensures moved { GoesOnBy now conversation.old conversation.new owed.old owed.new closed.old closed.new wait.old wait.new }
+    ensures timed { closed.new ≡ None → (s : State) → StandsFor conversation.new.endpoint s → tick_answer s ≢ []
+        → is_again wait.new.due ≡ true }
+    ensures open_due { closed.new ≡ None → is_open_due wait.new.due ≡ true }
+    ensures closed_due { closed.new ≢ None → is_closed_due wait.new.due ≡ true }
+    ensures deaf { closed.new ≢ None → drains conversation.new.side conversation.new.closing ≡ true }
+    ensures stands { HasHistory conversation.new.endpoint }
+{
+    let waiting = conversation.endpoint.waiting();
+    let moved = conversation.settle(alloc);
+    owed.moving = is_starved(moved);
+    owed.word = owed.word || conversation.endpoint.waiting() < waiting;
+    owed.fresh = true;
+    after_moving(conversation, moved, closed, wait, now);
+}
+
+/// Whether a packet of the peer has more acknowledged, or opens the connection.
+pub fn is_progress(conversation: &Conversation, before: usize, was_open: bool) -> bool
+    ensures { (s : State) → StandsFor conversation.now.endpoint s
+        → result ≡ nat_lt (unacknowledged_count s) before || (is_open s.ends && not was_open) }
+{
+    conversation.endpoint.unacknowledged() < before
+        || (conversation.endpoint.is_open() && !was_open)
+}
+
+/// Notes a packet that came, where `more` says whether it has more acknowledged, or opens the connection, and `left` whether an item is
+/// still not acknowledged.
+pub fn note(input: Input, more: bool, left: bool, owed: &mut Owed, wait: &mut Wait, now: u64)
+    ensures foreign { is_foreign input.dropped ≡ true → (wait.new ≡ wait.old) × (owed.new ≡ owed.old) }
+    ensures wait { is_foreign input.dropped ≡ false → wait.new ≡ after_word wait.old more now }
+    ensures owed { is_foreign input.dropped ≡ false → owed.new ≡ record owed.old {
+      word = owed.old.word || input.owes_reply;
+      again = owed.old.again || (more && (wait.old.vain && left));
+    } }
+    ensures open_due { is_open_due wait.old.due ≡ true → is_open_due wait.new.due ≡ true }
+    ensures closed_due { is_closed_due wait.old.due ≡ true → is_closed_due wait.new.due ≡ true }
+{
+    if is_foreign(input.dropped) {
+        return;
+    }
+    owed.word = owed.word || input.owes_reply;
+    owed.again = owed.again || (more && wait.was_vain() && left);
+    wait.hear(more, now);
+}
+
+/// What is owed after an act.
+pub fn owed_after(owed: Owed, act: Act) -> Owed
+    ensures { result ≡ owed_after owed act }
+{
+    let mut after = owed;
+    match act {
+        Act::Nothing | Act::GiveUp | Act::Forget => {}
+        Act::Again => {
+            after.again = true;
+            after.fresh = true;
+        }
+        Act::Ask => {
+            after.asks = true;
+            after.fresh = true;
+        }
+    }
+    after
+}
+
+/// What a connection waits for after a step that closes none.
+#[tactic(auto, using(crate::proofs::Moments::no_step))]
+pub fn wait_unless(conversation: &Conversation, closed: Option<Why>, wait: &mut Wait, now: u64)
+    requires open_due { closed ≡ None → is_open_due wait.old.due ≡ true }
+    ensures kept { closed ≢ None → wait.new ≡ wait.old }
+    ensures waits { closed ≡ None → (s : State) → StandsFor conversation.now.endpoint s → wait.new ≡ after_step wait.old (waits s) now }
+    ensures timed { closed ≡ None → (s : State) → StandsFor conversation.now.endpoint s → tick_answer s ≢ []
+        → is_again wait.new.due ≡ true }
+    ensures open_due { closed ≡ None → is_open_due wait.new.due ≡ true }
+    ensures steps { StepsAt now wait.old wait.new }
+{
+    if closed.is_some() {
+        return;
+    }
+    wait_on(conversation, wait, now);
+}

@@ -1,5 +1,0 @@
-use Rattle.xns_host.proofs.Steps.{same_history}
-use Rattle.xns_host.proofs.connection.Connection.new.Goals as goal
-
-pub invariant_of-result-clause-stands : goal.invariant_of-result-clause-stands
-invariant_of-result-clause-stands c = same_history _ _ c.new-conversation.ensures.endpoint c.requires

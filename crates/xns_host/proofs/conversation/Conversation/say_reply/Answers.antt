@@ -1,7 +1,0 @@
-use Rattle.std.proofs.Common.{◌∙◌, false, sym}
-use Rattle.xns_host.proofs.Scenes.{not_replied}
-use Rattle.xns_host.proofs.conversation.Conversation.say_reply.Goals as goal
-
-pub returns-else-put-clause-at : goal.returns-else-put-clause-at
-returns-else-put-clause-at c = λ s stands.
-    not_replied c.args.self.now c.put.new.self s (c.put.ensures.refused c.if-put.false) (sym (c.put.ensures.answer s stands) ∙ c.if-put.false) stands

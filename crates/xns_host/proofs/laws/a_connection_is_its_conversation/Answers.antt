@@ -1,5 +1,0 @@
-use Rattle.xns_host.proofs.Peers.{called, served}
-use Rattle.xns_host.proofs.laws.a_connection_is_its_conversation.Goals as goal
-
-pub returns : goal.returns
-returns c = let grows = c.a_conversation_only_grows.ensures in record { calls = called grows; answers = served grows }

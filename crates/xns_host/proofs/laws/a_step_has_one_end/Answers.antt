@@ -1,5 +1,0 @@
-use Rattle.xns_host.proofs.Alike.{one_end}
-use Rattle.xns_host.proofs.laws.a_step_has_one_end.Goals as goal
-
-pub returns : goal.returns
-returns c = one_end
