@@ -106,7 +106,7 @@ def add(interface, station, *numbers):
     host = bytes.fromhex(station.replace(":", ""))
     with xns.ethernet(interface) as link:
         own = xns.Address(1, link.station, random.SystemRandom().randrange(3001, 63000))
-        with xns.Client(link, host, own, xns.Address(1, host, 5), timeout=60, **PATIENT) as client:
+        with xns.Client(link, host, own, xns.Address(1, host, 5), timeout=300, **PATIENT) as client:
             for number in numbers:
                 print(xns.Reader(client.call(7, 1, 1, [int(number)]).words).long_cardinal())
 

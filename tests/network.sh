@@ -8,6 +8,7 @@ cd "$(dirname "$0")/.."
 front=xns$$
 running=
 begun=0
+seconds=60
 
 # Ends the programs that this script started and that still run.
 end_all() {
@@ -60,11 +61,11 @@ station() {
     printf '02:00:aa:00:00:%02x' "$1"
 }
 
-# Runs words at the station of this number, for a minute at most.
+# Runs words at the station of this number, for so many seconds at most.
 at() {
     at_station=$front-$1
     shift
-    timeout 60 ip netns exec "$at_station" "$@"
+    timeout $seconds ip netns exec "$at_station" "$@"
 }
 
 # Runs words at the station of this number beside what follows, for longer. The program is $started, and its output is in the file $said.
@@ -73,7 +74,7 @@ begin() {
     begun=$((begun + 1))
     said=$work/said.$begun
     shift
-    ip netns exec "$begin_station" timeout 100 "$@" > "$said" 2>&1 &
+    ip netns exec "$begin_station" timeout $((seconds + 40)) "$@" > "$said" 2>&1 &
     started=$!
     running="$running $started"
 }
@@ -296,7 +297,9 @@ done
 expect 'Echo to all at a bridge' at 3 xns-net ping all -i eth0 -c 2 --interval 0.2 --wait 0.3
 expect 'is answered by both' grep -q '^2 sent, 2 answered, from 2 hosts, 0% lost$' "$work/out"
 
-# The client in C gives a server up after six waits without a word, the one in Python after a hundred.
+# The client in C gives a server up after six waits without a word, the one in Python after a hundred. A server waits up to 8 seconds before it sends an
+# answer again: where many are lost, twenty calls may take minutes.
+seconds=400
 for harm in 0.1 0.3; do
     for language in C Python; do
         [ "$harm $language" != '0.3 C' ] || continue
