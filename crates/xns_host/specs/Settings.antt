@@ -1,5 +1,5 @@
 -- What a host is made with.
-use Rattle.std.specs.Prelude.{◌≡◌, ℕ, ◌≤◌, Bool, not, ◌&&◌, ◌==◌, nat_lt, nat_le, if◌then◌else◌, Option, Some, None, Result, Ok, Err}
+use Rattle.std.specs.Prelude.{◌≡◌, ℕ, ◌≤◌, Bool, not, ◌&&◌, ◌==◌, nat_lt, nat_le, if◌then◌else◌, Option, Some, None, min, Result, Ok, Err}
 use Rattle.xns_spp.specs.Ends.{IsCapacity, most_pending}
 use Rattle.xns_connection.specs.Step.{IsMade}
 use Rattle.xns_connection.specs.declared.connection.Connection.{Connection}
@@ -69,6 +69,7 @@ settings_answer s = answer_unless (wrong_setting s)
 pub record IsPaceOf (s : Settings) (p : Pace) : Type 0 where
   pub first : p.first ≡ s.first_wait
   pub longest : p.longest ≡ s.longest_wait
+  pub least : p.least ≡ min 10 s.first_wait
   pub idle : p.idle ≡ s.idle
   pub tries : p.tries ≡ s.tries
 
