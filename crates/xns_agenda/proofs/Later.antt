@@ -1,5 +1,5 @@
 -- What is due is done, and is then due later.
-use Rattle.std.proofs.Common.{◌≡◌, ap, refl, subst, sym, ℕ, ◌+◌, ◌<◌, ◌≤◌, Bool, true, false, Option, Some, None, arith}
+use Rattle.std.proofs.Common.{◌≡◌, ap, refl, subst, sym, ℕ, ◌+◌, ◌<◌, ◌≤◌, Bool, true, false, Some, None, arith}
 use Rattle.std.specs.Prelude.{min, nat_le, if◌then◌else◌}
 use Rattle.std.proofs.lemmas.Bool.{leb-false}
 use Rattle.std.proofs.Math.Nat.{le-min}

@@ -1,5 +1,5 @@
 -- A silent peer is given up: each packet that goes out by the time alone is a miss.
-use Rattle.std.proofs.Common.{◌≡◌, ◌∙◌, ap, refl, ℕ, ◌+◌, ◌<◌, ◌≤◌, Bool, true, false, arith}
+use Rattle.std.proofs.Common.{◌≡◌, ◌∙◌, refl, ℕ, ◌+◌, ◌<◌, ◌≤◌, Bool, true, false, arith}
 use Rattle.std.specs.Prelude.{nat_le, if◌then◌else◌}
 use Rattle.std.proofs.lemmas.Bool.{leb-false}
 use Rattle.xns_agenda.specs.Measuring.{borne as is_borne}

@@ -1,5 +1,5 @@
 -- How long a peer takes to acknowledge, as it is measured, and how long is waited by that. Times are in milliseconds.
-use Rattle.std.specs.Prelude.{◌≡◌, ℕ, ◌+◌, ◌-◌, ◌*◌, ◌/◌, ◌^◌, ◌≤◌, Bool, true, false, ◌&&◌, ◌==◌, nat_le, nat_lt, min, max, if◌then◌else◌, Option, Some, None, IfSome}
+use Rattle.std.specs.Prelude.{ℕ, ◌+◌, ◌-◌, ◌*◌, ◌/◌, ◌^◌, ◌≤◌, Bool, true, false, ◌&&◌, ◌==◌, nat_le, nat_lt, min, max, if◌then◌else◌, Option, Some, None}
 use Rattle.std.specs.Int.{abs_diff, leading_zeros, w32}
 use Rattle.xns_agenda.specs.declared.measure.Measure.{Measure}
 use Rattle.xns_agenda.specs.declared.pace.Pace.{Pace}
@@ -88,9 +88,10 @@ doubted_wait first doubts = if nat_lt doubts 3 then 0 else if doubts == 3 then f
 
 abbrev pub wait_by : Option Smoothed → (doubts : ℕ) → Pace → ℕ
 wait_by None doubts pace = pace.first
-wait_by (Some s) doubts pace = min (max (estimate s pace.least) (doubted_wait pace.first doubts)) pace.longest
+wait_by (Some s) doubts pace = min (max (estimate s pace.least) (doubted_wait pace.first doubts)) (min (pace.first * 4) pace.longest)
 
--- the first wait for an acknowledgement: the time to be expected; where nothing was measured, that of the pace
+-- the first wait for an acknowledgement: the time to be expected, and at most four times the first wait of the pace; where nothing was
+-- measured, that wait
 abbrev pub first_wait : Measure → Pace → ℕ
 first_wait m pace = wait_by m.smoothed m.doubts pace
 

@@ -63,7 +63,8 @@ impl Measure {
         let wait = smoothed
             .estimate(pace.least)
             .max(doubted_wait(pace.first, self.doubts));
-        wait.min(u64::from(pace.longest)) as u32
+        let most = (u64::from(pace.first) * 4).min(u64::from(pace.longest));
+        wait.min(most) as u32
     }
 
     /// How many packets are borne to which there is no word of the peer.
