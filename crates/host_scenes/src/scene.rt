@@ -48,15 +48,7 @@ impl Scene {
         ..Scene::CALM
     };
 
-    /// A network whose round trip is two milliseconds.
-    const NEAR: Scene = Scene {
-        name: "5 clients of 40 calls that are near, 1 in 10 lost",
-        lost: 10,
-        delay: 1,
-        ..Scene::CALM
-    };
-
-    pub const ALL: [Scene; 15] = [
+    pub const ALL: [Scene; 12] = [
         Scene::CALM,
         Scene {
             name: "the same, window 1",
@@ -73,19 +65,6 @@ impl Scene {
             name: "the same, window 1",
             window: 1,
             ..Scene::ROUGH
-        },
-        Scene::NEAR,
-        Scene {
-            name: "the same, 1 in 3 lost",
-            lost: 33,
-            ..Scene::NEAR
-        },
-        Scene {
-            name: "2 clients of 5 calls of up to 5,000 words that are near, 1 in 10 lost",
-            clients: 2,
-            calls: 5,
-            most_words: 5_000,
-            ..Scene::NEAR
         },
         Scene {
             name: "50 clients of 10 calls",
