@@ -6,6 +6,7 @@ Two hosts play over a network that loses, repeats and delays. Each is there twic
 other the sum of its steps forward, as the account has it. Both must say the same, and wake at the same moment. The account knows by itself which
 numbers are taken, which events may come at each, which packets may go out, and when nothing may happen.
 """
+import itertools
 import random
 import struct
 import sys
@@ -28,10 +29,6 @@ def packet(kind, target, source, body):
     return struct.pack(">HHBB", 65535, 30 + len(body), 0, kind) + ends + body + bytes(len(body) % 2)
 
 
-def sequenced(target, control, stream, own_id, peer_id, body=b""):
-    return packet(5, target, STRANGER, struct.pack(">BBHHHHH", control, stream, own_id, peer_id, 0, 0, 7) + body)
-
-
 def is_opening(data):
     return data[5] == 5 and data[30] == OPENING and data[34:36] == b"\0\0"
 
@@ -50,10 +47,6 @@ class Clock:
         """A time of its own by the clock that it was told: what is past the end of that clock is at once."""
         at = max(self.told + wake - self.own, 0) if wake else wake
         return 0 if at and at >= LAST else at
-
-
-def connection(ours, via, made):
-    return SimpleNamespace(ours=ours, via=via, made=made, calls=[], answers=0, is_asked=False, why=None)
 
 
 class Twins:
@@ -91,23 +84,35 @@ class Twins:
             del self.held[number]
         return came
 
+    def open(self, number, ours, via):
+        self.held[number] = SimpleNamespace(ours=ours, via=via, made=self.clock.own, calls=[], answers=0, is_asked=False, why=None)
+
+    def packets(self):
+        """Fetches the packets, and returns their vias."""
+        packets = self.ask("packets")
+        for via, data in packets:
+            assert via not in self.silenced, ("a packet of a connection that is dead or abandoned", via)
+            self.play.bag.append((self.other, via, data))
+        return [via for via, _ in packets]
+
     def fetch(self):
-        """Fetches all that there is, and says whether there was anything. Where a peer is given up as packets are fetched, its event is there behind
-        them, and the wake is at once."""
-        found, empty, wake = False, 0, self.wake()
-        while empty < 3:
-            events = self.ask("events", timed=False)
+        """Fetches all that there is, packets or events first, and says whether there was anything. Where a peer is given up as packets are fetched, its
+        event is there behind them, and the wake is at once."""
+        found, empty, wake, is_first = False, 0, 0, self.play.random.random() < 0.5
+        while empty < 3 and (not empty or wake == 0):
+            before, wake = self.packets() if is_first else [], self.wake()
+            events, heard, gone = self.ask("events", timed=False), set(), set()
             assert not events or wake == 0, ("an event waited, and the host slept", events, wake)
-            gone = {event.number for event in events if self.hear(event)}
+            for event in events:
+                if self.hear(event):
+                    gone.add(event.number)
+                    # Where no message was fetched before, it was dead before the packets went out.
+                    assert event.number in heard or self.held[event.number].via not in before, ("a packet of a dead connection", event)
+                heard.add(event.number)
             if events:
                 self.count(gone=gone)
-            packets = self.ask("packets")
-            for via, data in packets:
-                assert via not in self.silenced, ("a packet of a connection that is dead or abandoned", via)
-                self.play.bag.append((self.other, via, data))
-            found, empty, wake = found or bool(events or packets), 0 if events or packets else empty + 1, self.wake()
-            if empty and wake != 0:
-                break
+            vias = before if is_first else self.packets()
+            found, empty, wake = found or bool(events or vias), 0 if events or vias else empty + 1, self.wake()
         assert wake is None or wake > self.clock.own, ("nothing is left, and the host does not sleep", wake, self.clock.own)
         self.count()
         return found
@@ -141,16 +146,16 @@ class Twins:
         """A packet comes. Only an opening packet makes a connection."""
         taken = self.ask("receive", via, data)
         for number in self.count(come=int(is_opening(data))):
-            self.held[number] = connection(False, via, self.clock.own)
+            self.open(number, False, via)
             self.silenced.discard(via)
         return taken
 
     def connect(self):
         if len(self.held) < 6:
-            via = self.play.next("via")
+            via = next(self.play.vias)
             number = self.ask("connect", via, CLIENT, self.other.own._replace(socket=self.play.random.choice((COURIER, COURIER, COURIER, NOBODY))))
             assert self.count(come=1) == {number}
-            self.held[number] = connection(True, via, self.clock.own)
+            self.open(number, True, via)
 
     def pick(self, rule):
         """A connection that meets the rule and its number, if there is one."""
@@ -159,7 +164,7 @@ class Twins:
     def call(self):
         number, one = self.pick(lambda one: one.ours and len(one.calls) == one.answers < 15 and one.via not in self.asked | self.other.asked)
         if one:
-            one.calls.append(one.calls[-1] + 1 if one.calls else self.play.next("word") * 16 % 0x8000)
+            one.calls.append(one.calls[-1] + 1 if one.calls else next(self.play.words) % 2048 * 16)
             self.ask("call", number, 7, 1, 1, [one.calls[-1]])
 
     def answer(self):
@@ -192,12 +197,17 @@ class Twins:
 
     def spoil(self):
         """A stranger opens a connection, and says what is no conversation: the host closes it in the same moment."""
-        via, bag, self.play.bag = self.play.next("via"), self.play.bag, []
-        self.receive(via, sequenced(self.own, OPENING, 0, via % 65535 + 1, 0))
+        via, bag, self.play.bag = next(self.play.vias), self.play.bag, []
+
+        def says(control, stream, peer_id, body=b""):
+            header = struct.pack(">BBHHHHH", control, stream, via % 65535 + 1, peer_id, 0, 0, 7)
+            self.receive(via, packet(5, self.own, STRANGER, header + body))
+
+        says(OPENING, 0, 0)
         self.fetch()
         reply = next(data for _, out, data in self.play.bag if out == via)
         self.spoiled.add(via)
-        self.receive(via, sequenced(self.own, DATA, 9, via % 65535 + 1, *struct.unpack(">H", reply[32:34]), b"\1\2"))
+        says(DATA, 9, int.from_bytes(reply[32:34], "big"), b"\1\2")
         self.fetch()
         assert via in self.silenced and all(one.via != via for one in self.held.values()), "what a stranger spoiled is not closed"
         self.play.bag = bag
@@ -207,13 +217,9 @@ class Play:
     """Two hosts and the packets on their way, each with the host that it is for and its via."""
 
     def __init__(self, seed):
-        self.random, self.bag, self.counts = random.Random(seed), [], {"via": 0, "word": 0}
+        self.random, self.bag, self.vias, self.words = random.Random(seed), [], itertools.count(1), itertools.count()
         self.hosts = [Twins(station, self) for station in (1, 2)]
         self.hosts[0].other, self.hosts[1].other = self.hosts[1], self.hosts[0]
-
-    def next(self, what):
-        self.counts[what] += 1
-        return self.counts[what]
 
     def deliver(self, losses):
         """A packet of the bag comes, or is lost, or comes and may come again. An opening packet that no socket takes is complained of."""
@@ -239,7 +245,10 @@ class Play:
             done = deliver, host.pass_time, host.call, host.answer, host.connect, host.close, host.abandon, host.spoil
             self.random.choices(done, (45, 17, 10, 12, 8, 4, 2, 2))[0]()
             host.fetch()
-        for _ in range(3000):
+        turns = 0
+        while any(host.held for host in self.hosts):
+            turns += 1
+            assert turns < 3000, "a connection does not end"
             for host in self.hosts:
                 host.answer()
                 host.close()
@@ -248,21 +257,17 @@ class Play:
                 self.deliver(end_losses)
             for host in self.hosts:
                 host.pass_time()
-            if not any(host.held for host in self.hosts):
-                break
-        assert not any(host.held for host in self.hosts), "a connection does not end"
         self.bag.clear()
 
 
 def main(words):
     plays, seed = int(words[0]) if words else 1000, int(words[1]) if len(words) > 1 else 1
     silenced = 0
-    for number in range(plays):
-        if number % 50 == 0:
-            play = Play(seed * 1_000_000 + number)
-        before = sum(len(host.silenced) for host in play.hosts)
-        play.run(play.random.choice((0.0, 0.1, 0.3, 1.0)), play.random.randrange(80), play.random.choice((0.0, 0.2, 1.0)))
-        silenced += sum(len(host.silenced) for host in play.hosts) - before
+    for first in range(0, plays, 50):
+        play = Play(seed * 1_000_000 + first)
+        for _ in range(min(50, plays - first)):
+            play.run(play.random.choice((0.0, 0.1, 0.3, 1.0)), play.random.randrange(80), play.random.choice((0.0, 0.2, 1.0)))
+        silenced += sum(len(host.silenced) for host in play.hosts)
     print("%d plays of hosts, with %d connections that were dead or abandoned" % (plays, silenced))
 
 
