@@ -27,24 +27,24 @@ put_in-requires-clause-registered c =
     })
 
 pub returns-in_default-clause-room : goal.returns-in_default-clause-room
-returns-in_default-clause-room c = λ z.
+returns-in_default-clause-room c = λ right z.
     let none : HasNoNumber c.args.self.now.agenda.free c.args.self.now.agenda.closed c.args.self.now.agenda.strangers = search rules in
     inl (no_room c.args.self.now.agenda c.args.self.now.guests.items c.args.self.now.noted none)
 
 pub returns-in_default-next-clause-room : goal.returns-in_default-next-clause-room
-returns-in_default-next-clause-room c = λ z.
+returns-in_default-next-clause-room c = λ right z.
     let none : c.next.result ≡ None = search rules in
     inr (all_in_use c.args.self.now.register.identifiers.owners c.args.self.now.register.identifiers.ahead c.next.result c.next.ensures.given none)
 
 pub returns-in_default-calling-clause-full : goal.returns-in_default-calling-clause-full
-returns-in_default-calling-clause-full c = λ none.
+returns-in_default-calling-clause-full c = λ right none.
     let place : IsPlace c.args.self.now.guests.items c.in-Some.number
     = gets_place c.args.self.now.agenda c.args.self.now.guests.items c.args.self.now.noted c.place.ensures.room c.args.self.now.sized
     (c.place.ensures.some c.in-Some.number c.in-Some.is) in
     absurd (not_both c.args.self.now.guests.items none place)
 
 pub returns-clause-full : goal.returns-clause-full
-returns-clause-full c = λ none.
+returns-clause-full c = λ right none.
     let place : IsPlace c.args.self.now.guests.items c.in-Some.number
     = gets_place c.args.self.now.agenda c.args.self.now.guests.items c.args.self.now.noted c.place.ensures.room c.args.self.now.sized
     (c.place.ensures.some c.in-Some.number c.in-Some.is) in
