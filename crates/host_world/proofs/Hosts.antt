@@ -103,7 +103,7 @@ quietly h j (tells_nothing t) = no_event h.clock.latest (places_of h) t.next
 quietly h j (takes_in now way bytes result t) = comes (time_at h.clock now) way bytes (whole_of h) t.comes
 quietly h j (gives_out now result g) = giving now result h j g h.strays.waiting refl
 quietly h j (serves socket programs result s) = silent_if h.guests.items j.guests.items (ap (λ (w : Whole). w.places.guests) s.rest)
-quietly h j (moves network m) = silent_if h.guests.items j.guests.items (ap (λ (w : Whole). w.places.guests) m.network)
+quietly h j (moves network m) = silent_if h.guests.items j.guests.items (ap (λ (w : Whole). w.places.guests) m.is)
 
 -- ---- from a new host on
 

@@ -115,7 +115,7 @@ pub record Abandons (number : ℕ) (result : Result (Unit {0}) HostFault) (old n
 
 -- the host is at this network from now on; nothing else changed, so connections that are there keep theirs
 pub record MovesTo (network : ℕ) (old new : Host) : Type 0 where
-  pub network : whole_of new ≡ record (whole_of old) { network = network }
+  pub is : whole_of new ≡ record (whole_of old) { network = network }
   pub clock : new.clock ≡ old.clock
 
 -- ---- a socket that is served
