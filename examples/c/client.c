@@ -6,7 +6,7 @@
 #endif
 #include "net.h"
 
-static const struct xns_settings SETTINGS = { 1, 0, 0, 100, 1000, 0, 6 }; /* a server that is silent for 4.5 seconds is gone */
+static const struct xns_settings SETTINGS = { .connections = 1, .first_wait = 100, .longest_wait = 1000, .tries = 6 }; /* a server that is silent for 4.5 seconds is gone */
 static struct xns_host host;
 static size_t connection;
 static uint16_t sent[XNS_MOST_CALL_WORDS], words[XNS_MOST_MESSAGE_WORDS];

@@ -40,6 +40,10 @@ TEXTS = {
     Result.NO_CONNECTION: "no connection has this number",
     Result.TOO_MANY_SERVICES: "the host serves as many sockets as it can",
     Result.PEER_CALLS: "the peer opened the connection: its side calls",
+    Result.EVERY_HOST: "the broadcast host has no connections",
+    Result.NO_SOCKET: "0 is no socket",
+    Result.ECHO_SOCKET: "2 is the socket of Echo",
+    Result.NO_VERSION: "a program has its lowest version above its highest",
     Result.WRONG_TEXT: "the text is no program of Courier's notation",
 }
 CLOSED_TEXTS = {

@@ -80,17 +80,22 @@ class RawProgram(ctypes.Structure):
 class RawSettings(ctypes.Structure):
     _fields_ = [
         ("connections", c_size_t), ("window", c_size_t), ("backlog", c_size_t), ("first_wait", c_uint32), ("longest_wait", c_uint32),
-        ("idle", c_uint32), ("tries", c_uint8),
+        ("idle", c_uint32), ("tries", c_uint8), ("no_echo", c_uint8),
     ]
 
     @staticmethod
     def of(settings: dict) -> "RawSettings":
         """Those that are given; 0, which stands for the default, is none."""
+        settings = dict(settings)
+        answers_echo = settings.pop("answers_echo", True)
+        if not isinstance(answers_echo, bool):
+            raise TypeError(f"answers_echo is no bool: it is of type {type(answers_echo).__name__}")
         unknown = set(settings) - set(_MOST_SETTINGS)
         if unknown:
             raise TypeError(f"a host has no setting {', '.join(sorted(unknown))}")
         never = {name: _NEVER_IDLE for name, value in settings.items() if name == "idle" and value is None}
-        return RawSettings(**{name: within(1, value, _MOST_SETTINGS[name], name) for name, value in {**settings, **never}.items()})
+        given = {name: within(1, value, _MOST_SETTINGS[name], name) for name, value in {**settings, **never}.items()}
+        return RawSettings(no_echo=flag(not answers_echo), **given)
 
 
 class RawEvent(ctypes.Structure):
@@ -175,6 +180,7 @@ CALLS = {
     "host_answer": [_HANDLE, c_uint64, c_size_t, c_uint8, c_uint16, _WORDS, c_size_t],
     "host_close": [_HANDLE, c_uint64, c_size_t],
     "host_abandon": [_HANDLE, c_size_t],
+    "host_set_network": [_HANDLE, c_uint32],
     "host_receive": [_HANDLE, c_uint64, c_uint64, _BYTES, c_size_t],
     "host_next_event": [_HANDLE, _STRUCT, _WORDS, c_size_t, _LENGTH],
     "host_next_packet": [_HANDLE, c_uint64, _BUFFER, c_size_t, _LENGTH, _STRUCT],

@@ -174,7 +174,8 @@ class Host(Object):
         """At the network and host of `own`. The secret, 32 bytes, is new for each host and hard to guess; without one it is the system's.
         Settings: `connections` at most (64); `window` (8) and `backlog` (16) of each, in items; in milliseconds `first_wait` for an acknowledgement
         (250), `longest_wait` (8000), and `idle`, after which a peer is asked for a word (10000; None: never); `tries`, waits without a word of the
-        peer that are borne (8). `BadArgumentError` where the longest wait is below the first."""
+        peer that are borne (8); `answers_echo` (True): of the programs at one station one should. `BadArgumentError` where the longest wait is
+        below the first."""
         super().__init__()
         given = octets(os.urandom(_SECRET) if secret is None else secret, "secret")
         if len(given) != _SECRET:
@@ -185,14 +186,20 @@ class Host(Object):
         self._for_events = self._at, addressof(self._event), addressof(self._words), MOST_MESSAGE_WORDS, addressof(self._count)
         self._for_packets = addressof(self._packet), LONGEST_PACKET, addressof(self._length), addressof(self._via)
 
+    def set_network(self, network: int) -> None:
+        """The host is at this network from now on: new connections and Echo replies have its number, and those that are there keep theirs."""
+        self._done("set_network", unsigned(network, 32, "network"))
+
     def serve(self, socket_number: int, programs: Iterable[Tuple[int, int, int]] = ()) -> None:
         """From now on connections that peers open to this socket are answered, for these programs, each as (program, low, high); with none each call
-        is told. Calls of others are rejected without an event. `TooManyServicesError` where 16 other sockets are served."""
+        is told. Calls of others are rejected without an event. `EchoSocketError` for socket 2, `NoVersionError` where a low version is above its
+        high one, `TooManyServicesError` where 16 other sockets are served."""
         listed = [_program(one) for one in programs]
         self._done("serve", unsigned(socket_number, 16, "socket_number"), (RawProgram * max(1, len(listed)))(*listed), len(listed))
 
     def connect(self, now: int, via: int, socket_number: int, peer: Address) -> int:
-        """Opens a connection from this socket of ours to the peer, whose side calls; its number. `NoSlotError` where there is no room."""
+        """Opens a connection from this socket of ours to the peer, whose side calls; its number. `EveryHostError` to or from the broadcast
+        host, `NoSocketError` to or from socket 0, `NoSlotError` where there is no room."""
         number = c_size_t()
         numbers = unsigned(now, 64, "now"), unsigned(via, 64, "via"), unsigned(socket_number, 16, "socket_number")
         self._done("connect", *numbers, byref(RawAddress.of(peer, "peer")), byref(number))

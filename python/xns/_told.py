@@ -50,6 +50,10 @@ class Result(enum.IntEnum):
     NO_CONNECTION = 82
     TOO_MANY_SERVICES = 83
     PEER_CALLS = 84
+    EVERY_HOST = 85
+    NO_SOCKET = 86
+    ECHO_SOCKET = 87
+    NO_VERSION = 88
     WRONG_TEXT = 91
 
 

@@ -153,7 +153,7 @@ static void no_host(struct xns_host *none) {
     memset(&event, 0xee, sizeof event);
     CHECK(none->at == NULL && xns_host_serve(none, 5, programs, 1) == XNS_NO_HOST && xns_host_connect(none, 0, 0, 5, &there, &number) == XNS_NO_HOST);
     CHECK(xns_host_call(none, 0, 0, 7, 1, 1, given, 1) == XNS_NO_HOST && xns_host_answer(none, 0, 0, 9, 0, given, 1) == XNS_NO_HOST);
-    CHECK(xns_host_abandon(none, 0) == XNS_NO_HOST);
+    CHECK(xns_host_abandon(none, 0) == XNS_NO_HOST && xns_host_set_network(none, 7) == XNS_NO_HOST);
     CHECK(xns_host_close(none, 0, 0) == XNS_NO_HOST && xns_host_receive(none, 0, 0, packet, 0) == XNS_NO_HOST);
     CHECK(xns_host_next_event(none, &event, words, WORDS, &number) == XNS_NO_HOST && event.kind == 0xee);
     CHECK(xns_host_next_packet(none, 0, packet, sizeof packet, &number, &via) == XNS_NO_HOST && via == 7 && number == 7);
@@ -170,8 +170,8 @@ static void services(void) {
     size_t length = 7;
     no_host(&service);
     CHECK(xns_host_new(&service, &there, &usual, secret) == XNS_OK && xns_host_wake(&service) == XNS_NEVER && xns_host_connections(&service) == 0);
-    for (uint16_t socket = 1; socket <= XNS_MOST_SERVICES; socket++) CHECK(xns_host_serve(&service, socket, programs, 1) == XNS_OK);
-    CHECK(xns_host_serve(&service, XNS_MOST_SERVICES + 1, programs, 1) == XNS_TOO_MANY_SERVICES && xns_host_serve(&service, 3, programs, 0) == XNS_OK);
+    for (uint16_t socket = 3; socket < XNS_MOST_SERVICES + 3; socket++) CHECK(xns_host_serve(&service, socket, programs, 1) == XNS_OK);
+    CHECK(xns_host_serve(&service, XNS_MOST_SERVICES + 3, programs, 1) == XNS_TOO_MANY_SERVICES && xns_host_serve(&service, 3, programs, 0) == XNS_OK);
     CHECK(xns_host_receive(&service, 0, 0, packet, sizeof packet) == XNS_NOTHING && xns_host_next_packet(&service, 0, packet, sizeof packet, &length, &via) == XNS_NOTHING);
     CHECK(length == 7 && via == 7 && xns_host_wake(&service) == XNS_NEVER);
     CHECK(xns_host_new(&service, &there, &usual, secret) == XNS_OK && xns_host_serve(&service, XNS_MOST_SERVICES + 1, programs, 1) == XNS_OK);
@@ -197,6 +197,74 @@ static void strangers(void) {
     CHECK(xns_host_receive(&service, 0, 77, packet, length) == XNS_NOTHING && xns_host_receive(&service, 0, 77, packet, 20) == XNS_NOTHING);
     CHECK(xns_exchange_request(&here, &there, 1, 5, packet, 4, reply, sizeof reply, &size) == XNS_OK && xns_host_receive(&service, 0, 77, reply, size) == XNS_NOTHING);
     CHECK(xns_host_wake(&service) == XNS_NEVER);
+    free_both();
+}
+
+/* Echo requests of the broadcast host are not answered, nor is any where the settings say so. */
+static void unanswered(void) {
+    const struct xns_address echo = { 1, { 0, 0, 0xaa, 0, 1, 2 }, XNS_SOCKET_ECHO }, everybody = { 1, { 255, 255, 255, 255, 255, 255 }, 0x400 };
+    const struct xns_settings quiet = { .no_echo = 1 };
+    uint8_t packet[XNS_LONGEST_PACKET];
+    size_t length;
+    CHECK(xns_host_new(&service, &there, &usual, secret) == XNS_OK);
+    CHECK(xns_echo_request(&everybody, &echo, (const uint8_t *)"Hi", 2, packet, sizeof packet, &length) == XNS_OK);
+    CHECK(xns_host_receive(&service, 0, 0, packet, length) == XNS_NOTHING && xns_host_wake(&service) == XNS_NEVER);
+    CHECK(xns_echo_request(&here, &echo, (const uint8_t *)"Hi", 2, packet, sizeof packet, &length) == XNS_OK);
+    CHECK(xns_host_receive(&service, 0, 0, packet, length) == XNS_OK);
+    CHECK(xns_host_new(&service, &there, &quiet, secret) == XNS_OK);
+    CHECK(xns_host_receive(&service, 0, 0, packet, length) == XNS_NOTHING && xns_host_wake(&service) == XNS_NEVER);
+    free_both();
+}
+
+/* The broadcast host has no connections: it is connected to by none and from none, and a packet of it opens none. */
+static void everybody(void) {
+    const struct xns_address all = { 1, { 255, 255, 255, 255, 255, 255 }, 5 };
+    uint8_t opening[XNS_LONGEST_PACKET];
+    size_t number, none = 7, length;
+    uint64_t via;
+    open_both(&usual, &number);
+    CHECK(xns_host_next_packet(&client, now, opening, sizeof opening, &length, &via) == XNS_OK);
+    opening[0] = opening[1] = 0xff; /* no checksum */
+    memset(opening + 18 + 4, 255, 6); /* the host of its source */
+    CHECK(xns_host_receive(&service, now, 0, opening, length) == XNS_NOTHING && xns_host_connections(&service) == 0);
+    CHECK(xns_host_connect(&client, now, 0, here.socket, &all, &none) == XNS_EVERY_HOST && none == 7);
+    CHECK(xns_host_new(&client, &all, &usual, secret) == XNS_OK && xns_host_connect(&client, now, 0, here.socket, &there, &none) == XNS_EVERY_HOST);
+    free_both();
+}
+
+/* What is refused whatever is there, by number, and changes nothing. */
+static void never(void) {
+    const struct xns_address nowhere = { 1, { 0, 0, 0xaa, 0, 1, 2 }, 0 };
+    const struct xns_program good[] = { { 7, 2, 2 }, { 8, 0, 65535 } }, bad[] = { { 7, 1, 2 }, { 8, 2, 1 } };
+    size_t none = 7;
+    CHECK(xns_host_new(&client, &here, &usual, secret) == XNS_OK);
+    CHECK(xns_host_connect(&client, 0, 0, here.socket, &nowhere, &none) == XNS_NO_SOCKET && xns_host_connect(&client, 0, 0, 0, &there, &none) == XNS_NO_SOCKET);
+    CHECK(none == 7 && xns_host_connections(&client) == 0 && xns_host_wake(&client) == XNS_NEVER);
+    CHECK(xns_host_serve(&client, XNS_SOCKET_ECHO, good, 2) == XNS_ECHO_SOCKET && xns_host_serve(&client, 5, bad, 2) == XNS_NO_VERSION);
+    CHECK(xns_host_serve(&client, 5, good, 2) == XNS_OK && xns_host_serve(&client, 5, good, 0) == XNS_OK);
+    free_both();
+}
+
+/* A network that is learned late is that of new connections and of Echo replies; a connection that is there keeps its own, and goes on. */
+static void networks(void) {
+    const struct xns_address echo = { 1, { 0, 0, 0xaa, 0, 3, 4 }, XNS_SOCKET_ECHO };
+    uint8_t packet[XNS_LONGEST_PACKET];
+    struct xns_packet read;
+    size_t number, second, length;
+    uint64_t via;
+    open_both(&usual, &number);
+    CHECK(xns_host_next_packet(&client, now, packet, sizeof packet, &length, &via) == XNS_OK);
+    CHECK(xns_decode(packet, length, &read) == XNS_OK && read.source.network == 1 && xns_host_receive(&service, now, SERVICE_VIA, packet, length) == XNS_OK);
+    CHECK(xns_host_set_network(&client, 0x12345678) == XNS_OK);
+    asks(number, XNS_KIND_RETURN, 0, 2);
+    CHECK(xns_host_connect(&client, now, CLIENT_VIA, here.socket + 1, &there, &second) == XNS_OK);
+    CHECK(xns_host_next_packet(&client, now, packet, sizeof packet, &length, &via) == XNS_OK);
+    CHECK(xns_decode(packet, length, &read) == XNS_OK && read.source.network == 0x12345678 && read.target.network == 1);
+    CHECK(xns_host_receive(&service, now, SERVICE_VIA, packet, length) == XNS_OK);
+    asks(second, XNS_KIND_RETURN, 0, 2);
+    CHECK(xns_echo_request(&there, &echo, (const uint8_t *)"Hi", 2, packet, sizeof packet, &length) == XNS_OK && xns_host_receive(&client, now, 0, packet, length) == XNS_OK);
+    CHECK(xns_host_next_packet(&client, now, packet, sizeof packet, &length, &via) == XNS_OK);
+    CHECK(xns_decode(packet, length, &read) == XNS_OK && read.source.network == 0x12345678);
     free_both();
 }
 
@@ -491,6 +559,10 @@ int main(void) {
         for (size_t k = 0; k < 5; k++) converse(sizes[i], sizes[k]);
     services();
     strangers();
+    unanswered();
+    everybody();
+    never();
+    networks();
     refusals();
     short_buffers();
     silent();

@@ -26,7 +26,7 @@ static void initializers(void) {
     IS_INIT(xns_received, XNS_RECEIVED_INIT, one.took == 0 && one.acknowledged == 0 && one.reply == 0 && one.dropped == 0);
     IS_INIT(xns_endpoint, XNS_ENDPOINT_INIT, one.at == NULL && unused.at == NULL);
     IS_INIT(xns_host, XNS_HOST_INIT, one.at == NULL);
-    IS_INIT(xns_settings, XNS_SETTINGS_INIT, one.connections == 0 && one.window == 0 && one.first_wait == 0 && one.idle == 0 && one.tries == 0);
+    IS_INIT(xns_settings, XNS_SETTINGS_INIT, one.connections == 0 && one.window == 0 && one.first_wait == 0 && one.idle == 0 && one.tries == 0 && one.no_echo == 0);
     IS_INIT(xns_event, XNS_EVENT_INIT, one.kind == 0 && one.number == 0 && one.message.program == 0 && one.closed == 0 && one.fault == 0);
     IS_INIT(xns_cursor, XNS_CURSOR_INIT, one.place == 0 && one.fault == 0);
     IS_INIT(xns_program, XNS_PROGRAM_INIT, one.program == 0 && one.low == 0 && one.high == 0);
@@ -42,7 +42,7 @@ static void results(void) {
         XNS_BAD_SUM, XNS_TOO_LONG, XNS_ATTENTION_SIZE, XNS_EXHAUSTED, XNS_FULL, XNS_NO_SLOT, XNS_ODD_LENGTH, XNS_SHORT_MESSAGE, XNS_UNKNOWN_KIND, XNS_LONG_MESSAGE,
         XNS_NO_COMMON_VERSION, XNS_BAD_VERSIONS, XNS_WRONG_TRANSACTION, XNS_BAD_REPLY, XNS_OTHER_STREAM, XNS_STOPPED, XNS_BUSY, XNS_CLOSING, XNS_ATTENTION,
         XNS_TRUNCATED, XNS_NOT_BOOLEAN, XNS_OVER_MAXIMUM, XNS_NOT_LISTED, XNS_LEFT_OVER, XNS_NO_HOST, XNS_NO_CONNECTION,
-        XNS_TOO_MANY_SERVICES, XNS_PEER_CALLS, XNS_WRONG_TEXT
+        XNS_TOO_MANY_SERVICES, XNS_PEER_CALLS, XNS_EVERY_HOST, XNS_NO_SOCKET, XNS_ECHO_SOCKET, XNS_NO_VERSION, XNS_WRONG_TEXT
     };
     const size_t count = sizeof all / sizeof all[0];
     const char *none = xns_result_text((enum xns_result)127);

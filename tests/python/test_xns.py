@@ -397,6 +397,32 @@ class HostTest(unittest.TestCase):
         self.assertFalse(self.service.receive(0, 0, xns.exchange_request(THERE, HERE, 1, 5, b"")))
         self.assertTrue(self.service.receive(0, 9, REQUEST))
         self.assertEqual(list(self.service.packets(0)), [(9, REPLY)])
+        with xns.Host(HERE, answers_echo=True) as host:
+            self.assertTrue(host.receive(0, 9, REQUEST))
+        with xns.Host(HERE, answers_echo=False) as host:
+            self.assertFalse(host.receive(0, 9, REQUEST))
+
+    def test_refusals(self):
+        everybody = HERE._replace(host=bytes([255] * 6))
+        for fault, refused in (
+            (xns.EveryHostError, lambda: self.client.connect(0, 3, 7, everybody)),
+            (xns.NoSocketError, lambda: self.client.connect(0, 3, 7, HERE._replace(socket=0))),
+            (xns.NoSocketError, lambda: self.client.connect(0, 3, 0, HERE)),
+            (xns.EchoSocketError, lambda: self.service.serve(2)),
+            (xns.NoVersionError, lambda: self.service.serve(5, [(7, 1, 2), (8, 2, 1)])),
+        ):
+            with self.assertRaises(fault):
+                refused()
+        self.assertEqual(self.client.connections, 1)
+        self.call([5])
+
+    def test_network(self):
+        """A network that is learned late is that of new connections; one that is there keeps its own."""
+        self.client.set_network(0x12345678)
+        second = self.client.connect(0, 3, THERE.socket + 1, HERE._replace(socket=5))
+        networks = {xns.decode(packet).source.socket: xns.decode(packet).source.network for _, packet in self.client.packets(0)}
+        self.assertEqual(networks, {THERE.socket: THERE.network, THERE.socket + 1: 0x12345678})
+        self.assertNotEqual(second, self.number)
 
     def test_peers(self):
         self.assertEqual(self.client.peer(self.number), HERE._replace(socket=5))
@@ -420,8 +446,9 @@ class HostTest(unittest.TestCase):
                 xns.Host(HERE, **{name: value})
         with self.assertRaises(xns.BadArgumentError):
             xns.Host(HERE, longest_wait=249)
-        with self.assertRaises(TypeError):
-            xns.Host(HERE, waits=9)
+        for wrong in ({"waits": 9}, {"answers_echo": 1}):
+            with self.assertRaises(TypeError):
+                xns.Host(HERE, **wrong)
         for secret in (b"", bytes(31), bytes(33)):
             with self.assertRaises(ValueError):
                 xns.Host(HERE, secret)

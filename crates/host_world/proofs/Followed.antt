@@ -190,6 +190,7 @@ done_followed law h j did (following.abandoned_none number fault a) = each_still
 done_followed law h j did (following.found_no_room now way socket peer fault c) = each_still (MayTake None) h j (still_if h.guests.items j.guests.items (ap (λ (p : Places). p.guests) c.unchanged))
 done_followed law h j did (following.was_told_nothing t) = each_still (MayTake None) h j (nothing_told h.clock.latest (places_of h) t.next)
 done_followed law h j did (following.served socket programs result s) = each_still (MayTake None) h j (still_if h.guests.items j.guests.items (ap (λ (w : Whole). w.places.guests) s.rest))
+done_followed law h j did (following.moved network m) = each_still (MayTake None) h j (still_if h.guests.items j.guests.items (ap (λ (w : Whole). w.places.guests) m.is))
 
 -- one is gone, and each other one is as it was
 pub abandoned_followed : (number : ℕ) (h j : Host) → Abandons number (Ok tt) h j → (k : ℕ) → k ≢ number

@@ -21,7 +21,7 @@ use Rattle.xns_host.specs.declared.host.Host.{Host}
 use Rattle.xns_host.specs.declared.host_fault.HostFault.{HostFault}
 use Rattle.xns_host.specs.declared.outgoing.Outgoing.{Outgoing}
 use Rattle.host_world.specs.Dialogue.{Dialogue, new_dialogue, View, free, held, Happening, abandons, connects, opens, abandoning, connecting, opening}
-use Rattle.host_world.specs.Seen.{HasHistory, IsSaid, IsSeen, Lives, Quiet, abandons_none, begins, finds_no_room, gives_out, goes_on, has_abandoned, has_connected, has_said, is_refused, news_of, number_of, of_answer, of_call, of_close, said_at, serves, takes_in, tells_nothing, was_told}
+use Rattle.host_world.specs.Seen.{HasHistory, IsSaid, IsSeen, Lives, Quiet, abandons_none, begins, finds_no_room, gives_out, goes_on, has_abandoned, has_connected, has_said, is_refused, moves, news_of, number_of, of_answer, of_call, of_close, said_at, serves, takes_in, tells_nothing, was_told}
 use Rattle.host_world.proofs.Shown.{Passes, Shows, ShowsIn, after_answer, after_call, after_close, first_said, first_unseen, hearing, stays, unserving}
 use Rattle.host_world.proofs.Numbers.{passes_then, One, AtEach, Silent, silent, silent_if, then_silent, one_changed, unsaid, of_guest, set_changed, turned, all_act, next_packet, next_event, no_event, connected_shows, opened_shows, taking}
 
@@ -103,6 +103,7 @@ quietly h j (tells_nothing t) = no_event h.clock.latest (places_of h) t.next
 quietly h j (takes_in now way bytes result t) = comes (time_at h.clock now) way bytes (whole_of h) t.comes
 quietly h j (gives_out now result g) = giving now result h j g h.strays.waiting refl
 quietly h j (serves socket programs result s) = silent_if h.guests.items j.guests.items (ap (λ (w : Whole). w.places.guests) s.rest)
+quietly h j (moves network m) = silent_if h.guests.items j.guests.items (ap (λ (w : Whole). w.places.guests) m.is)
 
 -- ---- from a new host on
 

@@ -12,7 +12,7 @@ use Rattle.xns_connection.specs.Deeds as deeds
 use Rattle.xns_connection.specs.Deeds.{Deed}
 use Rattle.xns_connection.specs.Living.{Deeds}
 use Rattle.xns_connection.specs.Story.{asked_of}
-use Rattle.xns_host.specs.Turn.{Abandons, ConnectsTo, ServesAt, TellsNext, Turn}
+use Rattle.xns_host.specs.Turn.{Abandons, ConnectsTo, MovesTo, ServesAt, TellsNext, Turn}
 use Rattle.xns_connection.specs.declared.conversation.Conversation.{Conversation}
 use Rattle.xns_host.specs.declared.event.Event.{Event}
 use Rattle.xns_host.specs.declared.event.Event.TheVariants as events
@@ -85,6 +85,7 @@ pub data HasDone (h j : Host) : (ℕ → Deeds → Deeds) → Type 0 where
   was_told_nothing : TellsNext None h j → HasDone h j (λ k. no_more)
   served : (socket : ℕ) (programs : List Program) (result : Result (Unit {0}) HostFault) → ServesAt socket programs result h j
       → HasDone h j (λ k. no_more)
+  moved : (network : ℕ) → MovesTo network h j → HasDone h j (λ k. no_more)
 
 -- a packet went out that the connection with this number gave, or none did that a connection gave
 pub data HasGiven (result : Result (Option Outgoing) HostFault) : (ℕ → List (List ℕ)) → Type 0 where

@@ -105,11 +105,23 @@ pub unused : ok ≡ no_slot → ⊥
 unused e = omega (arith, e)
 
 -- where it is told that there is no room, there is none
-pub no_room_by : (r : Result ℕ HostFault) (fault : HostFault) (P : Type 0) → r ≡ Err fault → OnErr r ((r ≡ Err NoRoom) ⊎ (r ≡ Err NoMemory)) → (r ≡ Err NoRoom → P)
-    → host_fault_number fault ≡ no_slot → P
-no_room_by (Ok n) fault P is why room full = absurd (cc)
-no_room_by (Err e) fault P is (inl none) room full = room none
-no_room_by (Err e) fault P is (inr short) room full =
-    let other : fault ≡ NoMemory = cc in
-    let number : no_memory ≡ no_slot = sym (ap host_fault_number other) ∙ full in
-    absurd (omega (arith, number))
+pub no_room_by : (r : Result ℕ HostFault) (fault : HostFault) (W P : Type 0) → r ≡ Err fault → W
+    → OnErr r (W → (r ≡ Err NoRoom) ⊎ (r ≡ Err NoMemory)) → (r ≡ Err NoRoom → P) → host_fault_number fault ≡ no_slot → P
+no_room_by (Ok n) fault W P is right why room full = absurd (cc)
+no_room_by (Err e) fault W P is right why room full = elim (why right) [
+  | inl none ↦ room none
+  | inr short ↦
+      let other : fault ≡ NoMemory = cc in
+      let number : no_memory ≡ no_slot = sym (ap host_fault_number other) ∙ full in
+      absurd (omega (arith, number))
+]
+
+-- what is told where it was refused though its ends are right
+pub fault_by : (r : Result ℕ HostFault) (fault : HostFault) (W : Type 0) → r ≡ Err fault → W
+    → OnErr r (W → (r ≡ Err NoRoom) ⊎ (r ≡ Err NoMemory)) → (number : ℕ) → number ≡ host_fault_number fault
+    → (number ≡ no_slot) ⊎ (number ≡ no_memory)
+fault_by (Ok n) fault W is right why number told = absurd (cc)
+fault_by (Err e) fault W is right why number told = elim (why right) [
+  | inl none ↦ let same : fault ≡ NoRoom = cc in inl (told ∙ ap host_fault_number same)
+  | inr short ↦ let same : fault ≡ NoMemory = cc in inr (told ∙ ap host_fault_number same)
+]

@@ -11,11 +11,11 @@ use Rattle.courier_sessions.specs.declared.feed_refusal.FeedRefusal.{FeedRefusal
 use Rattle.courier_sessions.specs.declared.feed_refusal.FeedRefusal.TheVariants as unfed
 use Rattle.xns_host.specs.declared.host_fault.HostFault.{HostFault}
 use Rattle.xns_host.specs.declared.host_fault.HostFault.TheVariants.{OutOfRange, NoConnection, NoRoom, TooManyServices, Busy, PeerCalls}
-use Rattle.xns_host.specs.declared.host_fault.HostFault.TheVariants.{NoCall, Closing, TooLong, NoMemory}
+use Rattle.xns_host.specs.declared.host_fault.HostFault.TheVariants.{NoCall, Closing, TooLong, NoMemory, EveryHost, NoSocket, EchoSocket, NoVersion}
 use Rattle.xns_connection.specs.declared.why.Why.{Why}
 use Rattle.xns_connection.specs.declared.why.Why.TheVariants.{Asked, ByPeer, Silent, NotServed, Refused}
 use Rattle.xns_c.specs.Results.{ok, nothing, no_memory, bad_argument, too_long, no_slot, stopped, busy, closing, attention}
-use Rattle.xns_c.specs.Results.{no_connection, too_many_services, peer_calls}
+use Rattle.xns_c.specs.Results.{no_connection, too_many_services, peer_calls, every_host, no_socket, echo_socket, no_version}
 
 -- ---- what a peer said
 
@@ -68,6 +68,10 @@ abbrev pub host_fault_number : HostFault → ℕ
 host_fault_number (OutOfRange setting) = bad_argument
 host_fault_number (NoConnection number) = no_connection
 host_fault_number NoRoom = no_slot
+host_fault_number EveryHost = every_host
+host_fault_number NoSocket = no_socket
+host_fault_number EchoSocket = echo_socket
+host_fault_number NoVersion = no_version
 host_fault_number TooManyServices = too_many_services
 host_fault_number Busy = busy
 host_fault_number PeerCalls = peer_calls

@@ -5,10 +5,10 @@ use Rattle.courier_sessions.specs.declared.answer.Answer.{Answer}
 use Rattle.courier_sessions.specs.declared.program.Program.{Program}
 use Rattle.xns_idp.specs.declared.address.Address.{Address}
 use Rattle.xns_connection.specs.Deeds.{Deed, asked, gave, made}
-use Rattle.xns_host.specs.Refusing.{TellsRefusal}
+use Rattle.xns_host.specs.Refusing.{TellsRefusal, wrong_ends}
 use Rattle.xns_host.specs.Standing.{IsNewHost}
-use Rattle.xns_host.specs.Turn.{Abandons, ConnectsTo, GivesOut, ServesAt, ServesNot, TakesIn, TellsNext, Turn, WakesAt}
-use Rattle.xns_host.specs.Hosting.{HasNoRoom, IsAllInUse, has_guest}
+use Rattle.xns_host.specs.Turn.{Abandons, ConnectsTo, GivesOut, MovesTo, ServesAt, ServesNot, TakesIn, TellsNext, Turn, WakesAt}
+use Rattle.xns_host.specs.Hosting.{HasNoRoom, IsAllInUse, address_in, has_guest}
 use Rattle.xns_host.specs.Numbers.{IsNumberFrom}
 use Rattle.xns_connection.specs.Reasons.{call_fault_of, answer_fault_of}
 use Rattle.xns_connection.specs.declared.conversation.Conversation.{Conversation}
@@ -101,7 +101,12 @@ pub record Serves (k n : KeptHost) (socket : ℕ) (programs : List Program) (res
   pub answer : Result (Unit {0}) HostFault
   pub told : result ≡ host_told answer
   pub serves : ServesAt socket programs answer k.host n.host
-  pub refused : ServesNot k.host socket answer
+  pub refused : ServesNot k.host socket programs answer
+  pub kept : StaysKept k n
+
+-- the host is at this network from now on, and nothing else changed
+pub record Moves (k n : KeptHost) (network : ℕ) : Type 0 where
+  pub moves : MovesTo network k.host n.host
   pub kept : StaysKept k n
 
 -- what the host says of whether a packet was for it
@@ -146,12 +151,17 @@ abbrev pub number_told : Result ℕ HostFault → ℕ
 number_told (Ok number) = ok
 number_told (Err fault) = host_fault_number fault
 
+-- why no connection is opened from this socket to there, whatever is there
+abbrev pub ends_fault : KeptHost → ℕ → Address → Option HostFault
+ends_fault k socket to = wrong_ends (address_in k.host.network k.host.host socket) to
+
 -- a new connection has this number; or none is made, and why
 pub record Connects (k n : KeptHost) (now socket : ℕ) (to : Address) (way number result : ℕ) : Type 0 where
-  pub full : HasNoRoom k.host.guests.items → result ≡ no_slot
-  pub used : IsAllInUse k.host.register.identifiers → result ≡ no_slot
-  pub room : result ≡ no_slot → HasNoRoom k.host.guests.items ⊎ IsAllInUse k.host.register.identifiers
-  pub fault : result ≢ ok → (result ≡ no_slot) ⊎ (result ≡ no_memory)
+  pub wrong : (f : HostFault) → ends_fault k socket to ≡ Some f → result ≡ host_fault_number f
+  pub full : ends_fault k socket to ≡ None → HasNoRoom k.host.guests.items → result ≡ no_slot
+  pub used : ends_fault k socket to ≡ None → IsAllInUse k.host.register.identifiers → result ≡ no_slot
+  pub room : ends_fault k socket to ≡ None → result ≡ no_slot → HasNoRoom k.host.guests.items ⊎ IsAllInUse k.host.register.identifiers
+  pub fault : ends_fault k socket to ≡ None → result ≢ ok → (result ≡ no_slot) ⊎ (result ≡ no_memory)
   pub answer : Result ℕ HostFault
   pub told : result ≡ number_told answer
   pub found : (i : ℕ) → answer ≡ Ok i → number ≡ i

@@ -74,6 +74,18 @@ too_many_services = 83
 abbrev pub peer_calls : ℕ
 peer_calls = 84
 
+abbrev pub every_host : ℕ
+every_host = 85
+
+abbrev pub no_socket : ℕ
+no_socket = 86
+
+abbrev pub echo_socket : ℕ
+echo_socket = 87
+
+abbrev pub no_version : ℕ
+no_version = 88
+
 abbrev pub wrong_text : ℕ
 wrong_text = 91
 

@@ -25,6 +25,7 @@ settings_in s = record {
   idle = idle_in usual_settings.idle s.idle;
   tries = given_or usual_settings.tries s.tries;
   strays = usual_settings.strays;
+  answers_echo = s.no_echo == 0;
 }
 
 -- a time that does not come

@@ -6,8 +6,8 @@ ghost use Rattle.xns_c.specs.Faults.{host_fault_number, host_told};
 ghost use Rattle.xns_c.specs.Results.{ok};
 
 use crate::results::{
-    ATTENTION, BAD_ARGUMENT, BUSY, CLOSING, NO_CONNECTION, NO_MEMORY, NO_SLOT, NOTHING, OK,
-    PEER_CALLS, STOPPED, TOO_LONG, TOO_MANY_SERVICES,
+    ATTENTION, BAD_ARGUMENT, BUSY, CLOSING, ECHO_SOCKET, EVERY_HOST, NO_CONNECTION, NO_MEMORY,
+    NO_SLOT, NO_SOCKET, NO_VERSION, NOTHING, OK, PEER_CALLS, STOPPED, TOO_LONG, TOO_MANY_SERVICES,
 };
 use courier_messages::{MessageFault, SessionFault};
 use courier_sessions::FeedRefusal;
@@ -88,6 +88,10 @@ pub fn host_fault_number(fault: HostFault) -> u32
         HostFault::OutOfRange { setting: _ } => BAD_ARGUMENT,
         HostFault::NoConnection { number: _ } => NO_CONNECTION,
         HostFault::NoRoom => NO_SLOT,
+        HostFault::EveryHost => EVERY_HOST,
+        HostFault::NoSocket => NO_SOCKET,
+        HostFault::EchoSocket => ECHO_SOCKET,
+        HostFault::NoVersion => NO_VERSION,
         HostFault::TooManyServices => TOO_MANY_SERVICES,
         HostFault::Busy => BUSY,
         HostFault::PeerCalls => PEER_CALLS,

@@ -11,7 +11,7 @@ ghost use Rattle.xns_host.specs.declared.host_fault.HostFault.TheVariants.{NoMem
 ghost use Rattle.xns_host.specs.declared.setting.Setting.{Setting};
 ghost use Rattle.xns_c.specs.Handle.{kept_of};
 ghost use Rattle.xns_c.specs.Heads.{answer_in};
-ghost use Rattle.xns_c.specs.Hosts.{AbandonsOne, Does, Calls, AnswersCall, Closes, Connects, Serves, Receives, WalksOn, Wakes, FetchesEvent, FetchesPacket};
+ghost use Rattle.xns_c.specs.Hosts.{AbandonsOne, Does, Calls, AnswersCall, Closes, Connects, Moves, Serves, Receives, WalksOn, Wakes, FetchesEvent, FetchesPacket};
 ghost use Rattle.xns_c.specs.Hosts.{IsNew, guest_at};
 ghost use Rattle.xns_c.specs.Results.{ok, no_host, no_connection, no_memory, bad_argument};
 ghost use Rattle.xns_c.specs.Settings.{settings_in, never};
@@ -92,10 +92,26 @@ pub extern "C" fn xns_host_clear(alloc: Global, handle: &mut XnsHost)
     let _freed = handle.take(alloc);
 }
 
+/// The host is at this network from now on: new connections and Echo replies have its number. Those that are there keep theirs.
+///
+/// `NO_HOST`.
+#[unsafe(no_mangle)]
+pub extern "C" fn xns_host_set_network(alloc: Global, handle: &mut XnsHost, network: u32) -> u32
+    ensures moves { Does (kept_of handle.old) (kept_of handle.new) result (λ k n. (result ≡ ok) × Moves k n network) }
+{
+    let Some(mut kept) = handle.take(alloc) else {
+        return NO_HOST;
+    };
+    kept.set_network(network);
+    handle.put(kept);
+    OK
+}
+
 /// From now on connections that peers open to this socket are answered, for these programs, which are copied; where there are none, each
 /// call is handed. If the socket is served already, its list is replaced for new connections.
 ///
-/// `NO_HOST`; `NO_MEMORY`; `TOO_MANY_SERVICES` where 16 other sockets are served.
+/// `NO_HOST`; `ECHO_SOCKET` for socket 2; `NO_VERSION` where the lowest version of a program is above its highest; `NO_MEMORY`;
+/// `TOO_MANY_SERVICES` where 16 other sockets are served.
 #[unsafe(no_mangle)]
 pub extern "C" fn xns_host_serve(
     alloc: Global,
@@ -115,7 +131,8 @@ pub extern "C" fn xns_host_serve(
 
 /// Opens a connection from this socket of ours to the peer, whose side calls, and tells its number. Its packets go out by this `via`.
 ///
-/// `NO_HOST`; `NO_SLOT` where as many connections are there as the host may have, and none gives way; `NO_MEMORY`.
+/// `NO_HOST`; `EVERY_HOST` to or from the broadcast host; `NO_SOCKET` to or from socket 0; `NO_SLOT` where as many connections are there as
+/// the host may have, and none gives way; `NO_MEMORY`.
 #[unsafe(no_mangle)]
 pub extern "C" fn xns_host_connect(
     alloc: Global,

@@ -10,7 +10,7 @@ ghost use Rattle.xns_host.specs.declared.host_fault.HostFault.TheVariants.{NoMem
 ghost use Rattle.xns_host.specs.declared.outgoing.Outgoing.{Outgoing};
 ghost use Rattle.xns_host.specs.declared.setting.Setting.{Setting};
 ghost use Rattle.xns_c.specs.Heads.{answer_in};
-ghost use Rattle.xns_c.specs.Hosts.{AbandonsOne, Calls, AnswersCall, Closes, Connects, Serves, Receives, Wakes, FetchesEvent, FetchesPacket};
+ghost use Rattle.xns_c.specs.Hosts.{AbandonsOne, Calls, AnswersCall, Closes, Connects, Moves, Serves, Receives, Wakes, FetchesEvent, FetchesPacket};
 ghost use Rattle.xns_c.specs.Hosts.{answer_of, kept_after};
 ghost use Rattle.xns_c.specs.Results.{ok};
 ghost use Rattle.xns_c.specs.Structs.{address_in};
@@ -59,6 +59,13 @@ impl KeptHost {
             event: None,
             packet: None,
         })
+    }
+
+    /// Tells the host its network.
+    pub fn set_network(&mut self, network: u32)
+        ensures { Moves self.old self.new network }
+    {
+        self.host.set_network(network);
     }
 
     /// Answers connections to this socket from now on, for these programs.

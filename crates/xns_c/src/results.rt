@@ -72,6 +72,18 @@ pub const TOO_MANY_SERVICES: u32 = 83;
 /// The peer opened the connection: its side calls.
 pub const PEER_CALLS: u32 = 84;
 
+/// A connection is to the broadcast host, or from it.
+pub const EVERY_HOST: u32 = 85;
+
+/// A connection is to socket 0, or from it.
+pub const NO_SOCKET: u32 = 86;
+
+/// A service is at Echo's socket.
+pub const ECHO_SOCKET: u32 = 87;
+
+/// The lowest version of a program that is to be served is above its highest.
+pub const NO_VERSION: u32 = 88;
+
 /// A text is no program of Courier's notation.
 pub const WRONG_TEXT: u32 = 91;
 

@@ -21,6 +21,8 @@ pub struct XnsSettings {
     pub idle: u32,
     /// How many waits without a word of the peer are borne.
     pub tries: u8,
+    /// Whether Echo requests are left unanswered: 0 is no.
+    pub no_echo: u8,
 }
 
 /// A number of things, or the usual one where it is 0.
@@ -72,6 +74,7 @@ impl XnsSettings {
             idle: idle_in(self.idle, usual.idle),
             tries: tries_in(self.tries, usual.tries),
             strays: usual.strays,
+            answers_echo: self.no_echo == 0,
         }
     }
 }

@@ -1,6 +1,6 @@
 -- What comes of a packet at a host, from what its parts say.
 use Rattle.std.proofs.Common.{◌≡◌, ◌≢◌, ◌∙◌, ◌⊎◌, ap, refl, subst, sym, ℕ, List, Bool, true, false, Some, None, Ok, slice_get}
-use Rattle.xns_idp.specs.Packet.{PacketModel}
+use Rattle.xns_idp.specs.Packet.{PacketModel, broadcast}
 use Rattle.xns_idp.specs.Reading.{packet_of}
 use Rattle.xns_small.specs.Echo.{echo_reply}
 use Rattle.xns_spp.specs.Packet.{SppPacketModel, opener_of, spp_packet_of}
@@ -85,13 +85,13 @@ comes_heard now way b w v false p number is here named turn never rest eq =
     none_comes now way b w v (never refl) (eq ∙ with_places w w.register w.register v.places w.places refl (rest refl))
 
 pub comes_opened : (now way : ℕ) (b : List ℕ) (w v : Whole) (r : Bool) (p : SppPacketModel) → spp_packet_of b ≡ Ok p → p.target.host ≡ w.host
-    → named_in w.register p ≡ None → (r ≡ true → Opens now way b p w v.register v.strays v.places)
+    → p.source.host ≢ broadcast → named_in w.register p ≡ None → (r ≡ true → Opens now way b p w v.register v.strays v.places)
     → (r ≡ true → (opener_of p ≢ None) × (programs_at w.services.programs p.target.socket ≢ None)) → (r ≡ false → IsOurs w b → ⊥)
     → (r ≡ false → v ≡ w) → v ≡ record w { register = v.register; strays = v.strays; places = v.places } → Comes now way b w r v
-comes_opened now way b w v true p is here named turn opener never rest eq =
+comes_opened now way b w v true p is here one_host named turn opener never rest eq =
     subst (λ (x : Whole). Comes now way b w true x) (sym eq)
-    (opens p is (record { here = here; unnamed = named; opener = (opener refl).0; served = (opener refl).1 }) (turn refl))
-comes_opened now way b w v false p is here named turn opener never rest eq =
+    (opens p is (record { here = here; one_host = one_host; unnamed = named; opener = (opener refl).0; served = (opener refl).1 }) (turn refl))
+comes_opened now way b w v false p is here one_host named turn opener never rest eq =
     none_comes now way b w v (never refl) (rest refl)
 
 pub full_by : (now way : ℕ) (b : List ℕ) (p : SppPacketModel) (w : Whole) (r : Register) (s : StrayQueue) (q : Places) → s ≡ w.strays → q ≡ w.places

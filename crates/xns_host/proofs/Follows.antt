@@ -13,7 +13,7 @@ use Rattle.xns_spp.specs.State.{State}
 use Rattle.xns_spp.specs.Telling.{own_name}
 use Rattle.xns_spp.specs.declared.ends.Ends.{Ends}
 use Rattle.xns_host.specs.Coming.{Comes, echoes, foreign, hears, opens, refuses}
-use Rattle.xns_host.specs.Following.{AConnectionHearsItsPackets, AQuotedOpeningIsNotServed, ASilentHostHasNothingToTell, AnIdleHostHasNoPacket}
+use Rattle.xns_host.specs.Following.{AConnectionHearsItsPackets, AQuotedOpeningIsNotServed, ASilentHostHasNothingToTell, AnIdleHostHasNoPacket, NoNetworkDecides}
 use Rattle.xns_host.specs.Hosting.{HasNoPacket, IsPacketOf, IsRefusedBy, confirms}
 use Rattle.xns_host.specs.Ours.{Names, QuotesOurs}
 use Rattle.xns_host.specs.Ours as ours
@@ -87,7 +87,7 @@ heard_in : (now way : ℕ) (b : List ℕ) (w v : Whole) (r : Bool) (p : SppPacke
 unfolding names_it
 heard_in now way b w v r p n g all (foreign never) is of there = absurd (never (ours.names p is (names_it w p n g all of there)))
 heard_in now way b w v r p n g all (echoes c taken read asks waits) is of there =
-    let bad : 2 ≡ 5 = sym asks.kind ∙ sequenced_kind b c taken p read is in absurd (omega (arith, bad))
+    let bad : 2 ≡ 5 = sym asks.request.kind ∙ sequenced_kind b c taken p read is in absurd (omega (arith, bad))
 heard_in now way b w v r p n g all (refuses c taken read quotes turn) is of there =
     let bad : 3 ≡ 5 = sym quotes.kind ∙ sequenced_kind b c taken p read is in absurd (omega (arith, bad))
 heard_in now way b w v r p n g all (hears q {q = places} read names turn) is of there =
@@ -137,7 +137,7 @@ unserved_in : (now way : ℕ) (b : List ℕ) (w v : Whole) (r : Bool) (p : Packe
 unfolding quotes_it
 unserved_in now way b w v r p taken n g all (foreign never) is by there = absurd (never (ours.quotes p taken is (quotes_it w p n g all by there)))
 unserved_in now way b w v r p taken n g all (echoes c other read asks waits) is by there =
-    let bad : 2 ≡ 3 = sym asks.kind ∙ (ap (λ (x : PacketModel). x.kind) (same_packet b c p other taken read is) ∙ by.kind) in
+    let bad : 2 ≡ 3 = sym asks.request.kind ∙ (ap (λ (x : PacketModel). x.kind) (same_packet b c p other taken read is) ∙ by.kind) in
     absurd (omega (arith, bad))
 unserved_in now way b w v r p taken n g all (refuses c other {q = places} read quotes turn) is by there =
     let same : c ≡ p = same_packet b c p other taken read is in
@@ -155,3 +155,27 @@ unserved_in now way b w v r p taken n g all (opens q read opener made) is by the
 pub a_quoted_one_is_unserved : AQuotedOpeningIsNotServed
 a_quoted_one_is_unserved now way number taken bytes result old new p g takes is by there =
     unserved_in _ way bytes (whole_of old) (whole_of new) result p taken number g old.registered takes.comes is by there
+
+-- ---- the network
+
+pub no_network_decides : NoNetworkDecides
+no_network_decides w network bytes (ours.asks p taken read asks) =
+    ours.asks p taken read (record {
+      answers = asks.answers;
+      one_host = asks.one_host;
+      request = record { kind = asks.request.kind; request = asks.request.request; socket = asks.request.socket; host = asks.request.host };
+    })
+no_network_decides w network bytes (ours.quotes p taken read q) =
+    ours.quotes p taken read (record {
+      kind = q.kind;
+      here = q.here;
+      quote = q.quote;
+      quoted = q.quoted;
+      number = q.number;
+      owner = q.owner;
+      there = q.there;
+    })
+no_network_decides w network bytes (ours.names p read n) =
+    ours.names p read (record { here = n.here; number = n.number; named = n.named; there = n.there })
+no_network_decides w network bytes (ours.opens p read o) =
+    ours.opens p read (record { here = o.here; one_host = o.one_host; unnamed = o.unnamed; opener = o.opener; served = o.served })

@@ -47,7 +47,7 @@ echo_not_ours w b c taken read kind never =
 pub error_not_ours : (w : Whole) (b : List ℕ) (c : PacketModel) (taken : ℕ) → packet_of b ≡ Ok (c, taken) → c.kind ≡ 3 → (QuotesOurs w c → ⊥)
     → IsOurs w b → ⊥
 error_not_ours w b c taken read kind never =
-    none_ours w b c taken read (λ a. let bad : 3 ≡ 2 = sym kind ∙ a.kind in omega (arith, bad)) never
+    none_ours w b c taken read (λ a. let bad : 3 ≡ 2 = sym kind ∙ a.request.kind in omega (arith, bad)) never
     (λ p is n. not_sequenced b c taken p read (λ five. let bad : 3 ≡ 5 = sym kind ∙ five in omega (arith, bad)) is)
     (λ p is n. not_sequenced b c taken p read (λ five. let bad : 3 ≡ 5 = sym kind ∙ five in omega (arith, bad)) is)
 
@@ -55,13 +55,13 @@ pub sequenced_not_ours : (w : Whole) (b : List ℕ) (c : PacketModel) (taken : �
     → ((p : SppPacketModel) → spp_packet_of b ≡ Ok p → Names w p → ⊥) → ((p : SppPacketModel) → spp_packet_of b ≡ Ok p → IsOpener w p → ⊥)
     → IsOurs w b → ⊥
 sequenced_not_ours w b c taken read kind name opening =
-    none_ours w b c taken read (λ a. let bad : 5 ≡ 2 = sym kind ∙ a.kind in omega (arith, bad))
+    none_ours w b c taken read (λ a. let bad : 5 ≡ 2 = sym kind ∙ a.request.kind in omega (arith, bad))
     (λ q. let bad : 5 ≡ 3 = sym kind ∙ q.kind in omega (arith, bad)) name opening
 
 pub other_not_ours : (w : Whole) (b : List ℕ) (c : PacketModel) (taken : ℕ) → packet_of b ≡ Ok (c, taken) → (c.kind ≡ 2 → ⊥) → (c.kind ≡ 3 → ⊥)
     → (c.kind ≡ 5 → ⊥) → IsOurs w b → ⊥
 other_not_ours w b c taken read echo error sequenced =
-    none_ours w b c taken read (λ a. echo a.kind) (λ q. error q.kind) (λ p is n. not_sequenced b c taken p read sequenced is)
+    none_ours w b c taken read (λ a. echo a.request.kind) (λ q. error q.kind) (λ p is n. not_sequenced b c taken p read sequenced is)
     (λ p is n. not_sequenced b c taken p read sequenced is)
 
 never_read : (b : List ℕ) (r : Result (Packet × ℕ) IdpFault) (p : PacketModel) (n : ℕ) → decode_model r ≡ packet_of b

@@ -2,6 +2,7 @@ mod Again
 mod Apart
 mod Comings
 mod Done
+mod Echoes
 mod Ends
 mod Fetching
 mod Follows

@@ -5,9 +5,11 @@ use Rattle.xns_idp.specs.Reading.{packet_of}
 use Rattle.xns_spp.specs.Packet.{SppPacketModel, spp_packet_of}
 use Rattle.xns_agenda.specs.Clock.{time_at}
 use Rattle.xns_host.specs.Hosting.{HasNoEvent, HasNoPacket, IsPacketOf, IsRefusedBy, confirms}
+use Rattle.xns_host.specs.Ours.{IsOurs}
 use Rattle.xns_host.specs.Places.{Turns}
 use Rattle.xns_host.specs.Turn.{GivesOut, TakesIn, TellsNext, places_of}
 use Rattle.xns_host.specs.Went.{GuestHears, GuestUnserved}
+use Rattle.xns_host.specs.Whole.{Whole}
 use Rattle.xns_host.specs.declared.guest.Guest.{Guest}
 use Rattle.xns_host.specs.declared.host.Host.{Host}
 
@@ -25,6 +27,10 @@ AConnectionHearsItsPackets = (now way number : ℕ) (bytes : List ℕ) (result :
     → TakesIn now way bytes result old new → spp_packet_of bytes ≡ Ok p → IsPacketOf old.host p g
     → slice_get old.guests.items number ≡ Some (Some g)
     → (result ≡ true) × Turns (GuestHears (time_at old.clock now) bytes (confirms p)) number (places_of old) (places_of new)
+
+-- a packet that is a host's is so at each network that the host is told to be at
+abbrev pub NoNetworkDecides : Type 0
+NoNetworkDecides = (w : Whole) (network : ℕ) (bytes : List ℕ) → IsOurs w bytes → IsOurs (record w { network = network }) bytes
 
 -- an Error packet that quotes the opening packet of a connection is the host's, and that connection is not served
 abbrev pub AQuotedOpeningIsNotServed : Type 0

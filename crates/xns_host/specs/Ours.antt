@@ -1,6 +1,6 @@
 -- Which packets are a host's.
 use Rattle.std.specs.Prelude.{◌≡◌, ◌≢◌, ℕ, List, true, Some, None, Ok, slice_get}
-use Rattle.xns_idp.specs.Packet.{PacketModel}
+use Rattle.xns_idp.specs.Packet.{PacketModel, broadcast}
 use Rattle.xns_idp.specs.Reading.{packet_of}
 use Rattle.xns_idp.specs.declared.packet_type.TheConstants.{ERROR}
 use Rattle.xns_small.specs.Echo.{IsAnswered}
@@ -33,9 +33,11 @@ pub record Names (w : Whole) (p : SppPacketModel) : Type 0 where
   pub named : named_in w.register p ≡ Some number
   pub there : IsThere (IsOf p) (slice_get w.places.guests number)
 
--- a packet to this host opens a connection, where there is room: it names none, its sender has an identifier, and its socket is served
+-- a packet to this host opens a connection, where there is room: it comes from one host, names no connection, its sender has an identifier,
+-- and its socket is served
 pub record IsOpener (w : Whole) (p : SppPacketModel) : Type 0 where
   pub here : p.target.host ≡ w.host
+  pub one_host : p.source.host ≢ broadcast
   pub unnamed : named_in w.register p ≡ None
   pub opener : opener_of p ≢ None
   pub served : programs_at w.services.programs p.target.socket ≢ None
@@ -50,9 +52,11 @@ pub record QuotesOurs (w : Whole) (p : PacketModel) : Type 0 where
   pub owner : owner_in w.register.identifiers quote.id ≡ Some number
   pub there : IsThere (IsToOpen quote) (slice_get w.places.guests number)
 
--- a packet asks this host for an Echo reply
-abbrev pub AsksEcho : Whole → PacketModel → Type 0
-AsksEcho w p = IsAnswered (address_in w.network w.host echo_socket) p
+-- a packet of one host asks this host for an Echo reply, which it gives by its settings
+pub record AsksEcho (w : Whole) (p : PacketModel) : Type 0 where
+  pub answers : w.settings.answers_echo ≡ true
+  pub one_host : p.source.host ≢ broadcast
+  pub request : IsAnswered (address_in w.network w.host echo_socket) p
 
 -- these bytes are a packet that is the host's: an Echo request to it, or one of those
 pub data IsOurs (w : Whole) (bytes : List ℕ) : Type 0 where

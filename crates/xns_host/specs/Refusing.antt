@@ -1,10 +1,16 @@
--- What a host tells where one of its connections refuses.
-use Rattle.std.specs.Prelude.{◌≡◌, Option, Result, Ok, Err}
+-- What a host refuses, and what it tells where one of its connections refuses.
+use Rattle.std.specs.Prelude.{◌≡◌, ℕ, Bool, ◌||◌, ◌==◌, nat_lt, if◌then◌else◌, List, Option, Some, None, Result, Ok, Err}
+use Rattle.std.specs.List.{list_any}
+use Rattle.std.specs.Str.{bytes_eq}
+use Rattle.courier_sessions.specs.declared.program.Program.{Program}
+use Rattle.xns_idp.specs.Packet.{broadcast}
+use Rattle.xns_idp.specs.declared.address.Address.{Address}
 use Rattle.xns_connection.specs.Refusing.{Answers}
 use Rattle.xns_connection.specs.declared.refusal.Refusal.{Refusal}
 use Rattle.xns_connection.specs.declared.refusal.Refusal.TheVariants as refusals
 use Rattle.xns_host.specs.declared.host_fault.HostFault.{HostFault}
-use Rattle.xns_host.specs.declared.host_fault.HostFault.TheVariants.{Busy, PeerCalls, NoCall, Closing, TooLong, NoMemory}
+use Rattle.xns_host.specs.declared.host_fault.HostFault.TheVariants.{Busy, PeerCalls, NoCall, Closing, TooLong, NoMemory, EveryHost, NoSocket, EchoSocket, NoVersion}
+use Rattle.xns_host.specs.Strays.{echo_socket}
 
 abbrev pub fault_of : Refusal → HostFault
 fault_of refusals.Busy = Busy
@@ -24,3 +30,25 @@ pub record TellsRefusal (reason : Option Refusal) (result : Result (Unit {0}) Ho
   pub done : Result (Unit {0}) Refusal
   pub answers : Answers reason done
   pub is : result ≡ told done
+
+-- ---- whatever is there
+
+-- it is the broadcast host's, which is every host
+abbrev pub is_every_host : Address → Bool
+is_every_host a = bytes_eq a.host broadcast
+
+-- why no connection is opened from an address to another: one of them is every host's, or has no socket
+abbrev pub wrong_ends : (own peer : Address) → Option HostFault
+wrong_ends own peer =
+    if is_every_host own || is_every_host peer then Some EveryHost
+    else if own.socket == 0 || peer.socket == 0 then Some NoSocket
+    else None
+
+-- its lowest version is above its highest
+abbrev pub has_no_version : Program → Bool
+has_no_version p = nat_lt p.highest p.lowest
+
+-- why programs are not served at a socket: it is Echo's, or one of them has no version
+abbrev pub wrong_service : ℕ → List Program → Option HostFault
+wrong_service socket programs =
+    if socket == echo_socket then Some EchoSocket else if list_any has_no_version programs then Some NoVersion else None

@@ -10,6 +10,7 @@ use Rattle.xns_connection.specs.Deeds.{Deed}
 use Rattle.xns_host.specs.Hosting.{IsApart, IsConnected, IsFirstWant, IsPlace, address_in, facts_in}
 use Rattle.xns_host.specs.Identifiers.{StaysInOrder, TurnsOver}
 use Rattle.xns_host.specs.Places.{ActsAll, NextEvent, NextPacket, Places, places_with, taken_by, vacated}
+use Rattle.xns_host.specs.Refusing.{wrong_service}
 use Rattle.xns_host.specs.Registered.{HasLeft}
 use Rattle.xns_host.specs.Services.{Serves, most_services, programs_at}
 use Rattle.xns_host.specs.Standing.{StaysSetUpAt}
@@ -110,6 +111,13 @@ pub record Abandons (number : ℕ) (result : Result (Unit {0}) HostFault) (old n
   pub rest : whole_of new ≡ record (whole_of old) { register = new.register; places = places_of new }
   pub clock : new.clock ≡ old.clock
 
+-- ---- a network that is learned late
+
+-- the host is at this network from now on; nothing else changed, so connections that are there keep theirs
+pub record MovesTo (network : ℕ) (old new : Host) : Type 0 where
+  pub is : whole_of new ≡ record (whole_of old) { network = network }
+  pub clock : new.clock ≡ old.clock
+
 -- ---- a socket that is served
 
 -- from now on these programs are served at this socket, or nothing is served that was not; nothing else changed
@@ -119,11 +127,14 @@ pub record ServesAt (socket : ℕ) (programs : List Program) (result : Result (U
   pub rest : whole_of new ≡ record (whole_of old) { services = new.services }
   pub clock : new.clock ≡ old.clock
 
--- it is refused where so many other sockets are served, or where memory is
-pub record ServesNot (old : Host) (socket : ℕ) (result : Result (Unit {0}) HostFault) : Type 0 where
-  pub full : result ≡ Err TooManyServices → (programs_at old.services.programs socket ≡ None) × (btree_map_len old.services.programs ≡ most_services)
-  pub room : programs_at old.services.programs socket ≡ None → btree_map_len old.services.programs ≡ most_services → result ≡ Err TooManyServices
-  pub fault : OnErr result ((result ≡ Err TooManyServices) ⊎ (result ≡ Err NoMemory))
+-- it is refused where the socket or a program is wrong, where so many other sockets are served, or where memory is
+pub record ServesNot (old : Host) (socket : ℕ) (programs : List Program) (result : Result (Unit {0}) HostFault) : Type 0 where
+  pub wrong : (f : HostFault) → wrong_service socket programs ≡ Some f → result ≡ Err f
+  pub full : wrong_service socket programs ≡ None → result ≡ Err TooManyServices
+      → (programs_at old.services.programs socket ≡ None) × (btree_map_len old.services.programs ≡ most_services)
+  pub room : wrong_service socket programs ≡ None → programs_at old.services.programs socket ≡ None
+      → btree_map_len old.services.programs ≡ most_services → result ≡ Err TooManyServices
+  pub fault : OnErr result (wrong_service socket programs ≡ None → (result ≡ Err TooManyServices) ⊎ (result ≡ Err NoMemory))
 
 -- ---- a connection of ours
 

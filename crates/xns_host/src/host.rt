@@ -7,10 +7,11 @@ ghost use Rattle.xns_connection.specs.Deeds.{asked, gave, made};
 ghost use Rattle.xns_host.specs.Hosting.{HasNoRoom, HasNoneDone, IsAllInUse, IsAllNoted, IsFirstWant, address_in, has_guest};
 ghost use Rattle.xns_host.specs.Numbers.{IsNumberFrom};
 ghost use Rattle.xns_connection.specs.Reasons.{answer_fault_of, call_fault_of};
-ghost use Rattle.xns_host.specs.Refusing.{TellsRefusal};
+ghost use Rattle.xns_host.specs.Refusing.{TellsRefusal, wrong_ends};
 ghost use Rattle.xns_host.specs.Registered.{IsAllRegistered};
 ghost use Rattle.xns_host.specs.Settings.{IsFit, most_connections, wrong_setting};
 ghost use Rattle.xns_host.specs.declared.guest.Guest.{Guest};
+ghost use Rattle.xns_host.specs.declared.host_fault.HostFault.{HostFault};
 ghost use Rattle.xns_host.specs.declared.host_fault.HostFault.TheVariants.{NoConnection, NoMemory, NoRoom, OutOfRange};
 ghost use Rattle.xns_host.specs.declared.setting.Setting.{Setting};
 
@@ -20,6 +21,7 @@ mod receiving;
 use crate::guest::Guest;
 use crate::host_fault::HostFault;
 use crate::numbers::number_from;
+use crate::refusing::wrong_ends;
 use crate::register::Register;
 use crate::services::Services;
 use crate::settings::Settings;
@@ -63,7 +65,7 @@ pub struct Host {
 
 impl Host {
     ghost use Rattle.xns_host.specs.Standing.{IsNewHost};
-    ghost use Rattle.xns_host.specs.Turn.{Abandons, ConnectsTo, ServesAt, ServesNot, Turn, WakesAt};
+    ghost use Rattle.xns_host.specs.Turn.{Abandons, ConnectsTo, MovesTo, ServesAt, ServesNot, Turn, WakesAt};
 
     /// A host at this address, without services and connections. The identifiers of its connections come in an order that the secret
     /// gives.
@@ -124,21 +126,30 @@ impl Host {
         }
     }
 
+    /// The host is at this network from now on: new connections and Echo replies have its number. Those that are there keep theirs. Which
+    /// packets are the host's is not decided by networks.
+    pub fn set_network(&mut self, network: u32)
+        ensures moves { MovesTo network self.old self.new }
+    {
+        self.network = network;
+    }
+
     /// From now on connections that peers open to this socket are answered, for these programs; where there are none, each call is
     /// handed. If the socket is served already, its list is replaced for new connections.
     ///
-    /// An `Err`, which leaves all as it was, is [`HostFault::TooManyServices`] where 16 other sockets are served, or
-    /// [`HostFault::NoMemory`].
+    /// An `Err`, which leaves all as it was, is [`HostFault::EchoSocket`] for socket 2, [`HostFault::NoVersion`] where the lowest version of
+    /// a program is above its highest, [`HostFault::TooManyServices`] where 16 other sockets are served, or [`HostFault::NoMemory`].
     pub fn serve(&mut self, socket: u16, programs: &[Program]) -> Result<(), HostFault>
         ensures serves { ServesAt socket programs.now result self.old self.new }
-        ensures refused { ServesNot self.old socket result }
+        ensures refused { ServesNot self.old socket programs.now result }
     {
         self.services.serve(self.alloc, socket, programs)
     }
 
     /// Opens a connection from this socket of ours to the peer, whose side calls; its number. Its packets go out by this `via`.
     ///
-    /// An `Err`, which changes nothing, is [`HostFault::NoRoom`] where there is no room and none gives way, or [`HostFault::NoMemory`].
+    /// An `Err`, which changes nothing, is [`HostFault::EveryHost`] to or from the broadcast host, [`HostFault::NoSocket`] to or from socket
+    /// 0, [`HostFault::NoRoom`] where there is no room and none gives way, or [`HostFault::NoMemory`].
     pub fn connect(
         &mut self,
         now: u64,
@@ -146,20 +157,28 @@ impl Host {
         socket: u16,
         peer: Address,
     ) -> Result<usize, HostFault>
-        ensures full { HasNoRoom self.old.guests.items → result ≡ Err NoRoom }
-        ensures used { IsAllInUse self.old.register.identifiers → result ≡ Err NoRoom }
-        ensures room { result ≡ Err NoRoom → HasNoRoom self.old.guests.items ⊎ IsAllInUse self.old.register.identifiers }
-        ensures fault { OnErr result ((result ≡ Err NoRoom) ⊎ (result ≡ Err NoMemory)) }
+        ensures wrong { (f : HostFault) → wrong_ends (address_in self.old.network self.old.host socket) peer ≡ Some f → result ≡ Err f }
+        ensures full { wrong_ends (address_in self.old.network self.old.host socket) peer ≡ None
+            → HasNoRoom self.old.guests.items → result ≡ Err NoRoom }
+        ensures used { wrong_ends (address_in self.old.network self.old.host socket) peer ≡ None
+            → IsAllInUse self.old.register.identifiers → result ≡ Err NoRoom }
+        ensures room { wrong_ends (address_in self.old.network self.old.host socket) peer ≡ None → result ≡ Err NoRoom
+            → HasNoRoom self.old.guests.items ⊎ IsAllInUse self.old.register.identifiers }
+        ensures fault { OnErr result (wrong_ends (address_in self.old.network self.old.host socket) peer ≡ None
+            → (result ≡ Err NoRoom) ⊎ (result ≡ Err NoMemory)) }
         ensures connects { ConnectsTo now via socket peer result self.old self.new }
     {
         let now = self.clock.tell(now);
+        let own = self.address(socket);
+        if let Some(fault) = wrong_ends(&own, &peer) {
+            return Err(fault);
+        }
         let Some(number) = self.agenda.place() else {
             return Err(HostFault::NoRoom);
         };
         let Some(id) = self.register.next() else {
             return Err(HostFault::NoRoom);
         };
-        let own = self.address(socket);
         let terms = self.settings.terms();
         let Ok(connection) = Connection::calling(self.alloc, &terms, own, id, peer, now) else {
             return Err(HostFault::NoMemory);

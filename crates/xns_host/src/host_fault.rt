@@ -17,6 +17,18 @@ pub enum HostFault {
     /// As many connections are there as the settings say, and none gives way.
     #[error("as many connections are there as the host may have")]
     NoRoom,
+    /// A connection is to the broadcast host, which is every host, or from it.
+    #[error("the broadcast host has no connections")]
+    EveryHost,
+    /// A connection is to socket 0 or from it.
+    #[error("0 is no socket")]
+    NoSocket,
+    /// A service is at Echo's socket.
+    #[error("2 is the socket of Echo")]
+    EchoSocket,
+    /// The lowest version of a program that is to be served is above its highest.
+    #[error("a program has its lowest version above its highest")]
+    NoVersion,
     /// Sixteen other sockets are served.
     #[error("a host serves at most 16 sockets")]
     TooManyServices,

@@ -11,6 +11,7 @@ mod numbers;
 mod opening_quote;
 mod outgoing;
 mod peer;
+mod refusing;
 mod register;
 mod services;
 mod setting;

@@ -1,11 +1,14 @@
 //! The sockets at which connections are answered.
 
-ghost use Rattle.std.specs.Prelude.{◌≡◌, ◌≤◌, ◌⊎◌, OnOk, OnErr, None, Err, option_map};
+ghost use Rattle.std.specs.Prelude.{◌≡◌, ◌≤◌, ◌⊎◌, OnOk, OnErr, Some, None, Err, option_map};
 ghost use Rattle.std.specs.BTreeMap.{IsEmpty, btree_map_len};
+ghost use Rattle.xns_host.specs.Refusing.{wrong_service};
 ghost use Rattle.xns_host.specs.Services.{Serves, most_services, programs_at};
+ghost use Rattle.xns_host.specs.declared.host_fault.HostFault.{HostFault};
 ghost use Rattle.xns_host.specs.declared.host_fault.HostFault.TheVariants.{NoMemory, TooManyServices};
 
 use crate::host_fault::HostFault;
+use crate::refusing::wrong_service;
 use courier_sessions::Program;
 use std::alloc::Global;
 use std::collections::BTreeMap;
@@ -33,8 +36,9 @@ impl Services {
     /// From now on connections to this socket are answered for these programs; where there are none, each call is handed. If the socket is
     /// served already, its list is replaced.
     ///
-    /// An `Err`, which leaves all as it was, is [`HostFault::TooManyServices`] where 16 other sockets are served, and
-    /// [`HostFault::NoMemory`] after an allocation failure.
+    /// An `Err`, which leaves all as it was, is [`HostFault::EchoSocket`] for socket 2, [`HostFault::NoVersion`] where the lowest version of
+    /// a program is above its highest, [`HostFault::TooManyServices`] where 16 other sockets are served, and [`HostFault::NoMemory`] after
+    /// an allocation failure.
     #[tactic(auto, using(crate::proofs::Serving::serves))]
     pub fn serve(
         &mut self,
@@ -43,13 +47,18 @@ impl Services {
         programs: &[Program],
     ) -> Result<(), HostFault>
         ensures served { OnOk result (Serves self.old.programs self.new.programs socket programs.now) }
-        ensures full { result ≡ Err TooManyServices → (programs_at self.old.programs socket ≡ None)
-            × (btree_map_len self.old.programs ≡ most_services) }
-        ensures room { programs_at self.old.programs socket ≡ None → btree_map_len self.old.programs ≡ most_services
-            → result ≡ Err TooManyServices }
-        ensures fault { OnErr result ((result ≡ Err TooManyServices) ⊎ (result ≡ Err NoMemory)) }
+        ensures wrong { (f : HostFault) → wrong_service socket programs.now ≡ Some f → result ≡ Err f }
+        ensures full { wrong_service socket programs.now ≡ None → result ≡ Err TooManyServices
+            → (programs_at self.old.programs socket ≡ None) × (btree_map_len self.old.programs ≡ most_services) }
+        ensures room { wrong_service socket programs.now ≡ None → programs_at self.old.programs socket ≡ None
+            → btree_map_len self.old.programs ≡ most_services → result ≡ Err TooManyServices }
+        ensures fault { OnErr result (wrong_service socket programs.now ≡ None
+            → (result ≡ Err TooManyServices) ⊎ (result ≡ Err NoMemory)) }
         ensures unchanged { OnErr result (self.new.programs.entries ≡ self.old.programs.entries) }
     {
+        if let Some(fault) = wrong_service(socket, programs) {
+            return Err(fault);
+        }
         if self.programs.len() == MOST_SERVICES && !self.programs.contains_key(&socket) {
             return Err(HostFault::TooManyServices);
         }

@@ -30,6 +30,8 @@ pub struct Settings {
     pub tries: u8,
     /// How many packets of no connection wait to go out at most: 1 to 1,024.
     pub strays: usize,
+    /// Whether Echo requests are answered: of the programs at one station one should.
+    pub answers_echo: bool,
 }
 
 impl Default for Settings {
@@ -45,6 +47,7 @@ impl Default for Settings {
             idle: 10_000,
             tries: 8,
             strays: 16,
+            answers_echo: true,
         }
     }
 }

@@ -15,6 +15,7 @@ use crate::guest::Guest;
 use crate::host::Host;
 use crate::opening_quote::{OpeningQuote, quoted_opening};
 use crate::peer::Peer;
+use crate::refusing::ECHO_SOCKET;
 use crate::slots::{note, put_in};
 use courier_sessions::Program;
 use std::alloc::AllocError;
@@ -23,9 +24,6 @@ use xns_connection::laws::a_step_keeps_its_promises;
 use xns_idp::packet_type::{ECHO, ERROR, SEQUENCED_PACKET};
 use xns_idp::{Address, Packet, decode};
 use xns_spp::{SppPacket, carried_packet};
-
-/// The socket of the Echo protocol (XSIS 028112, Echo Protocol).
-const ECHO_SOCKET: u16 = 2;
 
 impl Host {
     ghost use Rattle.xns_host.specs.Coming.{Comes, Opens, Seats};
@@ -59,7 +57,9 @@ impl Host {
         }
     }
 
-    /// Answers an Echo request; whether it was one. Where there is no room or no memory it is as if lost.
+    /// Answers an Echo request, if the settings say so; whether it did. One from the broadcast host is not answered. Where there is no room
+    /// or no memory it is as if lost.
+    #[tactic(auto, using(crate::proofs::Echoes::asks_echo, crate::proofs::Echoes::quiet, crate::proofs::Echoes::every_host, crate::proofs::Echoes::no_request))]
     fn echo(&mut self, via: u64, packet: &Packet<'_>) -> bool
         requires { length packet.now.body.now ≤ most_data }
         ensures asked { result ≡ true → AsksEcho (whole_of self.old) (packet_model packet.now) }
@@ -70,6 +70,12 @@ impl Host {
         ensures rest { whole_of self.new ≡ record (whole_of self.old) { strays = self.new.strays } }
         ensures clock { self.new.clock ≡ self.old.clock }
     {
+        if !self.settings.answers_echo {
+            return false;
+        }
+        if packet.source.is_broadcast() {
+            return false;
+        }
         let own = self.address(ECHO_SOCKET);
         match self.strays.echo(self.alloc, own, via, packet) {
             Ok(answered) => answered,
@@ -125,7 +131,7 @@ impl Host {
         true
     }
 
-    /// Takes a sequenced packet in; whether it was for the host.
+    /// Takes a sequenced packet in; whether it was for the host. One from the broadcast host opens no connection.
     fn sequenced(&mut self, now: u64, via: u64, carrier: &Packet<'_>) -> bool
         requires fits { IsPacket (packet_model carrier.now) }
         requires size { length carrier.now.body.now ≤ most_data }
@@ -146,10 +152,13 @@ impl Host {
             packet.header.source_id,
             packet.target.socket,
         );
-        match self.register.find(id, &peer) {
-            Some(number) => self.hear(now, usize::from(number), id != 0, &packet),
-            None => self.opening(now, via, peer, &packet),
+        if let Some(number) = self.register.find(id, &peer) {
+            return self.hear(now, usize::from(number), id != 0, &packet);
         }
+        if packet.source.is_broadcast() {
+            return false;
+        }
+        self.opening(now, via, peer, &packet)
     }
 
     /// Takes a packet in that names the connection with this number; whether it is one of it.

@@ -26,33 +26,33 @@ put_in-requires-clause-registered c =
       opener = λ o opened. absurd (cc);
     })
 
-pub returns-in_default-clause-room : goal.returns-in_default-clause-room
-returns-in_default-clause-room c = λ z.
+pub returns-in_default-place-clause-room : goal.returns-in_default-place-clause-room
+returns-in_default-place-clause-room c = λ right z.
     let none : HasNoNumber c.args.self.now.agenda.free c.args.self.now.agenda.closed c.args.self.now.agenda.strangers = search rules in
     inl (no_room c.args.self.now.agenda c.args.self.now.guests.items c.args.self.now.noted none)
 
 pub returns-in_default-next-clause-room : goal.returns-in_default-next-clause-room
-returns-in_default-next-clause-room c = λ z.
+returns-in_default-next-clause-room c = λ right z.
     let none : c.next.result ≡ None = search rules in
     inr (all_in_use c.args.self.now.register.identifiers.owners c.args.self.now.register.identifiers.ahead c.next.result c.next.ensures.given none)
 
 pub returns-in_default-calling-clause-full : goal.returns-in_default-calling-clause-full
-returns-in_default-calling-clause-full c = λ none.
-    let place : IsPlace c.args.self.now.guests.items c.in-Some.number
+returns-in_default-calling-clause-full c = λ right none.
+    let place : IsPlace c.args.self.now.guests.items c.in-Some-place.number
     = gets_place c.args.self.now.agenda c.args.self.now.guests.items c.args.self.now.noted c.place.ensures.room c.args.self.now.sized
-    (c.place.ensures.some c.in-Some.number c.in-Some.is) in
+    (c.place.ensures.some c.in-Some-place.number c.in-Some-place.is) in
     absurd (not_both c.args.self.now.guests.items none place)
 
 pub returns-clause-full : goal.returns-clause-full
-returns-clause-full c = λ none.
-    let place : IsPlace c.args.self.now.guests.items c.in-Some.number
+returns-clause-full c = λ right none.
+    let place : IsPlace c.args.self.now.guests.items c.in-Some-place.number
     = gets_place c.args.self.now.agenda c.args.self.now.guests.items c.args.self.now.noted c.place.ensures.room c.args.self.now.sized
-    (c.place.ensures.some c.in-Some.number c.in-Some.is) in
+    (c.place.ensures.some c.in-Some-place.number c.in-Some-place.is) in
     absurd (not_both c.args.self.now.guests.items none place)
 
 pub invariant_of-self-2-clause-not_done : goal.invariant_of-self-2-clause-not_done
 invariant_of-self-2-clause-not_done c =
-    came_not_done c.args.self.now.guests.items c.put_in.new.guests.items c.in-Some.number _ c.args.self.now.not_done (taken_apart c.args.self.now.guests.items c.put_in.new.guests.items c.args.self.now.agenda c.put_in.new.agenda c.in-Some.number _ c.put_in.ensures.places) (taken_there c.args.self.now.guests.items c.put_in.new.guests.items c.args.self.now.agenda c.put_in.new.agenda c.in-Some.number _ c.put_in.ensures.places (omega (arith, c.in-Some.ensures.within, c.args.self.now.sized)))
+    came_not_done c.args.self.now.guests.items c.put_in.new.guests.items c.in-Some-place.number _ c.args.self.now.not_done (taken_apart c.args.self.now.guests.items c.put_in.new.guests.items c.args.self.now.agenda c.put_in.new.agenda c.in-Some-place.number _ c.put_in.ensures.places) (taken_there c.args.self.now.guests.items c.put_in.new.guests.items c.args.self.now.agenda c.put_in.new.agenda c.in-Some-place.number _ c.put_in.ensures.places (omega (arith, c.in-Some-place.ensures.within, c.args.self.now.sized)))
     (not_done_new c.in-Ok.connection c.in-Ok.ensures.made.untold)
 
 pub returns-clause-connects : goal.returns-clause-connects
@@ -67,7 +67,7 @@ returns-clause-connects c = record {
       confirmed = false;
       heard_of = false;
     };
-    there = taken_there c.args.self.now.guests.items c.put_in.new.guests.items c.args.self.now.agenda c.put_in.new.agenda c.in-Some.number _ c.put_in.ensures.places (omega (arith, c.in-Some.ensures.within, c.args.self.now.sized));
+    there = taken_there c.args.self.now.guests.items c.put_in.new.guests.items c.args.self.now.agenda c.put_in.new.agenda c.in-Some-place.number _ c.put_in.ensures.places (omega (arith, c.in-Some-place.ensures.within, c.args.self.now.sized));
     next = c.in-Some-next.ensures.next;
     tells = on_terms c.args.self.now.settings c.terms-terms.result c.terms-terms.ensures (λ window backlog. Tells c.in-Ok.connection.conversation
         (new_story None (initiator_state (address_in c.args.self.now.network c.args.self.now.host c.args.socket) c.in-Some-next.id c.args.peer window backlog)))
@@ -83,8 +83,8 @@ returns-clause-connects c = record {
     heard_of = refl;
   };
   place = gets_place c.args.self.now.agenda c.args.self.now.guests.items c.args.self.now.noted c.place.ensures.room c.args.self.now.sized
-      (c.place.ensures.some c.in-Some.number c.in-Some.is);
-  places = λ g there. taken_as c.put_in.new.guests.items c.in-Some.number _ g _ _ (taken_there c.args.self.now.guests.items c.put_in.new.guests.items c.args.self.now.agenda c.put_in.new.agenda c.in-Some.number _ c.put_in.ensures.places (omega (arith, c.in-Some.ensures.within, c.args.self.now.sized))) there c.put_in.ensures.places;
+      (c.place.ensures.some c.in-Some-place.number c.in-Some-place.is);
+  places = λ g there. taken_as c.put_in.new.guests.items c.in-Some-place.number _ g _ _ (taken_there c.args.self.now.guests.items c.put_in.new.guests.items c.args.self.now.agenda c.put_in.new.agenda c.in-Some-place.number _ c.put_in.ensures.places (omega (arith, c.in-Some-place.ensures.within, c.args.self.now.sized))) there c.put_in.ensures.places;
   turned = turned_over c.args.self.now.register.identifiers c.take.new.self.identifiers c.put_in.new.register.identifiers _ c.in-Some-next.id c.take.result
       c.in-Some-next.ensures.next c.take.ensures.given c.take.ensures.some c.put_in.ensures.order;
   unchanged = tt;

@@ -1,6 +1,6 @@
 use Rattle.std.proofs.Common.{◌≡◌, ◌≢◌, ◌∙◌, ap, refl, rules, subst, sym, ℕ, None, Some, false, slice_get, true}
 use Rattle.std.specs.Prelude.{◌==◌, not}
-use Rattle.xns_idp.specs.Packet.{packet_model}
+use Rattle.xns_idp.specs.Packet.{broadcast, packet_model}
 use Rattle.xns_spp.specs.Packet.{SppPacketModel, opener_of}
 use Rattle.xns_host.specs.Coming.{foreign}
 use Rattle.xns_host.specs.Hosting.{IsThere, confirms}
@@ -11,6 +11,7 @@ use Rattle.xns_host.specs.Turn.{places_of, whole_of}
 use Rattle.xns_host.specs.Went.{GuestHears}
 use Rattle.xns_host.specs.declared.guest.Guest.{Guest}
 use Rattle.xns_host.proofs.Comings.{comes_heard, comes_opened, whole_by}
+use Rattle.xns_host.proofs.Echoes.{not_every}
 use Rattle.xns_host.proofs.Foreign.{named_not_ours, named_opens_none, sequenced_not_ours, unnamed_not_ours}
 use Rattle.xns_host.proofs.Hearing.{found_is_named, one_spelled, spelled, the_packet}
 use Rattle.xns_host.proofs.host.Host.sequenced.Goals as goal
@@ -61,11 +62,28 @@ returns-in-Some-clause-comes c = λ b taken read.
     c.hear.ensures.rest
     (whole_by c.args.self.now c.hear.new.self _ _ _ c.hear.ensures.set_up c.hear.ensures.register c.hear.ensures.strays refl)
 
-pub returns-in-None-clause-comes : goal.returns-in-None-clause-comes
-returns-in-None-clause-comes c = λ b taken read.
+pub returns-then-is_broadcast-clause-comes : goal.returns-then-is_broadcast-clause-comes
+returns-then-is_broadcast-clause-comes c = λ b taken read.
+    let none : c.find.result ≡ None = search rules in
+    let named = found_is_named c.args.self.now.register c.in-Ok.packet c.at-peer.result c.find.result (search rules) (search rules) ∙ none in
+    let source : c.packet.inside.source.host ≡ c.in-Ok.packet.source.host = search rules in
+    let every : c.in-Ok.packet.source.host ≡ broadcast = sym source ∙ c.is_broadcast.ensures.0 (search rules) in
+    foreign (sequenced_not_ours (whole_of c.args.self.now) b (packet_model c.args.carrier.now) taken read c.requires.kind
+    (λ p at. unnamed_not_ours (whole_of c.args.self.now) p c.in-Ok.packet
+    (one_spelled b (packet_model c.args.carrier.now) taken p c.in-Ok.packet c.carried_packet.result read at c.carried_packet.ensures.value c.in-Ok.is) named)
+    (λ p at o.
+    let same : p ≡ c.in-Ok.packet
+    = one_spelled b (packet_model c.args.carrier.now) taken p c.in-Ok.packet c.carried_packet.result read at c.carried_packet.ensures.value c.in-Ok.is in
+    o.one_host (ap (λ (q : SppPacketModel). q.source.host) same ∙ every)))
+
+pub returns-clause-comes : goal.returns-clause-comes
+returns-clause-comes c = λ b taken read.
     let is = spelled b (packet_model c.args.carrier.now) taken c.in-Ok.packet read c.carried_packet.ensures.value c.in-Ok.is in
-    let named = found_is_named c.args.self.now.register c.in-Ok.packet c.at-peer.result c.find.result (search rules) (search rules) ∙ c.in-None.is in
-    comes_opened c.args.now c.args.via b (whole_of c.args.self.now) _ c.opening.result c.in-Ok.packet is (search rules) named
+    let none : c.find.result ≡ None = search rules in
+    let named = found_is_named c.args.self.now.register c.in-Ok.packet c.at-peer.result c.find.result (search rules) (search rules) ∙ none in
+    let source : c.packet.inside.source.host ≡ c.in-Ok.packet.source.host = search rules in
+    comes_opened c.args.now c.args.via b (whole_of c.args.self.now) _ c.opening.result c.in-Ok.packet is (search rules)
+    (λ every. not_every c.is_broadcast.result (c.packet.inside.source.host ≡ broadcast) (search rules) c.is_broadcast.ensures (source ∙ every)) named
     (c.opening.ensures.opens b is) c.opening.ensures.opener
     (λ no. sequenced_not_ours (whole_of c.args.self.now) b (packet_model c.args.carrier.now) taken read c.requires.kind
     (λ p at. unnamed_not_ours (whole_of c.args.self.now) p c.in-Ok.packet
