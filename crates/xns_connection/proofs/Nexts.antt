@@ -1,6 +1,7 @@
 -- Which packet a connection gives next.
 use Rattle.std.proofs.Common.{◌≡◌, ◌≢◌, ◌⊎◌, ◌∙◌, inl, inr, ap, refl, sym, subst, ℕ, List, Bool, true, false, Option, Some, None, Result, Ok, Err, IfOk, OnErr}
 use Rattle.std.proofs.Math.Logic.{∥∥₁_map}
+use Rattle.std.specs.Option.{is_some}
 use Rattle.std.specs.declared.alloc.AllocError.{AllocError}
 use Rattle.xns_agenda.specs.Waiting.{Waiting, after_step}
 use Rattle.xns_spp.specs.Held.{Held, StandsFor}
@@ -45,6 +46,22 @@ next_short (Err e) t0 t u o0 o v first short = λ s stands. by s (first s stands
     on : IsGiving u v (giving t o z.state) ⊎ IsGiving u v (flushed (giving t o z.state)) → (y : Giving) × IsShort (giving t0 o0 s) y × IsGiving u v y
     on (inl a) = (z, at_flush (sym g.0), subst (λ (x : Giving). IsGiving u v x) (giving_at g.1) a)
     on (inr b) = (flushed z, at_word (sym g.0), subst (λ (x : Giving). IsGiving u v (flushed x)) (giving_at g.1) b)
+
+-- memory was refused where a packet was to be given
+pub older_wanted : (o : Option (List ℕ)) (x : Giving) → is_some o ≡ true → is_some (else_newer o x).0 ≡ true
+older_wanted None x is = absurd (cc)
+older_wanted (Some p) x is = refl
+
+pub next_wanted : (r : Result (Option (List ℕ)) AllocError) (t0 t : Conversation) (o0 o : Owed)
+    → ((s : State) → StandsFor t0.endpoint s → GivesAs (older (giving t0 o0 s)) None t o)
+    → OnErr r ((s : State) → StandsFor t.endpoint s → is_some (newer (giving t o s)).0 ≡ true)
+    → OnErr r ((s : State) → StandsFor t0.endpoint s → is_some (next_of (giving t0 o0 s)).0 ≡ true)
+next_wanted (Ok p) t0 t o0 o first wants = tt
+next_wanted (Err e) t0 t o0 o first wants = λ s stands.
+    let g = first s stands in
+    let y = older (giving t0 o0 s) in
+    subst (λ (a : Option (List ℕ)). is_some (else_newer a y.1).0 ≡ true) g.0
+    (subst (λ (x : Giving). is_some (newer x).0 ≡ true) (giving_at g.1) (wants y.1.state g.1.stands))
 
 -- it was given by a connection that is not dead
 pub next_alive : (r : Result (Option (List ℕ)) AllocError) (dead : Bool) (t u : Conversation) (o v : Owed) → dead ≡ false

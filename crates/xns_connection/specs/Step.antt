@@ -9,8 +9,9 @@ use Rattle.xns_connection.specs.Closed.{ClosesBy}
 use Rattle.xns_connection.specs.Closing.{drains}
 use Rattle.xns_connection.specs.Connecting.{is_dead}
 use Rattle.xns_connection.specs.Deeds.{Deed, Moved, Parts, done, nothing, asked, made, gave, side_taken, took, heard, owed_by, told_by, wait_by, wait_moved, wanted_by}
+use Rattle.std.specs.Option.{is_some}
 use Rattle.std.specs.declared.alloc.AllocError.{AllocError}
-use Rattle.xns_connection.specs.Giving.{Giving, GivesAs, IsGiving, IsShort, giving, next_unless}
+use Rattle.xns_connection.specs.Giving.{Giving, GivesAs, IsGiving, IsShort, giving, next_of, next_unless}
 use Rattle.xns_connection.specs.Living.{GoesFrom}
 use Rattle.xns_connection.specs.Moving.{is_calm, scene}
 use Rattle.xns_connection.specs.Reasons.{answer_fault_of, call_fault_of}
@@ -91,7 +92,7 @@ MovesOwed true now old mid = Step now nothing old mid
 MovesOwed false now old mid = mid ≡ old
 
 -- what memory was refused for moved; then the next packet was given, if the connection is not dead and there is one, and what is waited for
--- then follows; or memory was refused on the way
+-- then follows; or memory was refused on the way, and there is one
 pub record GivesNext (now : ℕ) (result : Result (Option (List ℕ)) AllocError) (old new : Connection) : Type 0 where
   pub mid : Connection
   pub moved : MovesOwed old.owed.moving now old mid
@@ -99,6 +100,8 @@ pub record GivesNext (now : ℕ) (result : Result (Option (List ℕ)) AllocError
       → GivesAs (next_unless (is_dead mid.closed) (giving mid.conversation mid.owed s)) p new.conversation new.owed)
   pub short : OnErr result ((s : State) → StandsFor mid.conversation.endpoint s → (y : Giving) × IsShort (giving mid.conversation mid.owed s) y
       × IsGiving new.conversation new.owed y)
+  pub wanted : OnErr result ((s : State) → StandsFor mid.conversation.endpoint s
+      → is_some (next_of (giving mid.conversation mid.owed s)).0 ≡ true)
   pub alive : OnErr result (is_dead mid.closed ≡ false)
   pub beside : (new.conversation.side ≡ mid.conversation.side) × (new.conversation.closing ≡ mid.conversation.closing)
   pub closed : new.closed ≡ mid.closed

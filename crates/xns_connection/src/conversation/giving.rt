@@ -1,9 +1,9 @@
 //! Which packet of a conversation goes out next.
 
-ghost use Rattle.std.specs.Prelude.{◌≡◌, ◌⊎◌, ◌||◌, [], ◌++◌, false, IfOk, OnOk, OnErr, Some, None, Ok};
+ghost use Rattle.std.specs.Prelude.{◌≡◌, ◌⊎◌, ◌||◌, ◌<◌, [], ◌++◌, length, false, true, IfOk, OnOk, OnErr, Some, None, Ok};
 ghost use Rattle.xns_spp.specs.Held.{StandsFor};
 ghost use Rattle.xns_spp.specs.Sending.{after_flush, flush_answer};
-ghost use Rattle.std.specs.Option.{option_to_list};
+ghost use Rattle.std.specs.Option.{is_some, option_to_list};
 ghost use Rattle.xns_spp.specs.State.{State};
 ghost use Rattle.xns_spp.specs.Telling.{after_resend, resend_answer};
 ghost use Rattle.xns_connection.specs.Giving.{Giving, GivesAs, IsGiving, IsShort, flushed, giving, has_packets, newer, next_of, older};
@@ -24,6 +24,7 @@ impl Conversation {
         ensures packets { OnOk result ((s : State) → StandsFor self.old.endpoint s → self.new.packets.items ≡ flush_answer s) }
         ensures stands { OnOk result ((s : State) → StandsFor self.old.endpoint s → StandsFor self.new.endpoint (after_flush s)) }
         ensures unchanged { OnErr result (self.new ≡ self.old) }
+        ensures memory { OnErr result ((s : State) → StandsFor self.old.endpoint s → 0 < length (flush_answer s)) }
     {
         self.packets = VecDeque::from(self.endpoint.flush(alloc)?);
         Ok(())
@@ -36,6 +37,7 @@ impl Conversation {
         ensures packets { self.new.packets.items ≡ self.old.packets.items }
         ensures stands { OnOk result ((s : State) → StandsFor self.old.endpoint s → StandsFor self.new.endpoint (after_resend s)) }
         ensures unchanged { OnErr result (self.new ≡ self.old) }
+        ensures memory { OnErr result ((s : State) → StandsFor self.old.endpoint s → is_some (resend_answer s) ≡ true) }
     {
         self.endpoint.resend_first(alloc)
     }
@@ -55,6 +57,7 @@ impl Conversation {
         ensures none { result ≡ Ok None → self.new.packets.items ≡ [] }
         ensures at { IfOk result (λ p. (s : State) → StandsFor self.old.endpoint s → GivesAs (older (giving self.old owed.old s)) p self.new owed.new) }
         ensures stays { OnErr result ((s : State) → StandsFor self.old.endpoint s → IsGiving self.new owed.new (giving self.old owed.old s)) }
+        ensures memory { OnErr result ((s : State) → StandsFor self.old.endpoint s → is_some (older (giving self.old owed.old s)).0 ≡ true) }
     {
         if let Some(packet) = self.fetch() {
             return Ok(Some(packet));
@@ -74,6 +77,7 @@ impl Conversation {
         ensures answer { (s : State) → StandsFor self.now.endpoint s → IfOk result (λ o. o ≡ word_answer owed.old s) }
         ensures beside { (owed.new.again ≡ owed.old.again) × (owed.new.moving ≡ owed.old.moving) }
         ensures refused { OnErr result (owed.new ≡ owed.old) }
+        ensures memory { OnErr result ((s : State) → StandsFor self.now.endpoint s → is_some (word_answer owed.old s) ≡ true) }
     {
         if !owed.asks && !owed.word {
             owed.fresh = owed.moving;
@@ -100,6 +104,7 @@ impl Conversation {
         ensures at { IfOk result (λ p. (s : State) → StandsFor self.old.endpoint s → GivesAs (newer (giving self.old owed.old s)) p self.new owed.new) }
         ensures short { OnErr result ((s : State) → StandsFor self.old.endpoint s → IsGiving self.new owed.new (giving self.old owed.old s)
             ⊎ IsGiving self.new owed.new (flushed (giving self.old owed.old s))) }
+        ensures memory { OnErr result ((s : State) → StandsFor self.old.endpoint s → is_some (newer (giving self.old owed.old s)).0 ≡ true) }
     {
         self.flush(alloc)?;
         if let Some(packet) = self.fetch() {
@@ -120,6 +125,7 @@ impl Conversation {
         ensures at { IfOk result (λ p. (s : State) → StandsFor self.old.endpoint s → GivesAs (next_of (giving self.old owed.old s)) p self.new owed.new) }
         ensures short { OnErr result ((s : State) → StandsFor self.old.endpoint s → (y : Giving) × IsShort (giving self.old owed.old s) y
             × IsGiving self.new owed.new y) }
+        ensures memory { OnErr result ((s : State) → StandsFor self.old.endpoint s → is_some (next_of (giving self.old owed.old s)).0 ≡ true) }
     {
         if let Some(packet) = self.older_packet(alloc, owed)? {
             return Ok(Some(packet));

@@ -14,6 +14,7 @@ returns c = let step : GivesNext c.args.now _ c.args.self.now _ = record {
   gave = next_alive c.next_packet-packet.result (is_dead c.move_owed.new.self.closed) c.move_owed.new.self.conversation c.next_packet-packet.new.self
       c.move_owed.new.self.owed c.next_packet-packet.new.owed (search rules) c.next_packet-packet.ensures.at;
   short = c.next_packet-packet.ensures.short;
+  wanted = c.next_packet-packet.ensures.memory;
   alive = so_on_err c.next_packet-packet.result (is_dead c.move_owed.new.self.closed) (search rules);
   beside = c.next_packet-packet.ensures.side;
   closed = refl;
@@ -29,6 +30,7 @@ returns-then-is_dead c = let step : GivesNext c.args.now _ c.args.self.now _ = r
   moved = c.move_owed.ensures.moved;
   gave = λ s stands. none_dead (is_dead c.move_owed.new.self.closed) c.move_owed.new.self.conversation c.move_owed.new.self.owed s (search rules) stands;
   short = tt;
+  wanted = tt;
   alive = tt;
   beside = (refl, refl);
   closed = refl;
