@@ -74,7 +74,7 @@ found a_crate_that_went crates.txt '/^dump_alone:/d' 'docs/MAP.md: crates.txt ha
 found a_name_that_a_file_of_the_map_lacks docs/MAP.md 's/(`most_items`)/(`most_bytes`)/' 'Numbers.antt has no most_bytes'
 found a_clause_that_went docs/PROMISES.md 's/`encode`, `encode_parts`: `ok`/`encode`, `encode_parts`: `good`/' 'docs/PROMISES.md: there is no clause good of encode, encode_parts'
 found a_name_that_went docs/ENDPOINT.md 's/`is_full`/`is_quite_full`/' 'docs/ENDPOINT.md: is_quite_full is not in the code'
-gone tests/plays.sh tests/plays.sh
+gone tests/refusals.sh tests/refusals.sh
 gone crates/xns_spp/specs/Acceptance.antt crates/xns_spp/specs/Acceptance.antt
 gone crates/xns_idp/src/places.rt 'src/places.rt of xns_idp'
 gone crates/courier_sessions/specs/Talks.antt 'Talks.antt of courier_sessions'
