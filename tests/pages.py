@@ -13,7 +13,8 @@ A block of a page is compared where its first line says where it is from:
 Each page in docs/crates has a quoted contract, and there no block of Rust may be without one of these two.
 A file or folder that a page or README.md names from the root, as `crates/xns_idp/src/places.rt`, is to be there. In a row of
 docs/MAP.md a name without its folder, as `places.rt`, stands for one in the crate that was named before it. A name in brackets behind a
-file of the map, as `most_items`, is to stand in that file. The map's table of crates has a row for each line of crates.txt.
+file of the map, as `most_items`, is to stand in that file. Each line of crates.txt has one row in the tables of docs/CALLING.md and
+docs/MAP.md.
 A name of code that a page in docs/ has, as `Endpoint::send` or `xns_decode`, is to stand somewhere in the code.
 A clause that docs/PROMISES.md names behind its functions, as `exact` in "`read`: `exact`", is to be a clause of one of them.
 Another root than this repository is named last.
@@ -275,12 +276,13 @@ def unknown_names(path, words):
 
 
 def map_faults(root):
-    """Crates that the map lacks, those that it has and crates.txt lacks, and names that its files lack."""
+    """Crates without one row in the pages that list them, those that a page has and crates.txt lacks, and names that files of the map lack."""
     listed = {line.split()[0].strip(":") for line in (root / "crates.txt").read_text().split("\n") if ":" in line.split("#")[0]}
-    shown = set(re.findall(r"^\| `(\w+)` \|", (root / "docs/MAP.md").read_text(), re.MULTILINE))
     rows = (root / "docs/MAP.md").read_text().split("\n")
-    return (["docs/MAP.md: %s is not there" % name for name in sorted(listed - shown)]
-            + ["docs/MAP.md: crates.txt has no %s" % name for name in sorted(shown - listed)]
+    shown = [name for page in ("CALLING.md", "MAP.md")
+             for name in re.findall(r"^\| `(\w+)` \|", (root / "docs" / page).read_text(), re.MULTILINE)]
+    return (["docs/CALLING.md and docs/MAP.md have %d rows of %s" % (shown.count(name), name) for name in sorted(listed) if shown.count(name) != 1]
+            + ["docs/MAP.md: crates.txt has no %s" % name for name in sorted(set(shown) - listed)]
             + ["docs/MAP.md: %s" % fault for row in rows if row.startswith("| ") for fault in absent_in_row(root, row)])
 
 

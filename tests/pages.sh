@@ -68,7 +68,8 @@ found a_block_from_nowhere $page 's/^```rust part .*/```rust/' 'does not say whe
 found a_caller_that_changed crates/examples/src/packet.rt 's/body: &packet.body/body: \&packet.data/' 'crates/examples/src/packet.rt has no lines'
 found a_block_without_an_end docs/crates/xns_small.md '$d' 'docs/crates/xns_small.md: a block has no end'
 
-found a_crate_that_the_map_lacks crates.txt '$a xns_more: xns_idp' 'docs/MAP.md: xns_more is not there'
+found a_crate_that_the_map_lacks crates.txt '$a xns_more: xns_idp' 'docs/CALLING.md and docs/MAP.md have 0 rows of xns_more'
+found a_crate_with_two_rows docs/MAP.md 's/^| `bench` |/| `xns_idp` |/' 'docs/CALLING.md and docs/MAP.md have 2 rows of xns_idp'
 found a_crate_that_went crates.txt '/^dump_alone:/d' 'docs/MAP.md: crates.txt has no dump_alone'
 found a_name_that_a_file_of_the_map_lacks docs/MAP.md 's/(`most_items`)/(`most_bytes`)/' 'Numbers.antt has no most_bytes'
 found a_clause_that_went docs/PROMISES.md 's/`encode`, `encode_parts`: `ok`/`encode`, `encode_parts`: `good`/' 'docs/PROMISES.md: there is no clause good of encode, encode_parts'
