@@ -172,7 +172,7 @@ item_adds_to false h o item t = captured_adds h o item t
 
 -- what an item says, and what takes effect says behind it
 pub both_add : (p : Bool) (h : Heading) (o : Option ℕ) (item : Item) (a : Option ℕ) (t : Told)
-    → (x : Adds h t.text (after_events (cond p [] (captured_event h o item)) t).text)
+    → Adds h t.text (after_events (cond p [] (captured_event h o item)) t).text
     × Adds h (after_events (cond p [] (captured_event h o item)) t).text (after_events (acknowledged_event h a) (after_events (cond p [] (captured_event h o item)) t)).text
 both_add p h o item a t = (item_adds_to p h o item t, effect_adds h a (after_events (cond p [] (captured_event h o item)) t))
 

@@ -25,6 +25,7 @@ use Rattle.xns_calls.specs.Whole.{flow_text}
 use Rattle.xns_calls.specs.declared.connection.Connection.{Connection}
 use Rattle.xns_calls.specs.declared.due.Due.{Due}
 use Rattle.xns_calls.specs.declared.heading.Heading.{Heading}
+use Rattle.xns_calls.specs.declared.track.Track.{Track}
 use Rattle.xns_calls.proofs.Adding.{number_adds}
 use Rattle.xns_calls.proofs.Gaps.{equal_tells}
 use Rattle.xns_calls.proofs.Happenings.{IsOn, IsPlain, far_ended, far_texts, forgotten_parts, in_text, near_events, new_there, none_due, none_new, side_track, stands_own}

@@ -1,21 +1,18 @@
 -- What takes effect with a packet is what the packet 64 before it acknowledged ahead.
 use Rattle.std.proofs.Common.{◌≡◌, ◌∙◌, ap, sym, refl, subst, arith, ℕ, zero, suc, ◌+◌, ◌-◌, ◌<◌, ◌≤◌, ◌==◌, Bool, true, false, cond, List, [], ◌∷◌, ◌++◌, length, take, drop, append_assoc, append-nil, length-append, Option, Some, None}
-use Rattle.std.specs.Prelude.{nat_lt, slice_get, slice_set}
+use Rattle.std.specs.Prelude.{nat_lt, slice_get, slice_index_or, slice_set}
 use Rattle.std.specs.Option.{unwrap_or}
 use Rattle.std.proofs.lemmas.Bool.Decides.{nat_tests}
-use Rattle.xns_calls.specs.Acknowledged.{ago, effective, kept_behind, nearer, waiting, with_ahead}
+use Rattle.xns_calls.specs.Acknowledged.{ago, effective, kept_behind, nearer, one_nearer, waiting, with_ahead}
 use Rattle.xns_calls.specs.declared.ahead.Ahead.{Ahead}
 
 -- ---- one after the other is brought nearer
 
-abbrev one_nearer : Ahead → Ahead
-one_nearer a = record a { left = a.left - 1 }
-
-pub one_more_nearer : (xs : List Ahead) (i : ℕ) (a : Ahead) → slice_get xs i ≡ Some a
-    → slice_set (nearer (take i xs) ++ drop i xs) i (one_nearer a) ≡ nearer (take (suc i) xs) ++ drop (suc i) xs
-one_more_nearer [] i a e = (cc)
-one_more_nearer (x ∷ xs) zero a e = let same : x ≡ a = (cc) in ap (λ y. one_nearer y ∷ xs) (sym same)
-one_more_nearer (x ∷ xs) (suc i) a e = ap (λ ys. one_nearer x ∷ ys) (one_more_nearer xs i a e)
+pub one_more_nearer : (xs : List Ahead) (i : ℕ) (d : Ahead) → i < length xs
+    → slice_set (nearer (take i xs) ++ drop i xs) i (one_nearer (slice_index_or (nearer (take i xs) ++ drop i xs) i d)) ≡ nearer (take (suc i) xs) ++ drop (suc i) xs
+one_more_nearer [] i d lt = absurd (omega (arith, lt))
+one_more_nearer (x ∷ xs) zero d lt = refl
+one_more_nearer (x ∷ xs) (suc i) d lt = ap (λ ys. one_nearer x ∷ ys) (one_more_nearer xs i d (omega (arith, lt)))
 
 -- ---- what the last packets acknowledged ahead, of which the first waits for so many packets
 

@@ -16,9 +16,13 @@ use Rattle.xns_calls.specs.Over.{closing_with, side_in, with_closing}
 abbrev pub most_waited : ℕ
 most_waited = most_pending
 
+-- it waits for a packet less
+abbrev pub one_nearer : Ahead → Ahead
+one_nearer a = record a { left = a.left - 1 }
+
 -- a packet more was captured
 abbrev pub nearer : List Ahead → List Ahead
-nearer kept = map (λ a. record a { left = a.left - 1 }) kept
+nearer kept = map one_nearer kept
 
 -- the number that takes effect: the first, where it waits for no packet more
 abbrev pub effective : List Ahead → Option ℕ

@@ -1,5 +1,5 @@
 -- What the laws say: of what is heard, and of items that had not come.
-use Rattle.std.specs.Prelude.{◌≡◌, ◌≢◌, ℕ, ◌+◌, ◌%◌, ◌≤◌, ◌<◌, ◌⊎◌, List, [], ◌++◌, ◌||◌, false, length, map, option_map, slice_get, IfOk, codes, None, Some}
+use Rattle.std.specs.Prelude.{◌≡◌, ◌≢◌, ℕ, ◌+◌, ◌%◌, ◌≤◌, ◌<◌, ◌⊎◌, List, Option, [], ◌++◌, ◌||◌, false, length, map, option_map, slice_get, IfOk, codes, None, Some}
 use Rattle.std.specs.Ordering.{is_eq}
 use Rattle.xns_idp.specs.Packet.{PacketModel}
 use Rattle.xns_spp.specs.Ends.{most_pending}
