@@ -146,8 +146,18 @@ same 'the same cut at its second opening' once from_new
 
 # ---- live: what comes through a pipe is printed before the next packet comes
 
+# Waits until a file has two lines, for twenty seconds at most.
+has_two_lines() {
+    tries=0
+    until [ "$(cat "$1" 2> /dev/null | wc -l)" -ge 2 ] || [ $tries -eq 200 ]; do
+        tries=$((tries + 1))
+        sleep 0.1
+    done
+}
+
 editcap -F pcap ethernet.pcap live.pcap 2> /dev/null
-{ head -c $((24 + 16 + 14 + 34)) live.pcap; sleep 1; cp from_live first_live; tail -c +$((24 + 16 + 14 + 35)) live.pcap; } | xns dump - > from_live
+: > from_live
+{ head -c $((24 + 16 + 14 + 34)) live.pcap; has_two_lines from_live; cp from_live first_live; tail -c +$((24 + 16 + 14 + 35)) live.pcap; } | xns dump - > from_live
 same 'live packets' text from_live
 head -2 text > first_expected
 same 'the first live packet' first_expected first_live

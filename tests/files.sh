@@ -158,6 +158,7 @@ if has gcc; then
         growth=$((growth + 1))
     done
     echo "$((growth - 1)) growths were refused"
+    if [ $growth -gt 1 ]; then pass; else fail 'no growth to refuse'; fi
     ends 'a run that is refused nothing' 0 '' "$work/text"
 else
     left_out gcc 'each growth refused in turn'

@@ -115,10 +115,10 @@ answers() {
     done
 }
 
-# Waits until two programs read all frames at station 2, for ten seconds at most.
+# Waits until two programs read frames of this type (0003: all) at a station, for ten seconds at most.
 listened() {
     tries=0
-    until [ "$(at 2 awk '$4 == "0003" && $6 == 1' /proc/net/packet | wc -l)" -eq 2 ]; do
+    until [ "$(at "$1" awk -v type="$2" '$4 == type && $6 == 1' /proc/net/packet | wc -l)" -eq 2 ]; do
         tries=$((tries + 1))
         [ $tries -lt 100 ] || return 1
         sleep 0.1
@@ -144,7 +144,7 @@ for language in C Python; do
     begin 2 xns-net watch -i eth0
     watching=$started
     watched=$said
-    expect 'all frames are read' listened
+    expect 'all frames are read' listened 2 0003
     if [ $language = C ]; then begin 1 "$work/server" -i eth0; else begin 1 xns-net serve -i eth0; fi
     expect "a server in $language answers Echo" answers 2 1
     prints "calls of C to a server in $language" "return 0 1
@@ -204,8 +204,7 @@ expect 'is given up' grep -qx 'the peer does not answer' "$work/out"
 
 begin 1 "$work/server" -i eth0
 begin 1 xns-net serve -i eth0 --socket 6
-expect 'two programs at one station' answers 2 1
-sleep 0.5
+expect 'two programs at one station' listened 1 0600
 prints 'the one' 'return 0 5' at 2 "$work/client" -i eth0 "$(station 1)" 5
 prints 'the other' 'return 0000 0007' at 2 xns-net call 1.0200aa000001.6 7 1 1 0007 -i eth0
 end_all
@@ -216,15 +215,17 @@ for side in 1 2; do
     for language in C Python; do
         if [ $language = C ]; then begin 1 "$work/server" -i eth0; else begin 1 xns-net serve -i eth0; fi
         expect "a server in $language is there again" answers 2 1
-        { at 2 "$work/client" -i eth0 "$(station 1)" $(seq 1 4000) > "$work/many" 2> "$work/err"; } &
+        { at 2 "$work/client" -i eth0 "$(station 1)" $(seq 1 12000) > "$work/many" 2> "$work/err"; } &
         calling=$!
         sleep 0.15
         ip -n "$front-$side" link set eth0 down
+        expect "calls go on as side $side goes down, $language" kill -0 $calling
         sleep 0.7
         ip -n "$front-$side" link set eth0 up
         wait $calling
-        expect "side $side was down for a while, $language" test $? -eq 0 -a "$(wc -l < "$work/many")" -eq 4000
-        expect 'and no call was made twice' test "$(tail -n 1 "$work/many")" = "return $((8002000 / 65536)) $((8002000 % 65536))"
+        ended=$?
+        expect "side $side was down for a while, $language" test $ended -eq 0 -a "$(wc -l < "$work/many")" -eq 12000
+        expect 'and no call was made twice' test "$(tail -n 1 "$work/many")" = "return $((72006000 / 65536)) $((72006000 % 65536))"
         end_all
     done
 done

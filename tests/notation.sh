@@ -196,7 +196,13 @@ ends 'no description' 2 "error: a value is required for '--programs <FILE>' but 
 
 # ---- each growth refused in turn
 
-# The program ends by itself. What it printed is the beginning of what it prints else, or that a file wanted memory.
+# There was a growth to refuse, and the last run, which was refused none, printed the file.
+comes_through() {
+    if [ $growth -gt 1 ] && [ $ended -eq 0 ] && cmp -s "$work/out" "$2"; then pass; else fail "$1, with nothing refused: status $ended"; fi
+    echo "$1: $((growth - 1)) growths"
+}
+
+# The program ends with 0 and all that it prints else, or that a file wanted memory; or with 1 and the beginning of what it prints else.
 build_refusing
 printf '%s\n' 'call 7 2 1 0005' > "$work/line"
 "$program" $tally < "$work/line" > "$work/whole"
@@ -205,14 +211,15 @@ growth=1
 while [ $growth -le 2000 ]; do
     refuse_growth $growth "$program" $tally < "$work/line"
     [ -e "$work/refused" ] || break
-    if [ $ended -le 1 ] && { cmp -s "$work/out" "$work/none" || cmp -s -n "$(wc -c < "$work/out")" "$work/out" "$work/whole"; }; then
+    if { [ $ended -eq 0 ] && { cmp -s "$work/out" "$work/none" || cmp -s "$work/out" "$work/whole"; }; } ||
+        { [ $ended -eq 1 ] && cmp -s -n "$(wc -c < "$work/out")" "$work/out" "$work/whole"; }; then
         pass
     else
         fail "growth $growth refused: it ended with $ended and printed" "$work/out"
     fi
     growth=$((growth + 1))
 done
-echo "a description and a call: $((growth - 1)) growths"
+comes_through 'a description and a call' "$work/whole"
 
 # `xns programs` prints its lines, or ends for want of memory and prints nothing.
 growth=1
@@ -226,7 +233,7 @@ while [ $growth -le 2000 ]; do
     fi
     growth=$((growth + 1))
 done
-echo "xns programs: $((growth - 1)) growths"
+comes_through 'xns programs' "$work/tally"
 
 # `xns calls` prints its lines, or ends for want of memory and prints what stands before a line.
 growth=1
@@ -241,6 +248,6 @@ while [ $growth -le 4000 ]; do
     fi
     growth=$((growth + 1))
 done
-echo "xns calls: $((growth - 1)) growths"
+comes_through 'xns calls' "$work/named"
 
 finish

@@ -200,10 +200,17 @@ class Hub(threading.Thread):
             left = left[size:]
         self.streams[stream] = left
 
+    def wait(self, are_there):
+        """Waits until there are streams, or none are left, for a minute at most."""
+        deadline = time.monotonic() + 60
+        while bool(self.streams) != are_there:
+            if time.monotonic() > deadline:
+                raise AssertionError("no stream comes" if are_there else "a stream does not end")
+            time.sleep(0.01)
+
     def first(self):
         """The stream that was there first, once there is one."""
-        while not self.streams:
-            time.sleep(0.01)
+        self.wait(True)
         return next(iter(self.streams))
 
     def drop(self):

@@ -77,18 +77,18 @@ class OverUdp(unittest.TestCase):
 
     def test_an_error_in_a_with_is_told(self):
         begun = time.monotonic()
-        with self.assertRaises(KeyError), self.client():
+        with self.assertRaises(KeyError), self.client(tries=100):  # the server would be waited for some 20 seconds
             raise KeyError
-        self.assertLess(time.monotonic() - begun, 1)
+        self.assertLess(time.monotonic() - begun, 5)
 
     def test_times(self):
         for what in ("connect", "call", "close"):
-            client, begun = self.client(), time.monotonic()
+            client, begun = self.client(tries=100), time.monotonic()
             given = {"timeout": 0.2, **({"program": 7, "version": 1, "procedure": 1} if what == "call" else {})}
             with self.assertRaises(TimeoutError) as told:
                 getattr(client, what)(**given)
             self.assertIsInstance(told.exception, xns.XnsError)
-            self.assertTrue(0.19 < time.monotonic() - begun < 0.5)
+            self.assertTrue(0.19 < time.monotonic() - begun < 5)
             with self.assertRaises(xns.ClosedError):
                 client.call(7, 1, 1)
             client.close()
@@ -144,7 +144,7 @@ class OverUdp(unittest.TestCase):
     def test_ctrl_c_in_a_call(self):
         before = signal.signal(signal.SIGALRM, signal.default_int_handler)
         try:
-            with serving(self.there), self.client() as client:
+            with serving(self.there, tries=30), self.client(tries=30) as client:  # the server says nothing while it carries out a call
                 for number in range(5):
                     with self.assertRaises(KeyboardInterrupt):
                         signal.setitimer(signal.ITIMER_REAL, 0.1)
@@ -157,12 +157,18 @@ class OverUdp(unittest.TestCase):
     def test_ctrl_c_ends_a_server_that_closes_its_connections(self):
         told = []
 
+        def ended(call):
+            if not call.words:
+                signal.setitimer(signal.ITIMER_REAL, 0.05)
+            return answers(call)
+
         def calls():
             with bound() as udp, xns.Client(udp, self.there.getsockname(), CLIENT, SERVER, **QUICK) as client:
-                client.call(7, 1, 1)
-                client.wait(1)
                 try:
                     client.call(7, 1, 1)
+                    for _ in range(100):
+                        client.wait(0.2)
+                        client.call(7, 1, 1, [1])
                 except xns.XnsError as error:
                     told.append(error)
 
@@ -171,8 +177,7 @@ class OverUdp(unittest.TestCase):
         try:
             thread.start()
             with self.assertRaises(KeyboardInterrupt):
-                signal.setitimer(signal.ITIMER_REAL, 0.5)
-                xns.serve(self.there, SERVER, [], answers)
+                xns.serve(self.there, SERVER, [], ended)
         finally:
             signal.signal(signal.SIGALRM, before)
             thread.join()
@@ -221,7 +226,7 @@ class OverUdp(unittest.TestCase):
 
         async def slow(call):
             nonlocal total
-            await asyncio.sleep(0.2)
+            await asyncio.sleep(0.5)
             if call.procedure == 3:
                 xns.Reader(call.words).cardinal()
             total += call.words[0]
@@ -247,7 +252,7 @@ class OverUdp(unittest.TestCase):
             server = asyncio.ensure_future(xns.serve_async(self.there, SERVER, [(7, 1, 1)], slow, stop=stop, **QUICK))
             begun = time.monotonic()
             told = await asyncio.gather(*map(calls, range(1, 6)))
-            self.assertLess(time.monotonic() - begun, 3)  # one does not wait for the other
+            self.assertLess(time.monotonic() - begun, 3.5)  # one does not wait for the other: eight calls take four seconds
             self.assertEqual((told[3:], max(told[:3])), ([0, xns.Reject.INVALID_ARGUMENTS], 6))
             stop.set()
             await asyncio.wait_for(server, 5)

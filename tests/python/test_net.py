@@ -110,9 +110,10 @@ class NetTest(unittest.TestCase):
                     with xns.Client(udp, ("127.0.0.1", int(serving.port)), own, peer, timeout=5) as client:
                         client.call(7, 1, 1, [1])
                         serving.process.send_signal(number)
-                        client.wait(0.5)
                         with self.assertRaises(xns.ClosedError):
-                            client.call(7, 1, 1, [1])
+                            for _ in range(100):
+                                client.wait(0.1)
+                                client.call(7, 1, 1, [1])
                 self.assertEqual((serving.status, serving.told), (0, ("", "")))
         with bound() as nobody:
             calling = started("call", SERVER, "7", "1", "1", "--udp", str(nobody.getsockname()[1]))

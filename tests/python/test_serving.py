@@ -113,11 +113,12 @@ class Serving(unittest.TestCase):
         client = self.client()
         client.call(7, 1, 1)
         self.stops.set()
-        client.wait(0.6)
-        self.thread.join(1)
-        self.assertFalse(self.thread.is_alive())
         with self.assertRaises(xns.ClosedError):
-            client.call(7, 1, 1)
+            for _ in range(100):
+                client.wait(0.1)
+                client.call(7, 1, 1)
+        self.thread.join(10)
+        self.assertFalse(self.thread.is_alive())
         with self.assertRaises(TimeoutError):
             self.client(longest_wait=50, tries=1).call(7, 1, 1)
 

@@ -147,8 +147,7 @@ class TallyTest(unittest.TestCase):
         try:
             for server in [[*net, "serve", "--nethub", f":{hub.port}", "--station", station], *([[*C[0], "-n", str(hub.port), station]] if C else [])]:
                 process = subprocess.Popen(server, stdout=subprocess.DEVNULL, stderr=subprocess.PIPE, text=True)
-                while len(hub.streams) < 1:
-                    time.sleep(0.01)
+                hub.wait(True)
                 call = [*net, "call", station, "7", "1", "1", "0005", "--nethub", f":{hub.port}"]
                 self.assertEqual(subprocess.run(call, stdout=subprocess.PIPE, text=True, timeout=60).stdout, "return 0000 0005\n")
                 # The hub is gone for a while: the server comes back, and its tally is as it was.
@@ -160,8 +159,7 @@ class TallyTest(unittest.TestCase):
                     self.assertEqual(told, "return 0 17\nreturn 131060 bytes, the same\n")
                 process.terminate()
                 self.assertEqual((process.communicate(timeout=60)[1], process.returncode), ("", 0))
-                while hub.streams:
-                    time.sleep(0.01)
+                hub.wait(False)
             self.assertEqual(hub.shortest, 60)
         finally:
             hub.stop()
@@ -242,7 +240,8 @@ class TallyTest(unittest.TestCase):
         server, client = ([f"{FOLDER}/refused_server"], C[1]) if of_server else (C[0], [f"{FOLDER}/refused_client"])
         with Serving(server, **(refused if of_server else {})) as serving:
             one = serving.client(client, [1, 2], **({} if of_server else refused))
-            while one.poll() is None and serving.process.poll() is None:
+            deadline = time.monotonic() + 60
+            while one.poll() is None and serving.process.poll() is None and time.monotonic() < deadline:
                 time.sleep(0.005)
             done = serving.process.poll() is None and one.returncode == 0
             if not done:

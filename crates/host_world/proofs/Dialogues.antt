@@ -124,7 +124,7 @@ abbrev ComesBy : (Q : Dialogue → Type 0) (kind : Happening → Bool) (Mark : H
 ComesBy Q kind Mark = (v : View) (x : Happening) (d : Dialogue) → Move v x (held d) → Q d
     → Mark x ⊎ ((e : Dialogue) × (v ≡ held e) × Q e × (kind x ≡ false))
 
--- it came to be in this history, or was so at first
+-- what Q says came to be in this history, or was so at first
 abbrev Came : (Q : Dialogue → Type 0) (kind : Happening → Bool) (Mark : Happening → Type 0) (v : View) (xs : List Happening) → Type 0
 Came Q kind Mark v xs = ((x : Happening) × Mark x × Happened x kind xs) ⊎ ((e : Dialogue) × (v ≡ held e) × Q e × (filter kind xs ≡ []))
 
@@ -242,7 +242,7 @@ no_news (telling d why is untold) t n = cc
 no_news (freeing d may) t n = cc
 no_news (abandoning d) t n = cc
 
--- in it the number becomes free
+-- a history in which the number becomes free
 abbrev Frees : List Happening → Type 0
 Frees xs = (g : Happening) × Contains xs g × (is_going g ≡ true)
 

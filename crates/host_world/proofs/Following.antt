@@ -28,7 +28,7 @@ use Rattle.host_world.proofs.Paired.{stays_so}
 
 -- ---- one connection
 
--- it went on to the one in this place, or was forgotten and nobody is there
+-- a connection went on to the one in this place, or was forgotten and nobody is there
 pub data Led (a b : Station) (programs : List Program) (m : Meeting) (side : Side) (did : Deeds → Deeds) (gave : List (List ℕ)) : Option (Option Guest) → Type 0 where
   led : (h : Guest) → LeadsTo a b programs m side h did gave → Led a b programs m side did gave (Some (Some h))
   left : (h : Guest) → LeadsTo a b programs m side h did gave → MayBeForgotten h → Led a b programs m side did gave (Some None)

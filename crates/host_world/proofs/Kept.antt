@@ -61,7 +61,7 @@ all_made w base side (b ∷ bs) e =
     let more : (base ++ (side, b) ∷ []) ++ map (by side) bs ≡ packets_of w = append_assoc base ((side, b) ∷ []) (map (by side) bs) ∙ e in
     All-cons (IsMade w side) b bs (length base, last_of base (side, b) (packets_of w) (map (by side) bs, more)) (all_made w (base ++ (side, b) ∷ []) side bs more)
 
--- that a packet was delivered changes neither its sender nor its bytes
+-- the mark that a packet was delivered changes neither its sender nor its bytes
 set_same : (bag : List Emitted) (k : ℕ) (x : Emitted) → slice_get bag k ≡ Some x → map sender_and_bytes (slice_set bag k (record x { delivered = true })) ≡ map sender_and_bytes bag
 set_same [] k x e = absurd (cc)
 set_same (y ∷ bag) zero x e = let same : y ≡ x = cc in ap (λ (z : Emitted). sender_and_bytes z ∷ map sender_and_bytes bag) (sym same)

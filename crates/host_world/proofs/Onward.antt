@@ -34,7 +34,7 @@ pub record Laws : Type 0 where
   pub onward : NoWorldIsStuck
   pub stories : StoryLaws
 
--- both invariants of the world of items
+-- the two invariants of the world of items
 abbrev IsSound : World → Type 0
 IsSound w = Holds w × Linked w
 

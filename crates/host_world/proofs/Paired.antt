@@ -230,7 +230,7 @@ pub pair_closes : AStepKeepsItsPromises → (p : Pair) (c d : Connection) (side 
 pair_closes law p c d side now is step =
     pair_acts p c d side no_more (λ h. h) is step.packets (λ h l. idling) (law now deeds.asked c d step).story
 
--- its waits come by steps of that moment, or stay
+-- a connection's waits come by steps of the moment of a deed, or stay
 pub waits_on : {E : Type 0} (now : ℕ) (deed : Deed) (c d : Connection) (r : Result (Unit {0}) E)
     → (WaitsBy deed now c.wait d.wait → StepsAt now c.wait d.wait) → OnOk r (Step now deed c d) → OnErr r (d ≡ c) → StepsAt now c.wait d.wait
 waits_on now deed c d (Ok u) steps step same = steps step.steps
@@ -318,7 +318,7 @@ pair_takes_in law p c d side now bytes packet (Ok u) is reads step =
     pair_hears p c d side bytes is (step bytes reads).packets (heard_there law now bytes c d (step bytes reads))
 pair_takes_in law p c d side now bytes packet (Err e) is reads step = tt
 
--- and what follows of a step of the one at that side
+-- where bytes that are a packet come to a side, what follows of the step of the connection there holds of the pair
 pub pair_heard : {E : Type 0} (P : Connection → Connection → Type 0) (p : Pair) (c d : Connection) (side : Side) (now : ℕ) (bytes : List ℕ) (packet : SppPacketModel)
     (r : Result (Unit {0}) E) → c ≡ connection_at p side → spp_packet_of bytes ≡ Ok packet → (Step now (deeds.heard bytes) c d → P c d)
     → OnOk r ((b : List ℕ) → spp_packet_of b ≡ Ok packet → Step now (deeds.heard b) c d)

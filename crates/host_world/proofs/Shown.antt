@@ -48,7 +48,7 @@ pub record Shows (d : Dialogue) (g : Guest) : Type 0 where
   pub over : d.told ≡ true → (is_some d.closed ≡ true) × (waiting_message g.connection.conversation.side ≡ None)
   pub unheard : g.heard_of ≡ false → d.ours ≡ false → d.calls ≡ []
 
--- the same of a place
+-- what a view shows of a place: nobody, or a connection
 abbrev pub ShowsIn : View → Option (Option Guest) → Type 0
 ShowsIn free None = Unit {0}
 ShowsIn free (Some None) = Unit {0}
@@ -95,7 +95,7 @@ first_unseen v u x said place move e p = record {
 
 -- ---- it may have been closed besides
 
--- the same of a connection but for why it is closed: it may be closed where it was not
+-- what a dialogue shows of a connection, but for why it is closed: the connection may be closed where the dialogue is not
 pub record Nearly (d : Dialogue) (g : Guest) : Type 0 where
   pub state : State
   pub stands : StandsFor g.connection.conversation.endpoint state

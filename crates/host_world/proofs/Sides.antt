@@ -36,7 +36,7 @@ pub record Opens (calls answers : List Message) (number : ℕ) : Type 0 where
   pub last : length calls ≡ length answers + 1
   pub is : transaction_in call ≡ number
 
--- of these calls, which it made, these answers were handed
+-- a caller that made these calls, of which these answers were handed
 pub record HasCalls (calls answers : List Message) (t : Talk) : Type 0 where
   pub number : t.transaction ≡ length calls % 65536
   pub waits : t.waiting ≡ true → Opens calls answers t.transaction

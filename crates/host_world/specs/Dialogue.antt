@@ -29,7 +29,7 @@ pub data View : Type 0 where
 abbrev pub IsEven : Dialogue → Type 0
 IsEven d = length d.calls ≡ length d.answers
 
--- this call is the one that is not answered, behind those that are
+-- a call is the one that is not answered, behind those that are
 abbrev pub IsOpen : Dialogue → Message → Type 0
 IsOpen d call = slice_get d.calls (length d.answers) ≡ Some call
 
@@ -71,7 +71,7 @@ pub data Move : View → Happening → View → Type 0 where
   closing : (d : Dialogue) (why : Why) → d.closed ≡ None → Move (held d) (closes why) (held (record d { closed = Some why }))
   telling : (d : Dialogue) (why : Why) → d.closed ≡ Some why → d.told ≡ false → Move (held d) (tells why) (held (record d { told = true }))
   freeing : (d : Dialogue) → MayGo d → Move (held d) goes free
-  -- or the program abandons it, at any time
+  -- the program may abandon the connection at any time
   abandoning : (d : Dialogue) → Move (held d) abandons free
 
 -- one step after another
@@ -111,7 +111,7 @@ is_said (closes why) = false
 is_said goes = false
 is_said x = true
 
--- this happened, and nothing of that kind since
+-- x happened, and nothing of its kind since
 pub record Happened (x : Happening) (kind : Happening → Bool) (xs : List Happening) : Type 0 where
   pub before : List Happening
   pub since : List Happening

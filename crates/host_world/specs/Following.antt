@@ -39,12 +39,12 @@ pub data Follows (a b : Station) (programs : List Program) (m : Meeting) (side :
   stays : (h : Guest) → place ≡ Some (Some h) → LeadsTo a b programs m side h did gave → Follows a b programs m side did gave place
   forgotten : (h : Guest) → LeadsTo a b programs m side h did gave → MayBeForgotten h → Follows a b programs m side did gave place
 
--- so it is of the connection that was in a place, whatever meeting it is in, where this may be done to that meeting
+-- the connection that was in a place is followed, whatever meeting it is in, where what was done may be done to that meeting
 abbrev pub IsFollowed : (may : Meeting → Side → Type 0) (did : Deeds → Deeds) (gave : List (List ℕ)) (old new : Option (Option Guest)) → Type 0
 IsFollowed may did gave old new = (g : Guest) → old ≡ Some (Some g) → (a b : Station) (programs : List Program) (m : Meeting) (side : Side)
     → Meets a b programs m → (at m side).conversation ≡ g.connection.conversation → may m side → Follows a b programs m side did gave new
 
--- so it is of each number of a host
+-- at each number of a host the connection is followed
 abbrev pub EachFollowed : (may : Meeting → Side → Type 0) (did : ℕ → Deeds → Deeds) (gave : ℕ → List (List ℕ)) (h j : Host) → Type 0
 EachFollowed may did gave h j = (k : ℕ) → IsFollowed may (did k) (gave k) (slice_get h.guests.items k) (slice_get j.guests.items k)
 
@@ -107,7 +107,7 @@ pub record HostsStandFor (h k : Host) (here there : ℕ) (a b : Station) (progra
   pub calls : Has h here (at m A).conversation
   pub called : Has k there (at m B).conversation
 
--- they stand for a meeting to which that led; or the connection at this side was forgotten
+-- two hosts stand for a meeting to which what was done led; or the connection at this side was forgotten
 pub data StandsOn (m : Meeting) (side : Side) (did : Deeds → Deeds) (gave : List (List ℕ)) (Stands : Meeting → Type 0) : Type 0 where
   stands : (n : Meeting) → Stands n → Does m n side did gave → StandsOn m side did gave Stands
   forgot : (g : Guest) → MayBeForgotten g → StandsOn m side did gave Stands

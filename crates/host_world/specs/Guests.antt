@@ -25,7 +25,7 @@ abbrev pub GoesOn : (g h : Guest) (did : Deeds → Deeds) (gave : List (List ℕ
 GoesOn g h did gave = (a b : Station) (programs : List Program) (m : Meeting) (side : Side) → Meets a b programs m
     → (at m side).conversation ≡ g.connection.conversation → LeadsTo a b programs m side h did gave
 
--- the same where these bytes may come
+-- whatever meeting the one connection is in, to which these bytes may come, steps lead on to one that the other is in
 abbrev pub HearsOn : (g h : Guest) (did : Deeds → Deeds) (bytes : List ℕ) → Type 0
 HearsOn g h did bytes = (a b : Station) (programs : List Program) (m : Meeting) (side : Side) → Meets a b programs m
     → (at m side).conversation ≡ g.connection.conversation → MayCome m side bytes → LeadsTo a b programs m side h did []

@@ -82,8 +82,8 @@ pub data MayCome (m : Meeting) (side : Side) (bytes : List ℕ) : Type 0 where
       → MayCome m side bytes
   foreign : is_ours (at m side).story.state bytes ≡ false → MayCome m side bytes
 
--- these bytes are a packet that this side made; wherever it is kept, it may come to the other side while it lives, which is counted from when
--- it was made
+-- bytes that are a packet of this side's; wherever it is kept, it may come to the other side while it lives, which is counted from when it was
+-- made
 pub record WasMade (m : Meeting) (side : Side) (bytes : List ℕ) : Type 0 where
   pub place : ℕ
   pub packet : Emitted
@@ -91,7 +91,8 @@ pub record WasMade (m : Meeting) (side : Side) (bytes : List ℕ) : Type 0 where
   pub is : sender_and_bytes packet ≡ (side, bytes)
   pub comes : (n : Meeting) → AreKept m.world.bag n.world.bag → has_passed n.world packet ≡ false → MayCome n (other side) bytes
 
--- the same after these bytes came, where they may come; the program did nothing, and no packet was given
+-- whatever meeting the pair stood for, to which these bytes may come, it stands for one to which they came: the program did nothing, and no
+-- packet was given; the other side stayed as it was
 pub record TakesIn (old new : Pair) (side : Side) (bytes : List ℕ) : Type 0 where
   pub on : (a b : Station) (programs : List Program) (m : Meeting) → PairStandsFor old a b programs m → MayCome m side bytes
       → (n : Meeting) × PairStandsFor new a b programs n × Does m n side no_more []

@@ -48,7 +48,7 @@ pub data Quiet (h j : Host) : Type 0 where
   gives_out : (now : ℕ) (result : Result (Option Outgoing) HostFault) → GivesOut now result h j → Quiet h j
   serves : (socket : ℕ) (programs : List Program) (result : Result (Unit {0}) HostFault) → ServesAt socket programs result h j → Quiet h j
 
--- this was said at this number, behind what was said there before
+-- what was said at each number, with one happening more at this number
 abbrev pub said_at : (said : ℕ → List Happening) (number : ℕ) → Happening → (k : ℕ) → List Happening
 said_at said number x k = if k == number then said k ++ x ∷ [] else said k
 

@@ -134,7 +134,7 @@ pub fn two_hosts_agree()
 /// each item that either connection's end had accepted is handed up at the other and acknowledged. The steps are ticks and flushes of the
 /// two ends, packets sent from then on that come, and items handed up: at most twelve for each item that is pending, and twelve more.
 ///
-/// These are steps of the ends. It is not said that a host takes them: a connection never ticks its end, but has it send its first item
+/// The steps are of the ends. It is not said that a host takes them: a connection never ticks its end, but has it send its first item
 /// again, or a system packet, when that is due; and it hands an item up to its session alone, once that has nothing out and is not busy.
 pub fn the_ends_of_a_meeting_are_not_stuck()
     ensures { (a b : Station) (programs : List Program) (m : Meeting) → IsStation a → IsStation b → Meets a b programs m → CanFinish m }

@@ -45,7 +45,7 @@ pub struct Pair {
 }
 
 impl Pair {
-    /// Both connections, new. These programs can be called.
+    /// A pair of new connections. These programs can be called.
     pub fn new(
         alloc: Global,
         calls: &Station,

@@ -37,6 +37,7 @@ const LLC: u16 = 4;
 /// access point 80 or SNAP with type 0600; so do Linux cooked captures. The 3 Mb/s Ethernet carries it in frames of type
 /// 0600. No other link type is known.
 #[tactic(auto, unfolding(crate::specs::Links::packet_of_frame))]
+#[inline(always)]
 pub fn packet_in(link: u16, frame: &[u8]) -> Option<&[u8]>
     ensures { option_map (λ packet. packet.now) result ≡ packet_of_frame link frame.now }
 {
@@ -50,6 +51,7 @@ pub fn packet_in(link: u16, frame: &[u8]) -> Option<&[u8]>
 }
 
 /// Of a frame of Ethernet.
+#[inline(always)]
 fn in_ethernet(frame: &[u8]) -> Option<&[u8]>
     ensures { option_map (λ packet. packet.now) result ≡ of_ethernet frame.now }
 {
@@ -109,6 +111,7 @@ fn in_protocol(protocol: u16, bytes: &[u8]) -> Option<&[u8]>
 }
 
 /// Behind a type or a length.
+#[inline(always)]
 fn in_number(number: u16, bytes: &[u8]) -> Option<&[u8]>
     ensures { option_map (λ packet. packet.now) result ≡ behind_number number bytes.now }
 {

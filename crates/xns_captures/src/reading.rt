@@ -1,16 +1,18 @@
 //! What is known of a capture while it is read.
-ghost use Rattle.std.specs.Prelude.{◌≡◌, ◌≤◌, ◌<◌, ◌++◌, ◌∷◌, ℕ, List, [], Option, Ok, Some, None, IfErr, IfOk, IfSome, OnOk, length, take, drop};
+ghost use Rattle.std.specs.Prelude.{◌≡◌, ◌≤◌, ◌<◌, ◌+◌, ◌++◌, ◌∷◌, ℕ, List, [], Option, Ok, Some, None, IfErr, IfOk, IfSome, OnOk, length, take, drop};
 ghost use Rattle.xns_captures.specs.Captures.{FrameBytes, contents, ends_with, packets_in};
-ghost use Rattle.xns_captures.specs.Parts.{head_count, size_of};
+ghost use Rattle.xns_captures.specs.Parts.{head_count, part_of, size_of};
 
 use crate::fault::CaptureFault;
 use crate::file_fault::FileFault;
 use crate::format::Format;
+use crate::frame::Frame;
 use crate::frame_time::FrameTime;
 use crate::interface::Interface;
 use crate::limits::MOST_FRAMES;
 use crate::link::packet_in;
 use crate::part::Part;
+use crate::record::read_record;
 use crate::stamp::Stamp;
 use crate::step::{head_bytes, part_bytes, read_part};
 use crate::taker::PacketTaker;
@@ -50,6 +52,7 @@ impl Reading {
     }
 
     /// How many bytes the next part has, where it is there whole.
+    #[inline(always)]
     fn whole_part(&self, bytes: &[u8]) -> Result<Option<usize>, CaptureFault>
         ensures some { IfOk result (λ found. IfSome found (IsWholePart self.now.format bytes.now)) }
         ensures none { result ≡ Ok None
@@ -117,7 +120,8 @@ impl Reading {
         }
     }
 
-    /// Takes a part.
+    /// Takes a part. That of a record comes first, since most parts of most captures are records.
+    #[tactic(auto, unfolding(crate::specs::Parts::part_of))]
     fn take_part<T: PacketTaker, W: Write>(
         &mut self,
         bytes: &[u8],
@@ -134,6 +138,15 @@ impl Reading {
             → HasStopped fault read
             (StandsAfter fault (T.stands taker.new before (W.contents writer.new)) (T.fails taker.new before (W.contents writer.new)))) }
     {
+        if let Format::Records {
+            order,
+            link,
+            is_nano,
+        } = self.format
+        {
+            let frame = read_record(order, link, is_nano, bytes);
+            return self.take_found(frame, bytes, taker, writer);
+        }
         let part = match read_part(self.format, self.interfaces.as_slice(), bytes) {
             Ok(part) => part,
             Err(fault) => return Err(FileFault::Capture(fault)),
@@ -147,16 +160,7 @@ impl Reading {
                 Ok(()) => Ok(()),
                 Err(_) => Err(FileFault::Run(RunFault::NoMemory)),
             },
-            Part::Frame(frame) => {
-                let end = frame.start + frame.count;
-                self.take_frame(
-                    frame.link,
-                    &bytes[frame.start..end],
-                    frame.time,
-                    taker,
-                    writer,
-                )
-            }
+            Part::Frame(frame) => self.take_found(frame, bytes, taker, writer),
             Part::Continues(format) => {
                 self.format = format;
                 Ok(())
@@ -171,7 +175,39 @@ impl Reading {
         }
     }
 
+    /// Takes the frame that stands in a part.
+    #[inline(always)]
+    fn take_found<T: PacketTaker, W: Write>(
+        &mut self,
+        frame: Frame,
+        bytes: &[u8],
+        taker: &mut T,
+        writer: &mut W,
+    ) -> Result<(), FileFault>
+        requires head { head_count self.old.format ≤ length bytes.now }
+        requires size { size_of self.old.format (take (head_count self.old.format) bytes.now) ≡ Ok (length bytes.now) }
+        requires found { part_of self.old.format self.old.interfaces.items bytes.now ≡ Ok (Part.Frame frame) }
+        requires fits { frame.start + frame.count ≤ length bytes.now }
+        ensures ok { OnOk result ((read tail : List ℕ) (before : Option (List ℕ))
+            → HasRead self.old read (bytes.now ++ tail) (T.stands taker.old before (W.contents writer.old))
+            → HasRead self.new read tail (T.stands taker.new before (W.contents writer.new))) }
+        ensures err { IfErr result (λ fault. (read tail : List ℕ) (before : Option (List ℕ))
+            → HasRead self.old read (bytes.now ++ tail) (T.stands taker.old before (W.contents writer.old))
+            → HasStopped fault read
+            (StandsAfter fault (T.stands taker.new before (W.contents writer.new)) (T.fails taker.new before (W.contents writer.new)))) }
+    {
+        let end = frame.start + frame.count;
+        self.take_frame(
+            frame.link,
+            &bytes[frame.start..end],
+            frame.time,
+            taker,
+            writer,
+        )
+    }
+
     /// Takes a frame: it has the next number, and its packet is handed on, if it carries one.
+    #[inline(always)]
     fn take_frame<T: PacketTaker, W: Write>(
         &mut self,
         link: u16,

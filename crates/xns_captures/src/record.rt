@@ -1,5 +1,5 @@
 //! Classic captures: the header of the file, and its records.
-ghost use Rattle.std.specs.Prelude.{◌≡◌, ◌≤◌, IfOk, Ok, length};
+ghost use Rattle.std.specs.Prelude.{◌≡◌, ◌+◌, ◌≤◌, IfOk, Ok, length};
 ghost use Rattle.xns_captures.specs.Parts.{IsWithin, header_in, record_in, record_size as record_size_of, record_time};
 
 use crate::byte_order::ByteOrder;
@@ -54,17 +54,18 @@ pub fn record_size(order: ByteOrder, head: &[u8]) -> Result<usize, CaptureFault>
 }
 
 /// The frame of a record.
-pub fn read_record(order: ByteOrder, link: u16, is_nano: bool, bytes: &[u8]) -> Part
+#[inline(always)]
+pub fn read_record(order: ByteOrder, link: u16, is_nano: bool, bytes: &[u8]) -> Frame
     requires { 16 ≤ length bytes.now }
-    ensures value { Ok result ≡ record_in order link is_nano bytes.now }
-    ensures fits { IsWithin (length bytes.now) result }
+    ensures value { Ok (Part.Frame result) ≡ record_in order link is_nano bytes.now }
+    ensures fits { result.start + result.count ≤ length bytes.now }
 {
-    Part::Frame(Frame {
+    Frame {
         link,
         start: RECORD_HEAD_BYTES,
         count: bytes.len() - RECORD_HEAD_BYTES,
         time: Some(read_time(order, is_nano, bytes)),
-    })
+    }
 }
 
 /// When the frame of a record was captured: its head has the seconds since 1970, and then millionths or billionths of one.

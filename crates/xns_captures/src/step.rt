@@ -26,6 +26,7 @@ pub fn head_bytes(format: Format) -> usize
 
 /// How many bytes the next part has, by its head.
 #[tactic(auto, unfolding(crate::specs::Parts::size_of))]
+#[inline(always)]
 pub fn part_bytes(format: Format, head: &[u8]) -> Result<usize, CaptureFault>
     requires { head_count format ≤ length head.now }
     ensures { result ≡ size_of format head.now }
@@ -40,6 +41,7 @@ pub fn part_bytes(format: Format, head: &[u8]) -> Result<usize, CaptureFault>
 
 /// What the next part holds, which has these bytes, in a section with these interfaces.
 #[tactic(auto, unfolding(crate::specs::Parts::part_of))]
+#[inline(always)]
 pub fn read_part(
     format: Format,
     interfaces: &[Interface],
@@ -55,7 +57,7 @@ pub fn read_part(
             order,
             link,
             is_nano,
-        } => Ok(read_record(order, link, is_nano, bytes)),
+        } => Ok(Part::Frame(read_record(order, link, is_nano, bytes))),
         Format::Blocks { order } => read_block(order, interfaces, bytes),
         Format::Passing { order, left, total } => read_rest(order, left, total, bytes),
     }

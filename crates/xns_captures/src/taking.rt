@@ -69,7 +69,7 @@ fn drop_front(bytes: &mut Vec<u8>, count: usize)
     requires { count ≤ vec_len bytes.old }
     ensures { bytes.new.items ≡ drop count bytes.old.items }
 {
-    let rest = bytes.len() - count;
-    bytes.as_mut_slice().rotate_left(count);
-    bytes.truncate(rest);
+    let total = bytes.len();
+    bytes.copy_within(count..total, 0);
+    bytes.truncate(total - count);
 }

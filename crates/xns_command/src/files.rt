@@ -13,7 +13,7 @@ use xns_captures::{FileFault, is_capture};
 use xns_dump::dump_capture;
 use xns_lines::RunFault;
 
-/// So many bytes tell whether a file is a capture.
+/// How many bytes tell whether a file is a capture.
 const FIRST: usize = 4;
 
 /// Runs the command of the mode over a file, which is a capture, known by its first bytes, or a file of lines; the script

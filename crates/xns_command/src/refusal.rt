@@ -5,8 +5,8 @@
 pub enum Refusal {
     /// Help is asked for, or the version.
     Help,
-    /// There was no memory to read them.
+    /// There was no memory to read the words.
     NoMemory,
-    /// They are wrong.
+    /// The words are wrong.
     Mistake,
 }

@@ -119,7 +119,7 @@ Asks (Programs files) words = (named_subcommand words ≡ Some (codes "programs"
 abbrev pub words_of : Mode → List Text
 words_of mode = codes "xns" ∷ name_of mode ∷ []
 
--- those words, and the name of a file
+-- the words `xns` and the mode's name, and the name of a file
 abbrev pub words_with_file : Mode → List Text
 words_with_file mode = codes "xns" ∷ name_of mode ∷ codes "x.pcap" ∷ []
 

@@ -80,6 +80,7 @@ fn append_message(report: &mut Report, message: &Message) -> Result<(), AllocErr
 }
 
 /// Appends a name and a word as a number.
+#[inline(always)]
 pub fn append_field(report: &mut Report, name: &[u8], word: u16) -> Result<(), AllocError>
     ensures { Adds result report.old report.new (name.now ++ decimal word) }
 {

@@ -1,8 +1,7 @@
-use Rattle.std.proofs.Common.{[], ◌+◌, ◌-◌, ◌++◌, ap, sym, ◌∙◌, take, drop, refl, Err}
+use Rattle.std.proofs.Common.{[], ◌++◌, ap, sym, ◌∙◌, refl, Err}
 use Rattle.xns_captures.specs.Captures.{contents, empty_frame, with_frame}
-use Rattle.xns_captures.proofs.Consumed.{if_err_1, on_ok_1}
 use Rattle.xns_captures.proofs.Steps.{at_part_as}
-use Rattle.xns_captures.proofs.Frames.{moves, same_frame, same_rest, stops_at_frame, stops_at_part, stops_in_run, takes_frame}
+use Rattle.xns_captures.proofs.Frames.{moves, same_rest, stops_at_frame, stops_at_part, stops_in_run, takes_frame}
 use Rattle.xns_captures.proofs.reading.Reading.take_part.Goals as goal
 
 pub returns-in-Err-clause-err : goal.returns-in-Err-clause-err
@@ -29,28 +28,6 @@ returns-in-Ok-push-clause-ok g c = λ read tail before h.
 pub returns-in-Err-push-clause-err : goal.returns-in-Err-push-clause-err
 returns-in-Err-push-clause-err g c = λ read tail before h. stops_in_run c.args.self.now _ read (c.args.bytes.now ++ tail) _ _ h h.taken
 
-pub returns-in-Frame-clause-ok : goal.returns-in-Frame-clause-ok
-returns-in-Frame-clause-ok g c =
-    let is_part = rw (c.as_slice.ensures.value, c.in-Frame.is) at c.in-Ok.ensures.value in
-    on_ok_1 _ _ c.take_frame.result c.take_frame.ensures.ok (λ taken. λ read tail before h.
-    let t = taken h.frames before h.count h.first h.taken in
-    takes_frame c.args.self.now c.take_frame.new.self read c.args.bytes.now tail _ _
-    (c.in-Frame.frame.link, take (c.in-Frame.frame.start + c.in-Frame.frame.count - c.in-Frame.frame.start) (drop c.in-Frame.frame.start c.args.bytes.now), c.in-Frame.frame.time)
-    (λ rest. at_part_as c.args.self.now.format c.args.self.now.interfaces.items c.args.bytes.now rest _ c.requires.head c.requires.size (sym is_part)
-    ∙ same_frame c.in-Frame.frame c.args.bytes.now (contents c.args.self.now.format c.args.self.now.interfaces.items rest)
-    ∙ ap (with_frame (c.in-Frame.frame.link, take (c.in-Frame.frame.start + c.in-Frame.frame.count - c.in-Frame.frame.start) (drop c.in-Frame.frame.start c.args.bytes.now), c.in-Frame.frame.time))
-    (same_rest c.take_frame.new.self c.args.self.now.format c.args.self.now.interfaces.items rest c.take_frame.ensures.format c.take_frame.ensures.interfaces)) h t.0 t.1 t.2)
-
-pub returns-in-Frame-clause-err : goal.returns-in-Frame-clause-err
-returns-in-Frame-clause-err g c =
-    let is_part = rw (c.as_slice.ensures.value, c.in-Frame.is) at c.in-Ok.ensures.value in
-    if_err_1 _ _ c.take_frame.result c.take_frame.ensures.err (λ fault stopped. λ read tail before h.
-    stops_at_frame fault c.args.self.now read c.args.bytes.now tail _ _ _
-    (c.in-Frame.frame.link, take (c.in-Frame.frame.start + c.in-Frame.frame.count - c.in-Frame.frame.start) (drop c.in-Frame.frame.start c.args.bytes.now), c.in-Frame.frame.time)
-    (λ rest. contents c.args.self.now.format c.args.self.now.interfaces.items rest)
-    (λ rest. at_part_as c.args.self.now.format c.args.self.now.interfaces.items c.args.bytes.now rest _ c.requires.head c.requires.size (sym is_part)
-    ∙ same_frame c.in-Frame.frame c.args.bytes.now (contents c.args.self.now.format c.args.self.now.interfaces.items rest)) h (stopped h.frames before h.count h.first h.taken))
-
 pub returns-in-Continues-clause-ok : goal.returns-in-Continues-clause-ok
 returns-in-Continues-clause-ok g c = λ read tail before h.
     let is_part = rw (c.as_slice.ensures.value, c.in-Continues.is) at c.in-Ok.ensures.value in
@@ -63,7 +40,7 @@ returns-in-Ok-take_frame-clause-ok g c = λ read tail before h.
     let t = c.in-Ok-take_frame.ensures.ok h.frames before h.count h.first h.taken in
     takes_frame c.args.self.now _ read c.args.bytes.now tail _ _ empty_frame
     (λ rest. at_part_as c.args.self.now.format c.args.self.now.interfaces.items c.args.bytes.now rest _ c.requires.head c.requires.size (sym is_part)
-    ∙ ap (λ interfaces. with_frame empty_frame (contents c.in-Counted.format interfaces rest)) (sym c.take_frame-in-Counted.ensures.interfaces)) h t.0 t.1 t.2
+    ∙ ap (λ interfaces. with_frame empty_frame (contents c.in-Counted.format interfaces rest)) (sym c.take_frame.ensures.interfaces)) h t.0 t.1 t.2
 
 pub returns-in-Err-take_frame-clause-err : goal.returns-in-Err-take_frame-clause-err
 returns-in-Err-take_frame-clause-err g c = λ read tail before h.

@@ -1,0 +1,275 @@
+"""A second account of what the program of a host is told, and when, written from docs/C.md and not from the code.
+
+    python3 tests/host_rules.py [PLAYS [SEED]]
+
+Two hosts play over a network that loses, repeats and delays. Each is there twice: one is told the times of a clock that goes back and jumps, the
+other the sum of its steps forward, as the account has it. Both must say the same, and wake at the same moment. The account knows by itself which
+numbers are taken, which events may come at each, which packets may go out, and when nothing may happen.
+"""
+import itertools
+import random
+import struct
+import sys
+from types import SimpleNamespace
+
+import xns
+from xns import Why
+
+DAY, LAST = 86_400_000, 2**64 - 1
+COURIER, CLIENT, NOBODY = 5, 3001, 9  # sockets: one that is served, that of the clients, one that is not served
+SETTINGS = {"first_wait": 20, "longest_wait": 100, "idle": 200, "tries": 3}
+DEAD = Why.SILENT, Why.NOT_SERVED, Why.REFUSED
+OPENING, DATA = 0xC0, 0x50  # the control of an opening packet, and of an item that ends a message
+STRANGER = 1, bytes([2, 0, 0xAA, 0, 0, 9]), CLIENT
+
+
+def packet(kind, target, source, body):
+    """An internet packet without a checksum."""
+    ends = b"".join(struct.pack(">I6sH", *end) for end in (target, source))
+    return struct.pack(">HHBB", 65535, 30 + len(body), 0, kind) + ends + body + bytes(len(body) % 2)
+
+
+def is_opening(data):
+    return data[5] == 5 and data[30] == OPENING and data[34:36] == b"\0\0"
+
+
+class Clock:
+    """A host's own time: the steps forward that it was told, each at most a day. A step back counts as none."""
+
+    def __init__(self):
+        self.told = self.own = 0
+
+    def tell(self, now):
+        self.own += min(max(now - self.told, 0), DAY)
+        self.told = now
+
+    def when(self, wake):
+        """A time of its own by the clock that it was told: what is past the end of that clock is at once."""
+        at = max(self.told + wake - self.own, 0) if wake else wake
+        return 0 if at and at >= LAST else at
+
+
+class Twins:
+    """A host, by the account, and the two that must agree. `silenced` has the vias of which no packet may go out."""
+
+    def __init__(self, station, play):
+        self.own, self.play, self.clock, self.now = xns.Address(1, bytes([2, 0, 0xAA, 0, 0, station]), COURIER), play, Clock(), 0
+        self.wild, self.plain = (xns.Host(self.own, bytes([station]) * 32, **SETTINGS) for _ in range(2))
+        self.held, self.silenced, self.refused, self.spoiled, self.handed, self.asked = {}, set(), set(), set(), set(), set()
+        self.ask("serve", COURIER, [(7, 1, 1)], timed=False)
+
+    def ask(self, name, *arguments, timed=True):
+        """What both return, where each is told the time of its own clock."""
+        if timed:
+            self.clock.tell(self.now)
+        said = []
+        for host, now in (self.wild, self.clock.told), (self.plain, self.clock.own):
+            returned = getattr(host, name)(*([now] if timed else []), *arguments)
+            said.append(returned if returned is None or isinstance(returned, int) else list(returned))
+        assert said[0] == said[1], (name, arguments, said)
+        return said[0]
+
+    def wake(self):
+        wake = self.plain.wake()
+        assert self.wild.wake() == self.clock.when(wake), (self.wild.wake(), wake, vars(self.clock))
+        return wake
+
+    def count(self, come=0, gone=frozenset()):
+        """The numbers that are taken are those of the account, but for so many that came at most, which are returned; for those that are gone; and for
+        those of which the close was told, which may go at any time."""
+        numbers, told = set(self.ask("numbers", timed=False)), {number for number, one in self.held.items() if one.why}
+        came, went = numbers - self.held.keys(), self.held.keys() - numbers
+        assert len(came) <= come and gone <= went <= gone | told, (came, went, come, gone)
+        for number in went:
+            del self.held[number]
+        return came
+
+    def open(self, number, ours, via):
+        self.held[number] = SimpleNamespace(ours=ours, via=via, made=self.clock.own, calls=[], answers=0, is_asked=False, why=None)
+
+    def packets(self):
+        """Fetches the packets, and returns their vias."""
+        packets = self.ask("packets")
+        for via, data in packets:
+            assert via not in self.silenced, ("a packet of a connection that is dead or abandoned", via)
+            self.play.bag.append((self.other, via, data))
+        return [via for via, _ in packets]
+
+    def fetch(self):
+        """Fetches all that there is, packets or events first, and says whether there was anything. Where a peer is given up as packets are fetched, its
+        event is there behind them, and the wake is at once."""
+        found, empty, wake, is_first = False, 0, 0, self.play.random.random() < 0.5
+        while empty < 3 and (not empty or wake == 0):
+            before, wake = self.packets() if is_first else [], self.wake()
+            events, heard, gone = self.ask("events", timed=False), set(), set()
+            assert not events or wake == 0, ("an event waited, and the host slept", events, wake)
+            for event in events:
+                if self.hear(event):
+                    gone.add(event.number)
+                    # Where no message was fetched before, it was dead before the packets went out.
+                    assert event.number in heard or self.held[event.number].via not in before, ("a packet of a dead connection", event)
+                heard.add(event.number)
+            if events:
+                self.count(gone=gone)
+            vias = before if is_first else self.packets()
+            found, empty, wake = found or bool(events or vias), 0 if events or vias else empty + 1, self.wake()
+        assert wake is None or wake > self.clock.own, ("nothing is left, and the host does not sleep", wake, self.clock.own)
+        self.count()
+        return found
+
+    def hear(self, event):
+        """One event, which the account has to allow. Whether the number is free now."""
+        one = self.held[event.number]
+        assert one.why is None, ("an event behind the close", event)
+        if isinstance(event, xns.Call):
+            word = event.words[0]
+            assert not one.ours and len(one.calls) == one.answers and word not in self.handed and (not one.calls or word == one.calls[-1] + 1), event
+            self.handed.add(word)
+            one.calls.append(word)
+        elif isinstance(event, xns.Answer):
+            assert one.ours and len(one.calls) == one.answers + 1 and event.words == [one.calls[-1] ^ 0x8000], event
+            one.answers += 1
+        else:
+            one.why = event.why
+            assert {
+                Why.ASKED: one.is_asked,
+                Why.BY_PEER: one.via in self.other.asked,
+                Why.SILENT: self.clock.own > one.made,
+                Why.NOT_SERVED: one.ours and one.via in self.refused,
+                Why.REFUSED: one.via in self.spoiled,
+            }[event.why], (event, vars(one))
+            if event.why in DEAD:
+                self.silenced.add(one.via)
+        return one.why in DEAD
+
+    def receive(self, via, data):
+        """A packet comes. Only an opening packet makes a connection."""
+        taken = self.ask("receive", via, data)
+        for number in self.count(come=int(is_opening(data))):
+            self.open(number, False, via)
+            self.silenced.discard(via)
+        return taken
+
+    def connect(self):
+        if len(self.held) < 6:
+            via = next(self.play.vias)
+            number = self.ask("connect", via, CLIENT, self.other.own._replace(socket=self.play.random.choice((COURIER, COURIER, COURIER, NOBODY))))
+            assert self.count(come=1) == {number}
+            self.open(number, True, via)
+
+    def pick(self, rule):
+        """A connection that meets the rule and its number, if there is one."""
+        return self.play.random.choice([(number, one) for number, one in self.held.items() if not one.why and rule(one)] or [(None, None)])
+
+    def call(self):
+        number, one = self.pick(lambda one: one.ours and len(one.calls) == one.answers < 15 and one.via not in self.asked | self.other.asked)
+        if one:
+            one.calls.append(one.calls[-1] + 1 if one.calls else next(self.play.words) % 2048 * 16)
+            self.ask("call", number, 7, 1, 1, [one.calls[-1]])
+
+    def answer(self):
+        number, one = self.pick(lambda one: not one.ours and len(one.calls) > one.answers)
+        if one:
+            one.answers += 1
+            self.ask("answer", number, xns.returns([one.calls[-1] ^ 0x8000]))
+
+    def close(self):
+        number, one = self.pick(lambda one: not one.is_asked)
+        if one:
+            one.is_asked = True
+            self.asked.add(one.via)
+            self.ask("close", number)
+
+    def abandon(self):
+        number, one = self.pick(lambda one: True)
+        if one:
+            self.silenced.add(one.via)
+            self.ask("abandon", number, timed=False)
+            self.count(gone={number})
+
+    def pass_time(self):
+        """Another time is told: that of the wake, a near one, an earlier one, one up to three days ahead, or any. Before the wake nothing may happen."""
+        rng, wake, kind = self.play.random, self.wake(), self.play.random.random()
+        at, near, far = self.clock.when(wake), min(self.now + rng.randrange(60), LAST), min(self.now + rng.randrange(3 * DAY), LAST)
+        self.now = at if at and kind < 0.5 else near if kind < 0.8 else rng.choice((rng.randrange(self.now + 1), far, rng.randrange(LAST + 1)))
+        found = self.fetch()
+        assert not found or wake is not None and wake <= self.clock.own, ("something happened before the wake", wake, vars(self.clock))
+
+    def spoil(self):
+        """A stranger opens a connection, and says what is no conversation: the host closes it in the same moment."""
+        via, bag, self.play.bag = next(self.play.vias), self.play.bag, []
+
+        def says(control, stream, peer_id, body=b""):
+            header = struct.pack(">BBHHHHH", control, stream, via % 65535 + 1, peer_id, 0, 0, 7)
+            self.receive(via, packet(5, self.own, STRANGER, header + body))
+
+        says(OPENING, 0, 0)
+        self.fetch()
+        reply = next(data for _, out, data in self.play.bag if out == via)
+        self.spoiled.add(via)
+        says(DATA, 9, int.from_bytes(reply[32:34], "big"), b"\1\2")
+        self.fetch()
+        assert via in self.silenced and all(one.via != via for one in self.held.values()), "what a stranger spoiled is not closed"
+        self.play.bag = bag
+
+
+class Play:
+    """Two hosts and the packets on their way, each with the host that it is for and its via."""
+
+    def __init__(self, seed):
+        self.random, self.bag, self.vias, self.words = random.Random(seed), [], itertools.count(1), itertools.count()
+        self.hosts = [Twins(station, self) for station in (1, 2)]
+        self.hosts[0].other, self.hosts[1].other = self.hosts[1], self.hosts[0]
+
+    def deliver(self, losses):
+        """A packet of the bag comes, or is lost, or comes and may come again. An opening packet that no socket takes is complained of."""
+        if not self.bag:
+            return
+        host, via, data = self.bag.pop(self.random.randrange(len(self.bag)))
+        kind = self.random.random()
+        if kind < losses:
+            return
+        if kind > 1 - losses and len(self.bag) < 30:
+            self.bag.append((host, via, data))
+        if data[5] == 3:
+            host.refused.add(via)
+        if not host.receive(via, data) and is_opening(data):
+            target, source = (struct.unpack(">I6sH", data[at : at + 12]) for at in (18, 6))
+            self.bag.append((host.other, via, packet(3, target, source, struct.pack(">HH", 2, 0) + data[:42])))
+        host.fetch()
+
+    def run(self, losses, steps, end_losses):
+        """Some random steps. Then all is asked to close, and answered, and each connection ends, whatever the network does."""
+        for _ in range(steps):
+            host, deliver = self.random.choice(self.hosts), lambda: self.deliver(losses)
+            done = deliver, host.pass_time, host.call, host.answer, host.connect, host.close, host.abandon, host.spoil
+            self.random.choices(done, (45, 17, 10, 12, 8, 4, 2, 2))[0]()
+            host.fetch()
+        turns = 0
+        while any(host.held for host in self.hosts):
+            turns += 1
+            assert turns < 3000, "a connection does not end"
+            for host in self.hosts:
+                host.answer()
+                host.close()
+                host.fetch()
+            for _ in range(len(self.bag)):
+                self.deliver(end_losses)
+            for host in self.hosts:
+                host.pass_time()
+        self.bag.clear()
+
+
+def main(words):
+    plays, seed = int(words[0]) if words else 1000, int(words[1]) if len(words) > 1 else 1
+    silenced = 0
+    for first in range(0, plays, 50):
+        play = Play(seed * 1_000_000 + first)
+        for _ in range(min(50, plays - first)):
+            play.run(play.random.choice((0.0, 0.1, 0.3, 1.0)), play.random.randrange(80), play.random.choice((0.0, 0.2, 1.0)))
+        silenced += sum(len(host.silenced) for host in play.hosts)
+    print("%d plays of hosts, with %d connections that were dead or abandoned" % (plays, silenced))
+
+
+if __name__ == "__main__":
+    main(sys.argv[1:])
