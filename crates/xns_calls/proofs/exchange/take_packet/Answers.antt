@@ -1,6 +1,12 @@
 use Rattle.xns_idp.specs.Packet.{packet_model}
-use Rattle.xns_calls.proofs.Wanted.{content_wants, on_err_with, own_wants}
+use Rattle.xns_calls.proofs.Wanted.{content_wants, on_err, on_err_with, own_wants}
 use Rattle.xns_calls.proofs.exchange.take_packet.Goals as goal
+
+pub returns-in_err-take_content-clause-memory : goal.returns-in_err-take_content-clause-memory
+returns-in_err-take_content-clause-memory c =
+    on_err c.from_residual-in_err-take_content.result _
+    (content_wants c.args.heading c.args.due c.args.header.now c.args.own.now c.args.other.now c.reach_other.new.own c.reach_other.new.other c.args.page.now c.reach_other.new.page
+    c.in_ok-reach_other.ensures.scene c.in_err-take_content.ensures.memory)
 
 pub returns-clause-memory : goal.returns-clause-memory
 returns-clause-memory c =
