@@ -1,8 +1,9 @@
 -- What is due is done, and is then due later.
-use Rattle.std.proofs.Common.{◌≡◌, ap, refl, subst, sym, ℕ, ◌+◌, ◌<◌, ◌≤◌, Bool, true, false, Option, Some, None, arith}
+use Rattle.std.proofs.Common.{◌≡◌, ap, refl, subst, sym, ℕ, ◌+◌, ◌<◌, ◌≤◌, Bool, true, false, Some, None, arith}
 use Rattle.std.specs.Prelude.{min, nat_le, if◌then◌else◌}
 use Rattle.std.proofs.lemmas.Bool.{leb-false}
 use Rattle.std.proofs.Math.Nat.{le-min}
+use Rattle.xns_agenda.specs.Measuring.{borne}
 use Rattle.xns_agenda.specs.Waiting.{Waiting, IsWaiting, IsDueAfter, act_by, after_act, after_by, due_time, last_time, later, unless_silent}
 use Rattle.xns_agenda.specs.declared.act.Act.TheVariants.{Nothing, Again, Ask, GiveUp, Forget}
 use Rattle.xns_agenda.specs.declared.due.Due.{Due}
@@ -24,12 +25,12 @@ record HasLength (w : Waiting) : Type 0 where
   pub next : 1 ≤ w.length
   pub longest : 1 ≤ w.pace.longest
 
-has_length : (w : Waiting) → IsWaiting w.pace w.length w.misses → HasLength w
+has_length : (w : Waiting) → IsWaiting w.pace w.length w.misses w.measure → HasLength w
 has_length w is =
-    let some = w.pace.some in
-    let ordered = w.pace.ordered in
-    let first = is.first in
-    record { next = omega (arith, some, first); longest = omega (arith, some, ordered) }
+    let some = w.pace.short in
+    let least = is.least in
+    let longest = is.longest in
+    record { next = omega (arith, some, least); longest = omega (arith, some, least, longest) }
 
 not_yet : (w : Waiting) (t now : ℕ) → due_time w.due ≡ Some t → nat_le t now ≡ false → IsDueAfter now w.due
 not_yet w t now is late u due =
@@ -46,12 +47,12 @@ after_ask false w now some more = at_end now (later now w.length) AskAt (λ t. r
 
 by_again : (b : Bool) (w : Waiting) (t now : ℕ) → nat_le t now ≡ b → due_time w.due ≡ Some t → HasLength w → now < last_time
     → IsDueAfter now (after_by w (if b then unless_silent w Again else Nothing) now).due
-by_again true w t now test is some more = after_again (nat_le w.pace.tries w.misses) w now some more
+by_again true w t now test is some more = after_again (nat_le (borne w.measure w.pace) w.misses) w now some more
 by_again false w t now test is some more = not_yet w t now is test
 
 by_ask : (b : Bool) (w : Waiting) (t now : ℕ) → nat_le t now ≡ b → due_time w.due ≡ Some t → HasLength w → now < last_time
     → IsDueAfter now (after_by w (if b then unless_silent w Ask else Nothing) now).due
-by_ask true w t now test is some more = after_ask (nat_le w.pace.tries w.misses) w now some more
+by_ask true w t now test is some more = after_ask (nat_le (borne w.measure w.pace) w.misses) w now some more
 by_ask false w t now test is some more = not_yet w t now is test
 
 by_forget : (b : Bool) (w : Waiting) (t now : ℕ) → nat_le t now ≡ b → due_time w.due ≡ Some t
@@ -65,5 +66,5 @@ by_due w (AgainAt t) now is some more u due = by_again (nat_le t now) w t now re
 by_due w (AskAt t) now is some more u due = by_ask (nat_le t now) w t now refl (ap due_time is) some more u due
 by_due w (ForgetAt t) now is some more u due = by_forget (nat_le t now) w t now refl (ap due_time is) u due
 
-pub due_later : (w v : Waiting) (now : ℕ) → IsWaiting w.pace w.length w.misses → v ≡ after_act w now → now < last_time → IsDueAfter now v.due
+pub due_later : (w v : Waiting) (now : ℕ) → IsWaiting w.pace w.length w.misses w.measure → v ≡ after_act w now → now < last_time → IsDueAfter now v.due
 due_later w v now is same more = subst (λ (u : Waiting). IsDueAfter now u.due) (sym same) (by_due w w.due now refl (has_length w is) more)

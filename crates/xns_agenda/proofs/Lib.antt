@@ -2,6 +2,7 @@ mod Agendas
 mod Beside
 mod Free
 mod Later
+mod Measures
 mod Putting
 mod Silent
 mod Tree

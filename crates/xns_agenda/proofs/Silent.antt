@@ -1,31 +1,31 @@
 -- A silent peer is given up: each packet that goes out by the time alone is a miss.
-use Rattle.std.proofs.Common.{◌≡◌, ◌∙◌, ap, refl, ℕ, ◌+◌, ◌<◌, ◌≤◌, Bool, true, false, arith}
+use Rattle.std.proofs.Common.{◌≡◌, ◌∙◌, refl, ℕ, ◌+◌, ◌<◌, ◌≤◌, Bool, true, false, arith}
 use Rattle.std.specs.Prelude.{nat_le, if◌then◌else◌}
 use Rattle.std.proofs.lemmas.Bool.{leb-false}
+use Rattle.xns_agenda.specs.Measuring.{borne as is_borne}
 use Rattle.xns_agenda.specs.Waiting.{Waiting, Silence, here, steps, sends, act_at, act_by, after_by, after_step, is_sent, unless_silent, waiting_on, idling}
 use Rattle.xns_agenda.specs.declared.act.Act.{Act}
 use Rattle.xns_agenda.specs.declared.act.Act.TheVariants.{Nothing, Again, Ask, GiveUp, Forget}
 use Rattle.xns_agenda.specs.declared.due.Due.{Due}
 use Rattle.xns_agenda.specs.declared.due.Due.TheVariants.{Never, AgainAt, AskAt, ForgetAt}
-use Rattle.xns_agenda.specs.declared.pace.Pace.{Pace}
 
 record Beside (w v : Waiting) (n : ℕ) : Type 0 where
-  pub pace : v.pace ≡ w.pace
+  pub most : is_borne v.measure v.pace ≡ is_borne w.measure w.pace
   pub misses : v.misses ≡ w.misses + n
 
 -- ---- a step is no miss
 
 waits : (w : Waiting) (d : Due) (now : ℕ) → Beside w (waiting_on w d now) 0
-waits w Never now = record { pace = refl; misses = omega arith }
-waits w (AgainAt t) now = record { pace = refl; misses = omega arith }
-waits w (AskAt t) now = record { pace = refl; misses = omega arith }
-waits w (ForgetAt t) now = record { pace = refl; misses = omega arith }
+waits w Never now = record { most = refl; misses = omega arith }
+waits w (AgainAt t) now = record { most = refl; misses = omega arith }
+waits w (AskAt t) now = record { most = refl; misses = omega arith }
+waits w (ForgetAt t) now = record { most = refl; misses = omega arith }
 
 idles : (w : Waiting) (d : Due) → Beside w (idling w d) 0
-idles w Never = record { pace = refl; misses = omega arith }
-idles w (AgainAt t) = record { pace = refl; misses = omega arith }
-idles w (AskAt t) = record { pace = refl; misses = omega arith }
-idles w (ForgetAt t) = record { pace = refl; misses = omega arith }
+idles w Never = record { most = refl; misses = omega arith }
+idles w (AgainAt t) = record { most = refl; misses = omega arith }
+idles w (AskAt t) = record { most = refl; misses = omega arith }
+idles w (ForgetAt t) = record { most = refl; misses = omega arith }
 
 stepped : (w : Waiting) (b : Bool) (now : ℕ) → Beside w (after_step w b now) 0
 stepped w true now = waits w w.due now
@@ -35,24 +35,24 @@ stepped w false now = idles w w.due
 
 misses_one : (w : Waiting) (a : Act) (now : ℕ) → is_sent a ≡ true → Beside w (after_by w a now) 1
 misses_one w Nothing now sent = absurd (cc)
-misses_one w Again now sent = record { pace = refl; misses = refl }
-misses_one w Ask now sent = record { pace = refl; misses = refl }
+misses_one w Again now sent = record { most = refl; misses = refl }
+misses_one w Ask now sent = record { most = refl; misses = refl }
 misses_one w GiveUp now sent = absurd (cc)
 misses_one w Forget now sent = absurd (cc)
 
-fewer : (b : Bool) (w : Waiting) (a : Act) → nat_le w.pace.tries w.misses ≡ b → is_sent (if b then GiveUp else a) ≡ true → w.misses < w.pace.tries
+fewer : (b : Bool) (w : Waiting) (a : Act) → nat_le (is_borne w.measure w.pace) w.misses ≡ b → is_sent (if b then GiveUp else a) ≡ true → w.misses < is_borne w.measure w.pace
 fewer true w a test sent = absurd (cc)
-fewer false w a test sent = leb-false w.pace.tries w.misses test
+fewer false w a test sent = leb-false (is_borne w.measure w.pace) w.misses test
 
-gated : (b : Bool) (w : Waiting) (a : Act) → is_sent (if b then unless_silent w a else Nothing) ≡ true → w.misses < w.pace.tries
-gated true w a sent = fewer (nat_le w.pace.tries w.misses) w a refl sent
+gated : (b : Bool) (w : Waiting) (a : Act) → is_sent (if b then unless_silent w a else Nothing) ≡ true → w.misses < is_borne w.measure w.pace
+gated true w a sent = fewer (nat_le (is_borne w.measure w.pace) w.misses) w a refl sent
 gated false w a sent = absurd (cc)
 
 forgets : (b : Bool) → is_sent (if b then Forget else Nothing) ≡ true → ⊥
 forgets true sent = cc
 forgets false sent = cc
 
-borne : (w : Waiting) (d : Due) (now : ℕ) → is_sent (act_by w d now) ≡ true → w.misses < w.pace.tries
+borne : (w : Waiting) (d : Due) (now : ℕ) → is_sent (act_by w d now) ≡ true → w.misses < is_borne w.measure w.pace
 borne w Never now sent = absurd (cc)
 borne w (AgainAt t) now sent = gated (nat_le t now) w Again sent
 borne w (AskAt t) now sent = gated (nat_le t now) w Ask sent
@@ -61,23 +61,23 @@ borne w (ForgetAt t) now sent = absurd (forgets (nat_le t now) sent)
 -- ---- from one moment to another
 
 pub record Patient (w v : Waiting) (n : ℕ) : Type 0 where
-  pub pace : v.pace ≡ w.pace
+  pub same : is_borne v.measure v.pace ≡ is_borne w.measure w.pace
   pub misses : w.misses + n ≡ v.misses
-  pub most : w.misses + n ≤ w.pace.tries
+  pub most : w.misses + n ≤ is_borne w.measure w.pace
 
-pub patient : (w : Waiting) {n : ℕ} {v : Waiting} → w.misses ≤ w.pace.tries → Silence w n v → Patient w v n
-patient w most here = record { pace = refl; misses = omega arith; most = omega arith }
+pub patient : (w : Waiting) {n : ℕ} {v : Waiting} → w.misses ≤ is_borne w.measure w.pace → Silence w n v → Patient w v n
+patient w most here = record { same = refl; misses = omega arith; most = omega arith }
 patient w most (steps {v = v} before waits now) =
     let p = patient w most before in
     let s = stepped v waits now in
     let none = s.misses in
     let count = p.misses in
-    record { pace = s.pace ∙ p.pace; misses = omega (arith, none, count); most = p.most }
+    record { same = s.most ∙ p.same; misses = omega (arith, none, count); most = p.most }
 patient w most (sends {v = v} before now sent) =
     let p = patient w most before in
     let s = misses_one v (act_at v now) now sent in
     let one = s.misses in
     let count = p.misses in
-    let room : v.misses < v.pace.tries = borne v v.due now sent in
-    let tries : v.pace.tries ≡ w.pace.tries = ap (λ (q : Pace). q.tries) p.pace in
-    record { pace = s.pace ∙ p.pace; misses = omega (arith, one, count); most = omega (arith, room, tries, count) }
+    let room : v.misses < is_borne v.measure v.pace = borne v v.due now sent in
+    let same = p.same in
+    record { same = s.most ∙ p.same; misses = omega (arith, one, count); most = omega (arith, room, same, count) }

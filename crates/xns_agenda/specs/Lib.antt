@@ -1,5 +1,6 @@
 pub mod Agenda
 pub mod Clock
+pub mod Measuring
 pub mod Times
 pub mod Turns
 pub mod Waiting

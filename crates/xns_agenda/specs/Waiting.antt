@@ -1,28 +1,36 @@
 -- When a connection says something again, asks its peer for a word, and is given up. Times are in milliseconds.
-use Rattle.std.specs.Prelude.{◌≡◌, ℕ, ◌+◌, ◌-◌, ◌*◌, ◌^◌, ◌<◌, ◌≤◌, Bool, true, false, ◌==◌, nat_le, min, if◌then◌else◌, Option, Some, None}
+use Rattle.std.specs.Prelude.{◌≡◌, ℕ, ◌+◌, ◌-◌, ◌*◌, ◌^◌, ◌<◌, ◌≤◌, Bool, true, false, ◌==◌, nat_le, min, if◌then◌else◌, Option, Some, None, IfSome}
+use Rattle.xns_agenda.specs.Measuring.{IsBounded, begun_timing, borne, first_wait, learnt}
 use Rattle.xns_agenda.specs.declared.act.Act.{Act}
 use Rattle.xns_agenda.specs.declared.act.Act.TheVariants.{Nothing, Again, Ask, GiveUp, Forget}
 use Rattle.xns_agenda.specs.declared.due.Due.{Due}
 use Rattle.xns_agenda.specs.declared.due.Due.TheVariants.{Never, AgainAt, AskAt, ForgetAt}
+use Rattle.xns_agenda.specs.declared.measure.Measure.{Measure}
+use Rattle.xns_agenda.specs.declared.measure.TheConstants.Measure.{NONE}
 use Rattle.xns_agenda.specs.declared.pace.Pace.{Pace}
+use Rattle.xns_agenda.specs.declared.timing.Timing.{Timing}
+use Rattle.xns_agenda.specs.declared.timing.Timing.TheVariants.{Ready, Resent, Over}
 
 pub record Waiting : Type 0 where
   pub pace : Pace
   pub due : Due
   -- how long the next wait is
   pub length : ℕ
-  -- whether a wait was in vain since the peer acknowledged more
-  pub vain : Bool
+  -- how long the peer takes, as it was measured
+  pub measure : Measure
+  -- what is timed
+  pub timing : Timing
   -- how many packets went out again or asked since the last word of the peer
   pub misses : ℕ
   -- when that came
   pub heard_at : ℕ
 
--- no more misses than are borne; no wait is shorter than the first or longer than the longest
-pub record IsWaiting (pace : Pace) (length misses : ℕ) : Type 0 where
-  pub patient : misses ≤ pace.tries
-  pub first : pace.first ≤ length
+-- no more misses than are borne; no wait is shorter than the least or longer than the longest
+pub record IsWaiting (pace : Pace) (length misses : ℕ) (measure : Measure) : Type 0 where
+  pub patient : misses ≤ borne measure pace
+  pub least : pace.least ≤ length
   pub longest : length ≤ pace.longest
+  pub bounded : IfSome measure.smoothed IsBounded
 
 abbrev pub last_time : ℕ
 last_time = 2 ^ 64 - 1
@@ -36,11 +44,11 @@ abbrev pub next_length : Pace → ℕ → ℕ
 next_length pace length = min (length * 2) pace.longest
 
 abbrev pub new_waiting : Pace → ℕ → Waiting
-new_waiting pace now = record { pace = pace; due = Never; length = pace.first; vain = false; misses = 0; heard_at = now }
+new_waiting pace now = record { pace = pace; due = Never; length = pace.first; measure = NONE; timing = Ready; misses = 0; heard_at = now }
 
 -- nothing is waited for, and the next wait is the first
 abbrev pub rested : Waiting → Waiting
-rested w = record w { due = Never; length = w.pace.first; vain = false }
+rested w = record w { due = Never; length = first_wait w.measure w.pace }
 
 -- a wait begins, at whose end something is done
 abbrev pub begun : (ℕ → Due) → Waiting → ℕ → Waiting
@@ -51,17 +59,21 @@ begun at w now = record w { due = at (later now w.length); length = next_length 
 abbrev pub idle_due : Pace → ℕ → Due
 idle_due pace heard_at = if pace.idle == 0 then Never else AskAt (later heard_at pace.idle)
 
+-- a wait for the peer begins, which is timed
+abbrev pub timed : Waiting → ℕ → Waiting
+timed w now = begun AgainAt (record (rested w) { timing = begun_timing w.timing now }) now
+
 -- something waits for the peer
 abbrev pub waiting_on : Waiting → Due → ℕ → Waiting
-waiting_on w Never now = begun AgainAt (rested w) now
+waiting_on w Never now = timed w now
 waiting_on w (AgainAt t) now = w
-waiting_on w (AskAt t) now = begun AgainAt (rested w) now
+waiting_on w (AskAt t) now = timed w now
 waiting_on w (ForgetAt t) now = w
 
 -- nothing waits for the peer, which is asked when it has been silent for so long
 abbrev pub idling : Waiting → Due → Waiting
-idling w Never = record (rested w) { due = idle_due w.pace w.heard_at }
-idling w (AgainAt t) = record (rested w) { due = idle_due w.pace w.heard_at }
+idling w Never = record (rested w) { due = idle_due w.pace w.heard_at; timing = Ready }
+idling w (AgainAt t) = record (rested w) { due = idle_due w.pace w.heard_at; timing = Ready }
 idling w (AskAt t) = w
 idling w (ForgetAt t) = w
 
@@ -71,15 +83,19 @@ after_step w false now = idling w w.due
 
 -- ---- after a word of the peer, which acknowledges more or opens the connection, or does not
 
-abbrev pub after_heard : Waiting → Due → Bool → Waiting
-after_heard w Never more = rested w
-after_heard w (AgainAt t) true = rested w
-after_heard w (AgainAt t) false = w
-after_heard w (AskAt t) more = rested w
-after_heard w (ForgetAt t) more = w
+-- how long the peer took is learnt
+abbrev pub taught : Waiting → ℕ → Waiting
+taught w now = record w { measure = learnt w.measure w.pace w.timing now; timing = Over }
+
+abbrev pub after_heard : Waiting → Due → Bool → ℕ → Waiting
+after_heard w Never more now = rested w
+after_heard w (AgainAt t) true now = rested (taught w now)
+after_heard w (AgainAt t) false now = w
+after_heard w (AskAt t) more now = rested w
+after_heard w (ForgetAt t) more now = w
 
 abbrev pub after_word : Waiting → Bool → ℕ → Waiting
-after_word w more now = after_heard (record w { misses = 0; heard_at = now }) w.due more
+after_word w more now = after_heard (record w { misses = 0; heard_at = now }) w.due more now
 
 -- ---- when a wait is over
 
@@ -91,7 +107,7 @@ due_time (ForgetAt t) = Some t
 
 -- a packet goes out, unless as many did as are borne
 abbrev pub unless_silent : Waiting → Act → Act
-unless_silent w act = if nat_le w.pace.tries w.misses then GiveUp else act
+unless_silent w act = if nat_le (borne w.measure w.pace) w.misses then GiveUp else act
 
 abbrev pub act_by : Waiting → Due → ℕ → Act
 act_by w Never now = Nothing
@@ -107,11 +123,11 @@ abbrev pub lingering : Waiting → ℕ → Waiting
 lingering w now = record w { due = ForgetAt (later now w.pace.longest) }
 
 abbrev pub missed : (ℕ → Due) → Waiting → ℕ → Waiting
-missed at w now = record (begun at w now) { vain = true; misses = w.misses + 1 }
+missed at w now = record (begun at w now) { misses = w.misses + 1 }
 
 abbrev pub after_by : Waiting → Act → ℕ → Waiting
 after_by w Nothing now = w
-after_by w Again now = missed AgainAt w now
+after_by w Again now = record (missed AgainAt w now) { timing = Resent now }
 after_by w Ask now = missed AskAt w now
 after_by w GiveUp now = lingering w now
 after_by w Forget now = record w { due = Never }

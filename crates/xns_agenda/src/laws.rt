@@ -1,7 +1,11 @@
 //! What the definitions imply, each as the contract of a function that does nothing.
 
-ghost use Rattle.std.specs.Prelude.{◌≡◌, ◌≤◌, ◌<◌, ◌+◌, ◌-◌, ℕ};
+ghost use Rattle.std.specs.Prelude.{◌≡◌, ◌≤◌, ◌<◌, ◌+◌, ◌-◌, ◌*◌, ◌^◌, ℕ};
 ghost use Rattle.xns_agenda.specs.Clock.{by_told, day, time_at, told_at};
+ghost use Rattle.xns_agenda.specs.Measuring.{borne, first_wait, shorter_waits, smoothed_on};
+ghost use Rattle.xns_agenda.specs.declared.measure.TheConstants.Measure.{NONE};
+ghost use Rattle.xns_agenda.specs.declared.pace.Pace.{Pace};
+ghost use Rattle.xns_agenda.specs.declared.smoothed.Smoothed.{Smoothed};
 ghost use Rattle.xns_agenda.specs.declared.clock.Clock.{Clock};
 ghost use Rattle.xns_agenda.specs.Waiting.{Waiting, Silence, last_time, act_at, after_act, later, next_length};
 ghost use Rattle.xns_agenda.specs.declared.act.Act.TheVariants.{Again};
@@ -10,8 +14,8 @@ ghost use Rattle.xns_agenda.specs.declared.due.Due.TheVariants.{AgainAt};
 /// Between two words of the peer at most as many packets go out by the time alone as are borne, whatever else is done. Each
 /// counts as one miss.
 pub fn a_silent_peer_is_given_up()
-    ensures { (w v : Waiting) (n : ℕ) → w.misses ≤ w.pace.tries → Silence w n v → (w.misses + n ≡ v.misses)
-        × (w.misses + n ≤ w.pace.tries) }
+    ensures { (w v : Waiting) (n : ℕ) → w.misses ≤ borne w.measure w.pace → Silence w n v
+        → (w.misses + n ≡ v.misses) × (w.misses + n ≤ borne w.measure w.pace) }
 {}
 
 /// When something goes out again, the wait that begins is as long as the one before had said, and the next one is twice as long,
@@ -32,4 +36,15 @@ pub fn a_clock_goes_on()
         → c.latest + (then - now) ≤ last_time → time_at (told_at c now) then ≡ c.latest + (then - now) }
     ensures far { (c : Clock) (now : ℕ) → time_at c now ≤ c.latest + day }
     ensures told { (c : Clock) (span : ℕ) → 0 < span → c.told + span < last_time → by_told c (c.latest + span) ≡ c.told + span }
+{}
+
+/// How long is waited: as the pace says, where nothing was measured, and so many packets are borne too (`unmeasured`). Where each time that is
+/// measured is the same, that is the smoothed time (`steady`). So many waits are shorter than another one: the next is not (`enough`), and
+/// the last of them is (`shorter`).
+pub fn a_wait_is_measured()
+    ensures unmeasured { (pace : Pace) → (first_wait NONE pace ≡ pace.first) × (borne NONE pace ≡ pace.tries) }
+    ensures steady { (s : Smoothed) (time : ℕ) → s.time8 ≡ 8 * time → (smoothed_on s time).time8 ≡ 8 * time }
+    ensures enough { (length wait : ℕ) → 1 ≤ length → 1 ≤ wait → wait < 2 ^ 32 → wait ≤ length * 2 ^ shorter_waits length wait }
+    ensures shorter { (length wait k : ℕ) → 1 ≤ length → 1 ≤ wait → wait < 2 ^ 32 → shorter_waits length wait ≡ k + 1
+        → length * 2 ^ k < wait }
 {}

@@ -1,13 +1,16 @@
 //! The waits of a connection.
 
 ghost use Rattle.std.specs.Prelude.{◌≡◌, ◌<◌, ◌≤◌};
+ghost use Rattle.xns_agenda.specs.Measuring.{borne, is_vain};
 ghost use Rattle.xns_agenda.specs.Waiting.{later, next_length, idle_due};
 ghost use Rattle.xns_agenda.specs.declared.act.Act.TheVariants.{Again, Ask};
 ghost use Rattle.xns_agenda.specs.declared.due.Due.TheVariants.{AgainAt, AskAt};
 
 use crate::act::Act;
 use crate::due::Due;
+use crate::measure::Measure;
 use crate::pace::Pace;
+use crate::timing::Timing;
 use std::marker::Model;
 
 /// What a connection waits for, how long, and how often in vain. Times are in milliseconds, of any clock.
@@ -20,10 +23,12 @@ pub struct Wait {
     due: Due,
     /// How long the next wait is.
     length: u32,
-    /// Whether a wait was in vain since the peer acknowledged more.
-    vain: bool,
+    /// How long the peer takes.
+    measure: Measure,
+    /// What is timed of it.
+    timing: Timing,
     /// How many packets went out again or asked since the last word of the peer.
-    misses: u8,
+    misses: u16,
     /// When the last word of the peer came.
     heard_at: u64,
 }
@@ -33,9 +38,9 @@ impl Model for Wait {
 
     ghost Value = { Waiting };
 
-    ghost view = { λ w. record { pace = w.pace; due = w.due; length = w.length; vain = w.vain; misses = w.misses; heard_at = w.heard_at } };
+    ghost view = { λ w. record { pace = w.pace; due = w.due; length = w.length; measure = w.measure; timing = w.timing; misses = w.misses; heard_at = w.heard_at } };
 
-    ghost invariant = { λ w. IsWaiting w.pace w.length w.misses };
+    ghost invariant = { λ w. IsWaiting w.pace w.length w.misses w.measure };
 }
 
 /// The time so long after this one; at the end of time the last one.
@@ -71,7 +76,7 @@ fn idle_due(pace: &Pace, heard_at: u64) -> Due
 }
 
 impl Wait {
-    ghost use Rattle.xns_agenda.specs.Waiting.{new_waiting, act_at, after_act, after_step, after_word, begun, missed, rested, lingering};
+    ghost use Rattle.xns_agenda.specs.Waiting.{new_waiting, act_at, after_act, after_by, after_step, after_word, begun, missed, rested, lingering, taught};
     ghost use Rattle.xns_agenda.specs.Waiting.{IsDueAfter, last_time, waiting_on, idling};
 
     /// The waits of a connection that is made at this time.
@@ -82,7 +87,8 @@ impl Wait {
             pace,
             due: Due::Never,
             length: pace.first,
-            vain: false,
+            measure: Measure::NONE,
+            timing: Timing::Ready,
             misses: 0,
             heard_at: now,
         }
@@ -97,16 +103,16 @@ impl Wait {
 
     /// Whether a wait was in vain since the peer acknowledged more.
     pub fn was_vain(&self) -> bool
-        ensures { result ≡ self.now.vain }
+        ensures { result ≡ is_vain self.now.timing }
     {
-        self.vain
+        self.timing.is_vain()
     }
 
     /// When the last word of the peer came.
     pub fn heard_at(&self) -> u64
         ensures value { result ≡ self.now.heard_at }
         // No more packets than are borne have gone out since.
-        ensures patient { self.now.misses ≤ self.now.pace.tries }
+        ensures patient { self.now.misses ≤ borne self.now.measure self.now.pace }
     {
         self.heard_at
     }
@@ -116,8 +122,7 @@ impl Wait {
         ensures { self.new ≡ rested self.old }
     {
         self.due = Due::Never;
-        self.length = self.pace.first;
-        self.vain = false;
+        self.length = self.measure.first_wait(&self.pace);
     }
 
     /// Begins a wait for the peer.
@@ -135,6 +140,7 @@ impl Wait {
         match self.due {
             Due::AgainAt(_) | Due::ForgetAt(_) => {}
             Due::Never | Due::AskAt(_) => {
+                self.timing = self.timing.begun(now);
                 self.rest();
                 self.begin(now);
             }
@@ -148,6 +154,7 @@ impl Wait {
         match self.due {
             Due::AskAt(_) | Due::ForgetAt(_) => {}
             Due::Never | Due::AgainAt(_) => {
+                self.timing = Timing::Ready;
                 self.rest();
                 self.due = idle_due(&self.pace, self.heard_at);
             }
@@ -165,6 +172,15 @@ impl Wait {
         }
     }
 
+    /// Learns how long the peer took to acknowledge more.
+    fn learn(&mut self, now: u64)
+        requires { self.old.misses ≡ 0 }
+        ensures { self.new ≡ taught self.old now }
+    {
+        self.measure = self.measure.learnt(&self.pace, self.timing, now);
+        self.timing = Timing::Over;
+    }
+
     /// Takes in a word of the peer, where `more` says whether it acknowledges more, or opens the connection.
     pub fn hear(&mut self, more: bool, now: u64)
         ensures { self.new ≡ after_word self.old more now }
@@ -174,7 +190,11 @@ impl Wait {
         match self.due {
             Due::ForgetAt(_) => {}
             Due::AgainAt(_) if !more => {}
-            Due::Never | Due::AgainAt(_) | Due::AskAt(_) => self.rest(),
+            Due::AgainAt(_) => {
+                self.learn(now);
+                self.rest();
+            }
+            Due::Never | Due::AskAt(_) => self.rest(),
         }
     }
 
@@ -188,8 +208,8 @@ impl Wait {
     /// What is to be done at this time.
     fn next_act(&self, now: u64) -> Act
         ensures value { result ≡ act_at self.now now }
-        ensures again { result ≡ Again → self.now.misses < self.now.pace.tries }
-        ensures ask { result ≡ Ask → self.now.misses < self.now.pace.tries }
+        ensures again { result ≡ Again → self.now.misses < borne self.now.measure self.now.pace }
+        ensures ask { result ≡ Ask → self.now.misses < borne self.now.measure self.now.pace }
     {
         let Some(time) = self.due.time() else {
             return Act::Nothing;
@@ -200,7 +220,8 @@ impl Wait {
         match self.due {
             Due::Never => Act::Nothing,
             Due::ForgetAt(_) => Act::Forget,
-            Due::AgainAt(_) | Due::AskAt(_) if self.misses >= self.pace.tries => Act::GiveUp,
+            Due::AgainAt(_) | Due::AskAt(_) if self.misses >= self.measure.borne(&self.pace) =>
+                Act::GiveUp,
             Due::AgainAt(_) => Act::Again,
             Due::AskAt(_) => Act::Ask,
         }
@@ -208,22 +229,21 @@ impl Wait {
 
     /// A packet goes out again, and the next wait begins.
     fn miss_again(&mut self, now: u64)
-        requires { self.old.misses < self.old.pace.tries }
-        ensures { self.new ≡ missed AgainAt self.old now }
+        requires { self.old.misses < borne self.old.measure self.old.pace }
+        ensures { self.new ≡ after_by self.old Again now }
     {
         self.misses += 1;
-        self.vain = true;
+        self.timing = Timing::Resent(now);
         self.due = Due::AgainAt(later(now, self.length));
         self.length = next_length(self.length, &self.pace);
     }
 
     /// A packet asks the peer, and the next wait begins.
     fn miss_ask(&mut self, now: u64)
-        requires { self.old.misses < self.old.pace.tries }
+        requires { self.old.misses < borne self.old.measure self.old.pace }
         ensures { self.new ≡ missed AskAt self.old now }
     {
         self.misses += 1;
-        self.vain = true;
         self.due = Due::AskAt(later(now, self.length));
         self.length = next_length(self.length, &self.pace);
     }

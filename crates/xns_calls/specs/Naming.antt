@@ -1,9 +1,9 @@
 -- Messages by name: what stands in a line in place of numbers and words.
-use Rattle.std.specs.Prelude.{◌≡◌, ℕ, List, [], ◌++◌, codes, Option, Some, None, Result, Ok, Err}
+use Rattle.std.specs.Prelude.{◌≡◌, ℕ, List, [], ◌++◌, codes, Option, Some, None, IsSomeAnd, Result, Ok, Err}
 use Rattle.std.specs.Borrow.{Bor}
 use Rattle.std.specs.Fmt.{decimal}
 use Rattle.std.specs.Global.{Vec}
-use Rattle.call_texts.specs.Calls.{abort_shown, call_shown, return_shown}
+use Rattle.call_texts.specs.Calls.{AbortWants, CallWants, ReturnWants, abort_shown, call_shown, return_shown}
 use Rattle.call_texts.specs.Showing.{UnreadModel}
 use Rattle.call_texts.specs.declared.unread.UnreadReason.{UnreadReason}
 use Rattle.call_texts.specs.declared.unread.UnreadReason.TheVariants as reasons
@@ -39,6 +39,22 @@ abbrev pub named_abort : Programs → Option Waiting → ℕ → List ℕ → Sh
 named_abort (Some programs) (Some call) error words = abort_shown programs.now call.program call.version error words
 named_abort (Some programs) None error words = None
 named_abort None of error words = None
+
+-- ---- memory
+
+-- naming a call wants memory: programs are given, and its text by them wants memory
+abbrev pub NamingCallWants : Programs → ℕ → ℕ → ℕ → List ℕ → Type 0
+NamingCallWants programs program version procedure words = IsSomeAnd programs (λ given. CallWants given.now program version procedure words)
+
+-- naming a return wants memory: programs are given, its call is known, and its text by them wants memory
+abbrev pub NamingReturnWants : Programs → Option Waiting → List ℕ → Type 0
+NamingReturnWants programs of words = IsSomeAnd programs (λ given. IsSomeAnd of
+    (λ call. ReturnWants given.now call.program call.version call.procedure words))
+
+-- naming an abort wants memory: programs are given, its call is known, and its text by them wants memory
+abbrev pub NamingAbortWants : Programs → Option Waiting → ℕ → List ℕ → Type 0
+NamingAbortWants programs of error words = IsSomeAnd programs (λ given. IsSomeAnd of
+    (λ call. AbortWants given.now call.program call.version error words))
 
 -- ---- in a line
 

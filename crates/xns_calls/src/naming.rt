@@ -1,6 +1,7 @@
 //! How messages are named by the programs that are given.
-ghost use Rattle.std.specs.Prelude.{◌≡◌, IfOk};
-ghost use Rattle.xns_calls.specs.Naming.{Declares, named_abort, named_call, named_return, shown_model};
+ghost use Rattle.std.specs.Prelude.{◌≡◌, IfOk, OnErr, Err};
+ghost use Rattle.call_texts.specs.declared.unread.Unshown.TheVariants.{NoMemory};
+ghost use Rattle.xns_calls.specs.Naming.{Declares, NamingAbortWants, NamingCallWants, NamingReturnWants, named_abort, named_call, named_return, shown_model};
 
 use crate::shown::Shown;
 use crate::waiting::Waiting;
@@ -10,7 +11,8 @@ use std::alloc::{AllocError, Global};
 
 /// What a text by name is shown as, or why there is none. The only error is want of memory.
 fn shown(text: Result<Option<Vec<u8>>, Unshown>) -> Result<Shown, AllocError>
-    ensures { IfOk result (λ shown. Declares text (shown_model shown)) }
+    ensures exact { IfOk result (λ shown. Declares text (shown_model shown)) }
+    ensures memory { OnErr result (text ≡ Err NoMemory) }
 {
     match text {
         Ok(Some(text)) => Ok(Shown::Named(text)),
@@ -20,7 +22,7 @@ fn shown(text: Result<Option<Vec<u8>>, Unshown>) -> Result<Shown, AllocError>
     }
 }
 
-/// How a call is shown. The only error is want of memory.
+/// How a call is shown. The only error is want of memory, where a text by name was to be made.
 pub fn name_call(
     alloc: Global,
     programs: Option<&[Program]>,
@@ -29,7 +31,8 @@ pub fn name_call(
     procedure: u16,
     words: &[u16],
 ) -> Result<Shown, AllocError>
-    ensures { IfOk result (λ shown. shown_model shown ≡ named_call programs.entry program version procedure words.now) }
+    ensures exact { IfOk result (λ shown. shown_model shown ≡ named_call programs.entry program version procedure words.now) }
+    ensures memory { OnErr result (NamingCallWants programs.entry program version procedure words.now) }
 {
     match programs {
         Some(programs) => shown(call_text(alloc, programs, program, version, procedure, words)),
@@ -37,14 +40,16 @@ pub fn name_call(
     }
 }
 
-/// How a return of that call is shown; where no call waited for it, by numbers. The only error is want of memory.
+/// How a return of that call is shown; where no call waited for it, by numbers. The only error is want of memory, where a
+/// text by name was to be made.
 pub fn name_return(
     alloc: Global,
     programs: Option<&[Program]>,
     of: Option<Waiting>,
     words: &[u16],
 ) -> Result<Shown, AllocError>
-    ensures { IfOk result (λ shown. shown_model shown ≡ named_return programs.entry of words.now) }
+    ensures exact { IfOk result (λ shown. shown_model shown ≡ named_return programs.entry of words.now) }
+    ensures memory { OnErr result (NamingReturnWants programs.entry of words.now) }
 {
     match (programs, of) {
         (Some(programs), Some(call)) => shown(return_text(
@@ -59,7 +64,8 @@ pub fn name_return(
     }
 }
 
-/// How an abort of that call with this error is shown; where no call waited for it, by numbers. The only error is want of memory.
+/// How an abort of that call with this error is shown; where no call waited for it, by numbers. The only error is want of memory, where a
+/// text by name was to be made.
 pub fn name_abort(
     alloc: Global,
     programs: Option<&[Program]>,
@@ -67,7 +73,8 @@ pub fn name_abort(
     error: u16,
     words: &[u16],
 ) -> Result<Shown, AllocError>
-    ensures { IfOk result (λ shown. shown_model shown ≡ named_abort programs.entry of error words.now) }
+    ensures exact { IfOk result (λ shown. shown_model shown ≡ named_abort programs.entry of error words.now) }
+    ensures memory { OnErr result (NamingAbortWants programs.entry of error words.now) }
 {
     match (programs, of) {
         (Some(programs), Some(call)) => shown(abort_text(

@@ -5,6 +5,7 @@ use Rattle.std.specs.Option.{is_some}
 use Rattle.std.proofs.Math.Logic.{∥∥₁_map}
 use Rattle.std.proofs.Props.{props}
 use Rattle.courier_sessions.specs.declared.feed_refusal.FeedRefusal.{FeedRefusal}
+use Rattle.xns_agenda.specs.Measuring.{is_vain}
 use Rattle.xns_agenda.specs.Waiting.{HearsAt, StepsAt, Waiting, close, still, act_at, after_act, after_by, after_step, after_word, lingering}
 use Rattle.xns_agenda.specs.declared.act.Act.{Act}
 use Rattle.xns_agenda.specs.declared.act.Act.TheVariants.{Nothing, Again, Ask, GiveUp, Forget}
@@ -195,15 +196,15 @@ owed_so o word again = record o { word = word; again = again }
 
 pub owed_is_heard : (o m : Owed) (w : Waiting) (s : State) (b : List ℕ) (i : Input) (more left : Bool) → i ≡ input_answer s b
     → more ≡ is_progress s (after_receive s b) → left ≡ nat_lt 0 (unacknowledged_count (after_receive s b)) → (is_foreign i.dropped ≡ true → m ≡ o)
-    → (is_foreign i.dropped ≡ false → m ≡ record o { word = o.word || i.owes_reply; again = o.again || (more && (w.vain && left)) })
+    → (is_foreign i.dropped ≡ false → m ≡ record o { word = o.word || i.owes_reply; again = o.again || (more && (is_vain w.timing && left)) })
     → m ≡ owed_heard o w s b
 owed_is_heard o m w s b i more left is progress some same next =
     let drops : is_foreign i.dropped ≡ is_foreign (input_answer s b).dropped = ap (λ (x : Input). is_foreign x.dropped) is in
     owed_both (is_foreign (input_answer s b).dropped) o m (owed_so o (o.word || (input_answer s b).owes_reply) (o.again || goes_again w s b))
     (λ yes. same (drops ∙ yes))
-    (λ z. next (drops ∙ z) ∙ ap (λ (x : Input). owed_so o (o.word || x.owes_reply) (o.again || (more && (w.vain && left)))) is
-    ∙ ap (λ (x : Bool). owed_so o (o.word || (input_answer s b).owes_reply) (o.again || (x && (w.vain && left)))) progress
-    ∙ ap (λ (x : Bool). owed_so o (o.word || (input_answer s b).owes_reply) (o.again || (is_progress s (after_receive s b) && (w.vain && x)))) some)
+    (λ z. next (drops ∙ z) ∙ ap (λ (x : Input). owed_so o (o.word || x.owes_reply) (o.again || (more && (is_vain w.timing && left)))) is
+    ∙ ap (λ (x : Bool). owed_so o (o.word || (input_answer s b).owes_reply) (o.again || (x && (is_vain w.timing && left)))) progress
+    ∙ ap (λ (x : Bool). owed_so o (o.word || (input_answer s b).owes_reply) (o.again || (is_progress s (after_receive s b) && (is_vain w.timing && x)))) some)
 
 wait_both : (foreign : Bool) (w v x : Waiting) → (foreign ≡ true → v ≡ w) → (foreign ≡ false → v ≡ x) → v ≡ (if foreign then w else x)
 wait_both true w v x same after = same refl

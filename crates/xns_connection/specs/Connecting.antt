@@ -13,6 +13,7 @@ use Rattle.xns_spp.specs.declared.dropped.Dropped.{Dropped}
 use Rattle.xns_spp.specs.declared.dropped.Dropped.TheVariants as drops
 use Rattle.xns_connection.specs.Closing.{end_stream, end_reply_stream}
 use Rattle.xns_connection.specs.Telling.{is_progress}
+use Rattle.xns_agenda.specs.Measuring.{is_vain}
 use Rattle.xns_agenda.specs.Waiting.{Waiting, after_word}
 use Rattle.xns_agenda.specs.declared.act.Act.{Act}
 use Rattle.xns_agenda.specs.declared.act.Act.TheVariants.{Nothing, Again, Ask, GiveUp, Forget}
@@ -122,7 +123,7 @@ wait_heard w s b now = if is_foreign (input_answer s b).dropped then w else afte
 
 -- its first item goes out again: these bytes have more acknowledged after a wait that was in vain, and some item still is not
 abbrev pub goes_again : Waiting → State → List ℕ → Bool
-goes_again w s b = is_progress s (after_receive s b) && (w.vain && nat_lt 0 (unacknowledged_count (after_receive s b)))
+goes_again w s b = is_progress s (after_receive s b) && (is_vain w.timing && nat_lt 0 (unacknowledged_count (after_receive s b)))
 
 abbrev pub owed_heard : Owed → Waiting → State → List ℕ → Owed
 owed_heard o w s b =

@@ -14,6 +14,7 @@ ghost use Rattle.xns_connection.specs.Connecting.{is_again, is_open_due, is_clos
 ghost use Rattle.xns_connection.specs.Moving.{HasHistory};
 ghost use Rattle.xns_connection.specs.Deeds.{ClosesThen, GoesOnBy, is_starved};
 ghost use Rattle.xns_connection.specs.Telling.{waits};
+ghost use Rattle.xns_agenda.specs.Measuring.{is_vain};
 ghost use Rattle.xns_agenda.specs.Waiting.{StepsAt, after_step, after_word};
 ghost use Rattle.xns_agenda.specs.declared.act.Act.TheVariants.{GiveUp};
 
@@ -132,7 +133,7 @@ pub fn note(input: Input, more: bool, left: bool, owed: &mut Owed, wait: &mut Wa
     ensures wait { is_foreign input.dropped ≡ false → wait.new ≡ after_word wait.old more now }
     ensures owed { is_foreign input.dropped ≡ false → owed.new ≡ record owed.old {
       word = owed.old.word || input.owes_reply;
-      again = owed.old.again || (more && (wait.old.vain && left));
+      again = owed.old.again || (more && (is_vain wait.old.timing && left));
     } }
     ensures open_due { is_open_due wait.old.due ≡ true → is_open_due wait.new.due ≡ true }
     ensures closed_due { is_closed_due wait.old.due ≡ true → is_closed_due wait.new.due ≡ true }

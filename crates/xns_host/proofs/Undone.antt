@@ -46,14 +46,14 @@ lingers_on now w at still = at
 lingers_on now w at (step {v = u} next b) = linger_step u b now (lingers_on now w at next)
 lingers_on now w at (close next) = refl
 
-linger_heard : (w : Waiting) (d : Due) (more : Bool) → is_lingering d ≡ true → is_lingering w.due ≡ true → is_lingering (after_heard w d more).due ≡ true
-linger_heard w Never more is at = absurd (cc)
-linger_heard w (AgainAt t) more is at = absurd (cc)
-linger_heard w (AskAt t) more is at = absurd (cc)
-linger_heard w (ForgetAt t) more is at = at
+linger_heard : (w : Waiting) (d : Due) (more : Bool) (now : ℕ) → is_lingering d ≡ true → is_lingering w.due ≡ true → is_lingering (after_heard w d more now).due ≡ true
+linger_heard w Never more now is at = absurd (cc)
+linger_heard w (AgainAt t) more now is at = absurd (cc)
+linger_heard w (AskAt t) more now is at = absurd (cc)
+linger_heard w (ForgetAt t) more now is at = at
 
 linger_word : (w : Waiting) (more : Bool) (now : ℕ) → is_lingering w.due ≡ true → is_lingering (after_word w more now).due ≡ true
-linger_word w more now at = linger_heard (record w { misses = 0; heard_at = now }) w.due more at at
+linger_word w more now at = linger_heard (record w { misses = 0; heard_at = now }) w.due more now at at
 
 hears_on : (now : ℕ) (w v : Waiting) → is_lingering w.due ≡ true → HearsAt now w v → is_lingering v.due ≡ true
 hears_on now w v at (no_word steps) = lingers_on now w at steps

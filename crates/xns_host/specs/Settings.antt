@@ -1,5 +1,5 @@
 -- What a host is made with.
-use Rattle.std.specs.Prelude.{◌≡◌, ℕ, ◌≤◌, Bool, not, ◌&&◌, ◌==◌, nat_lt, nat_le, if◌then◌else◌, Option, Some, None, Result, Ok, Err}
+use Rattle.std.specs.Prelude.{◌≡◌, ℕ, ◌≤◌, Bool, not, ◌&&◌, ◌==◌, nat_lt, nat_le, if◌then◌else◌, Option, Some, None, min, Result, Ok, Err}
 use Rattle.xns_spp.specs.Ends.{IsCapacity, most_pending}
 use Rattle.xns_connection.specs.Step.{IsMade}
 use Rattle.xns_connection.specs.declared.connection.Connection.{Connection}
@@ -65,10 +65,15 @@ answer_unless (Some setting) = Err (OutOfRange setting)
 abbrev pub settings_answer : Settings → Result (Unit {0}) HostFault
 settings_answer s = answer_unless (wrong_setting s)
 
+-- what a measured wait is longer than the measured time, at least
+abbrev pub least_wait : ℕ
+least_wait = 10
+
 -- what a connection's waits are made of
 pub record IsPaceOf (s : Settings) (p : Pace) : Type 0 where
   pub first : p.first ≡ s.first_wait
   pub longest : p.longest ≡ s.longest_wait
+  pub least : p.least ≡ min least_wait s.first_wait
   pub idle : p.idle ≡ s.idle
   pub tries : p.tries ≡ s.tries
 

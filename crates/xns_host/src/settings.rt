@@ -7,6 +7,9 @@ use xns_agenda::Pace;
 use xns_connection::Terms;
 use xns_spp::MOST_PENDING;
 
+/// The least that a measured wait is longer than the time that was measured.
+const LEAST: u32 = 10;
+
 /// What a host is made with. Each has its range, which [`Settings::check`] asks. Times are in milliseconds.
 #[derive(Clone, Copy, Debug, PartialEq, Eq)]
 pub struct Settings {
@@ -16,13 +19,14 @@ pub struct Settings {
     pub window: usize,
     /// How many items a connection keeps until they are acknowledged: 1 to 64.
     pub backlog: usize,
-    /// The first wait for an acknowledgement: from 1.
+    /// The first wait for an acknowledgement, where no time was measured: from 1.
     pub first_wait: u32,
     /// The longest wait: from `first_wait`.
     pub longest_wait: u32,
     /// How long the peer may be silent before it is asked for a word, where nothing waits for it. 0: it is never asked.
     pub idle: u32,
-    /// How many waits without a word of the peer are borne: from 1. After one more it is given up.
+    /// How many waits without a word of the peer are borne: from 1. After one more it is given up. Measured waits that are shorter than the
+    /// first one do not count.
     pub tries: u8,
     /// How many packets of no connection wait to go out at most: 1 to 1,024.
     pub strays: usize,
@@ -100,6 +104,7 @@ impl Settings {
         Pace {
             first: self.first_wait,
             longest: self.longest_wait,
+            least: LEAST.min(self.first_wait),
             idle: self.idle,
             tries: self.tries,
         }

@@ -1,4 +1,4 @@
-use Rattle.std.proofs.Common.{◌≡◌, rules, subst, ℕ, None}
+use Rattle.std.proofs.Common.{◌≡◌, rules, subst, ℕ}
 use Rattle.xns_agenda.specs.Agenda.{GetsNumber, free_number, given_way}
 use Rattle.xns_agenda.specs.Turns.{HasNoTurn}
 use Rattle.xns_agenda.proofs.agenda.place_of.Goals as goal

@@ -1,5 +1,8 @@
-use Rattle.xns_calls.proofs.Agreeing.{agree}
+use Rattle.xns_calls.proofs.Agreeing.{agree, wanted}
 use Rattle.xns_calls.proofs.naming.name_return.Goals as goal
 
-pub returns-in-Some-Some : goal.returns-in-Some-Some
-returns-in-Some-Some c = rw (c.in-Some-Some.is-0, c.in-Some-Some.is-1) (agree c.return_text.result _ c.shown.result c.return_text.ensures.exact c.shown.ensures)
+pub returns-in-Some-Some-clause-exact : goal.returns-in-Some-Some-clause-exact
+returns-in-Some-Some-clause-exact c = rw (c.in-Some-Some.is-0, c.in-Some-Some.is-1) (agree c.return_text.result _ c.shown.result c.return_text.ensures.exact c.shown.ensures.exact)
+
+pub returns-in-Some-Some-clause-memory : goal.returns-in-Some-Some-clause-memory
+returns-in-Some-Some-clause-memory c = rw (c.in-Some-Some.is-0, c.in-Some-Some.is-1) (wanted _ c.return_text.result c.shown.result c.return_text.ensures.memory c.shown.ensures.memory)

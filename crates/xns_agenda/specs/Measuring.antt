@@ -1,0 +1,105 @@
+-- How long a peer takes to acknowledge, as it is measured, and how long is waited by that. Times are in milliseconds.
+use Rattle.std.specs.Prelude.{ℕ, ◌+◌, ◌-◌, ◌*◌, ◌/◌, ◌^◌, ◌≤◌, Bool, true, false, ◌&&◌, ◌==◌, nat_le, nat_lt, min, max, if◌then◌else◌, Option, Some, None}
+use Rattle.std.specs.Int.{abs_diff, leading_zeros, w32}
+use Rattle.xns_agenda.specs.declared.measure.Measure.{Measure}
+use Rattle.xns_agenda.specs.declared.pace.Pace.{Pace}
+use Rattle.xns_agenda.specs.declared.smoothed.Smoothed.{Smoothed}
+use Rattle.xns_agenda.specs.declared.timing.Timing.{Timing}
+use Rattle.xns_agenda.specs.declared.timing.Timing.TheVariants.{Ready, Timed, Resent, Over}
+
+-- ---- what is measured
+
+abbrev pub longest_time : ℕ
+longest_time = 2 ^ 32 - 1
+
+-- no number grows over what the longest time makes of it
+pub record IsBounded (s : Smoothed) : Type 0 where
+  pub time : s.time8 ≤ 8 * longest_time
+  pub varies : s.varies4 ≤ 4 * longest_time
+
+-- the first time that is measured may vary by half of it
+abbrev pub first_smoothed : ℕ → Smoothed
+first_smoothed time = record { time8 = 8 * time; varies4 = 2 * time }
+
+-- another one moves the smoothed time by an eighth of what it differs by, and what it varies by by a quarter
+abbrev pub smoothed_on : Smoothed → ℕ → Smoothed
+smoothed_on s time = record {
+  time8 = (s.time8 - s.time8 / 8) + time;
+  varies4 = (s.varies4 - s.varies4 / 4) + abs_diff time (s.time8 / 8);
+}
+
+abbrev pub smoothed_by : Option Smoothed → ℕ → Smoothed
+smoothed_by None time = first_smoothed time
+smoothed_by (Some s) time = smoothed_on s time
+
+-- the time that is to be expected: the smoothed one, and what it varies by, which counts at least so much
+abbrev pub estimate : Smoothed → (least : ℕ) → ℕ
+estimate s least = s.time8 / 8 + max least s.varies4
+
+abbrev pub expected : Option Smoothed → Pace → ℕ
+expected None pace = pace.first
+expected (Some s) pace = estimate s pace.least
+
+-- the shortest time that a reply may have taken: half of the smoothed one
+abbrev pub half_time : Option Smoothed → Pace → ℕ
+half_time None pace = pace.least - pace.least / 2
+half_time (Some s) pace = s.time8 / 8 - s.time8 / 8 / 2
+
+-- where so much time has passed since something went out again, that may be what the peer acknowledged
+abbrev pub is_expected : Option Smoothed → Pace → (passed : ℕ) → Bool
+is_expected o pace passed = nat_le (half_time o pace) passed && nat_le passed (expected o pace)
+
+-- ---- what is learnt where the peer acknowledges more, or opens the connection
+
+abbrev pub sampled : Measure → Pace → (passed : ℕ) → Measure
+sampled m pace passed = record { smoothed = Some (smoothed_by m.smoothed (min passed pace.longest)); doubts = 0 }
+
+abbrev pub doubted : Measure → Pace → (passed : ℕ) → Measure
+doubted m pace passed = if is_expected m.smoothed pace passed then m else record m { doubts = min (m.doubts + 1) 255 }
+
+-- the time is measured where nothing went out again; where something did, it may be that the wait before was too short
+abbrev pub learnt : Measure → Pace → Timing → (now : ℕ) → Measure
+learnt m pace Ready now = m
+learnt m pace (Timed since) now = sampled m pace (now - since)
+learnt m pace (Resent at) now = doubted m pace (now - at)
+learnt m pace Over now = m
+
+-- ---- what is timed
+
+-- something begins to wait for the peer
+abbrev pub begun_timing : Timing → (now : ℕ) → Timing
+begun_timing Ready now = Timed now
+begun_timing (Timed since) now = Timed since
+begun_timing (Resent at) now = Resent at
+begun_timing Over now = Over
+
+-- a wait was in vain since the peer acknowledged more
+abbrev pub is_vain : Timing → Bool
+is_vain Ready = false
+is_vain (Timed since) = false
+is_vain (Resent at) = true
+is_vain Over = false
+
+-- ---- how long is waited
+
+-- by three doubts at least the first wait, by four twice as long, by more four times
+abbrev pub doubted_wait : (first doubts : ℕ) → ℕ
+doubted_wait first doubts = if nat_lt doubts 3 then 0 else if doubts == 3 then first else if doubts == 4 then first * 2 else first * 4
+
+abbrev pub wait_by : Option Smoothed → (doubts : ℕ) → Pace → ℕ
+wait_by None doubts pace = pace.first
+wait_by (Some s) doubts pace = min (max (estimate s pace.least) (doubted_wait pace.first doubts)) (min (pace.first * 4) pace.longest)
+
+-- the first wait for an acknowledgement: the time to be expected, and at most four times the first wait of the pace; where nothing was
+-- measured, that wait
+abbrev pub first_wait : Measure → Pace → ℕ
+first_wait m pace = wait_by m.smoothed m.doubts pace
+
+-- how many waits are shorter than this one, where the first of them is so long, and each is twice the last
+abbrev pub shorter_waits : (length wait : ℕ) → ℕ
+shorter_waits length wait = 32 - leading_zeros w32 ((wait - 1) / length)
+
+-- how many packets are borne to which there is no word of the peer: those before a wait that is shorter than the first one of the pace are
+-- borne beside the others
+abbrev pub borne : Measure → Pace → ℕ
+borne m pace = pace.tries + shorter_waits (first_wait m pace) pace.first

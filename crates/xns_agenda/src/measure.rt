@@ -1,0 +1,141 @@
+//! How long is waited, by what was measured.
+
+ghost use Rattle.std.specs.Prelude.{◌≡◌, ◌≤◌, ◌+◌, ◌-◌, ◌*◌, ◌/◌, ◌^◌, Some, None, IfSome};
+ghost use Rattle.xns_agenda.specs.Measuring.{IsBounded, borne, doubted, doubted_wait, expected, first_wait, half_time, is_expected, learnt, sampled, shorter_waits, smoothed_by};
+
+use crate::pace::Pace;
+use crate::smoothed::Smoothed;
+use crate::timing::Timing;
+
+/// What is known of how long a peer takes to acknowledge.
+#[derive(Clone, Copy, Debug, PartialEq, Eq)]
+pub struct Measure {
+    /// The times that were measured. `None`: none was.
+    pub smoothed: Option<Smoothed>,
+    /// How often something went out again, perhaps too early, since a time was measured.
+    pub doubts: u8,
+}
+
+/// How many waits are shorter than this one, where the first of them is so long, and each is twice the last.
+fn shorter_waits(length: u32, wait: u32) -> u16
+    requires length { 1 ≤ length }
+    requires wait { 1 ≤ wait }
+    ensures value { result ≡ shorter_waits length wait }
+    ensures most { result ≤ 32 }
+{
+    let times = (wait - 1) / length;
+    (32 - times.leading_zeros()) as u16
+}
+
+/// By so many doubts at least so long is waited.
+fn doubted_wait(first: u32, doubts: u8) -> u64
+    ensures { result ≡ doubted_wait first doubts }
+{
+    let first = u64::from(first);
+    if doubts < 3 {
+        0
+    } else if doubts == 3 {
+        first
+    } else if doubts == 4 {
+        first * 2
+    } else {
+        first * 4
+    }
+}
+
+impl Measure {
+    /// Nothing is known.
+    pub const NONE: Measure = Measure {
+        smoothed: None,
+        doubts: 0,
+    };
+
+    /// The first wait for an acknowledgement.
+    pub fn first_wait(self, pace: &Pace) -> u32
+        requires { IfSome self.smoothed IsBounded }
+        ensures value { result ≡ first_wait self pace.now }
+        ensures least { pace.now.least ≤ result }
+        ensures most { result ≤ pace.now.longest }
+    {
+        let Some(smoothed) = self.smoothed else {
+            return pace.first;
+        };
+        let wait = smoothed
+            .estimate(pace.least)
+            .max(doubted_wait(pace.first, self.doubts));
+        let most = (u64::from(pace.first) * 4).min(u64::from(pace.longest));
+        wait.min(most) as u32
+    }
+
+    /// How many packets are borne to which there is no word of the peer.
+    pub fn borne(self, pace: &Pace) -> u16
+        requires { IfSome self.smoothed IsBounded }
+        ensures value { result ≡ borne self pace.now }
+        ensures most { result ≤ 287 }
+    {
+        u16::from(pace.tries) + shorter_waits(self.first_wait(pace), pace.first)
+    }
+
+    /// After a time that was measured.
+    fn sampled(self, pace: &Pace, passed: u64) -> Measure
+        requires { IfSome self.smoothed IsBounded }
+        ensures value { result ≡ sampled self pace.now passed }
+        ensures bounded { IfSome result.smoothed IsBounded }
+    {
+        let time = passed.min(u64::from(pace.longest)) as u32;
+        let smoothed = match self.smoothed {
+            None => Smoothed::first(time),
+            Some(smoothed) => smoothed.then(time),
+        };
+        Measure {
+            smoothed: Some(smoothed),
+            doubts: 0,
+        }
+    }
+
+    /// Whether what went out again so long ago may be what the peer acknowledged.
+    fn is_expected(self, pace: &Pace, passed: u64) -> bool
+        requires { IfSome self.smoothed IsBounded }
+        ensures { result ≡ is_expected self.smoothed pace.now passed }
+    {
+        let (half, most) = match self.smoothed {
+            None => (
+                u64::from(pace.least - pace.least / 2),
+                u64::from(pace.first),
+            ),
+            Some(smoothed) => {
+                let time = smoothed.time8 / 8;
+                (time - time / 2, smoothed.estimate(pace.least))
+            }
+        };
+        half <= passed && passed <= most
+    }
+
+    /// After the peer acknowledged what had gone out again so long ago, or what had gone out before.
+    fn doubted(self, pace: &Pace, passed: u64) -> Measure
+        requires { IfSome self.smoothed IsBounded }
+        ensures value { result ≡ doubted self pace.now passed }
+        ensures bounded { IfSome result.smoothed IsBounded }
+    {
+        if self.is_expected(pace, passed) {
+            return self;
+        }
+        Measure {
+            smoothed: self.smoothed,
+            doubts: self.doubts.saturating_add(1),
+        }
+    }
+
+    /// What is known once the peer acknowledges more, or opens the connection.
+    pub fn learnt(self, pace: &Pace, timing: Timing, now: u64) -> Measure
+        requires { IfSome self.smoothed IsBounded }
+        ensures value { result ≡ learnt self pace.now timing now }
+        ensures bounded { IfSome result.smoothed IsBounded }
+    {
+        match timing {
+            Timing::Ready | Timing::Over => self,
+            Timing::Timed(since) => self.sampled(pace, now.saturating_sub(since)),
+            Timing::Resent(at) => self.doubted(pace, now.saturating_sub(at)),
+        }
+    }
+}

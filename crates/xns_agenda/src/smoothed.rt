@@ -1,0 +1,46 @@
+ghost use Rattle.std.specs.Prelude.{◌≡◌};
+ghost use Rattle.xns_agenda.specs.Measuring.{IsBounded, estimate, first_smoothed, smoothed_on};
+
+/// How long a peer takes to acknowledge: the times that were measured, smoothed, in milliseconds.
+#[derive(Clone, Copy, Debug, PartialEq, Eq)]
+pub struct Smoothed {
+    /// Eight times the time.
+    pub time8: u64,
+    /// Four times what it varies by.
+    pub varies4: u64,
+}
+
+impl Smoothed {
+    /// By the first time that is measured.
+    pub fn first(time: u32) -> Smoothed
+        ensures value { result ≡ first_smoothed time }
+        ensures bounded { IsBounded result }
+    {
+        let time = u64::from(time);
+        Smoothed {
+            time8: 8 * time,
+            varies4: 2 * time,
+        }
+    }
+
+    /// By one more.
+    pub fn then(self, time: u32) -> Smoothed
+        requires { IsBounded self }
+        ensures value { result ≡ smoothed_on self time }
+        ensures bounded { IsBounded result }
+    {
+        let time = u64::from(time);
+        Smoothed {
+            time8: self.time8 - self.time8 / 8 + time,
+            varies4: self.varies4 - self.varies4 / 4 + time.abs_diff(self.time8 / 8),
+        }
+    }
+
+    /// The time that is to be expected, where what it varies by counts at least so much.
+    pub fn estimate(self, least: u32) -> u64
+        requires { IsBounded self }
+        ensures { result ≡ estimate self least }
+    {
+        self.time8 / 8 + self.varies4.max(u64::from(least))
+    }
+}
