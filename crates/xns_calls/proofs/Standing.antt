@@ -8,7 +8,7 @@ use Rattle.xns_spp.specs.declared.header.Header.{Header}
 use Rattle.xns_dump.specs.Flows.{flow_of}
 use Rattle.xns_dump.specs.declared.flows.flow.Flow.{Flow}
 use Rattle.xns_calls.specs.Anew.{begins_anew}
-use Rattle.xns_calls.specs.Capture.{IsThereOrBegins, Known, after_at, after_new_flow, after_place, after_sequenced, begins_anew_in, forgotten, forgotten_in, is_behind_in, known, new_connection, place_of, renewed, renewed_there, scene_in, wants_at, wants_in, wants_place, wants_sequenced, wants_there, with_new}
+use Rattle.xns_calls.specs.Capture.{IsThereOrBegins, Known, after_at, after_new_flow, after_place, after_sequenced, begins_anew_in, forgotten, forgotten_in, is_behind_in, known, new_connection, place_of, renewed, renewed_there, wants_at, wants_in, wants_place, wants_sequenced, wants_there, with_new}
 use Rattle.xns_calls.specs.Over.{closes, is_over}
 use Rattle.xns_calls.specs.declared.connection.Connection.{Connection}
 use Rattle.xns_calls.specs.declared.origin.Origin.{Origin}

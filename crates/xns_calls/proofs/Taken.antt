@@ -1,5 +1,5 @@
 -- A packet, where its connection is noted first.
-use Rattle.std.proofs.Common.{◌≡◌, ◌∙◌, ap, sym, ℕ, Bool, true, false, List, Option, Some}
+use Rattle.std.proofs.Common.{◌≡◌, ◌∙◌, ap, sym, ℕ, Bool, true, false, List, Some}
 use Rattle.std.specs.Prelude.{slice_get, slice_set}
 use Rattle.xns_idp.specs.Packet.{PacketModel}
 use Rattle.xns_lines.specs.declared.page.Page.{Page}
@@ -51,8 +51,8 @@ behind_packet_wants i flow f cs count page c note due false there side is noted_
 behind_packet_wants i flow f cs count page c note due true there side is noted_is due_is wants =
     let k = known cs count page in
     let before : wants_memory due f (scene note.second note.first page) ≡ wants_memory (due_in true c) f (scene_in true c k) =
-        ap (λ d. wants_memory d f (scene note.second note.first page)) due_is
-        ∙ ap (λ (x : Connection). wants_memory (due_in true c) f (scene x.second x.first page)) noted_is in
+    ap (λ d. wants_memory d f (scene note.second note.first page)) due_is
+    ∙ ap (λ (x : Connection). wants_memory (due_in true c) f (scene x.second x.first page)) noted_is in
     in_wants i flow f c k there (sym (ap (λ p. wants_in p f c k) side) ∙ memory_wants true f c k (sym before ∙ wants))
 
 pub first_packet_wants : (i : ℕ) (flow : Flow) (f : Header) (cs : List Connection) (count : ℕ) (page : Page) (c note : Connection) (due : Due) (b : Bool)
@@ -62,6 +62,6 @@ first_packet_wants i flow f cs count page c note due true there side is noted_is
 first_packet_wants i flow f cs count page c note due false there side is noted_is due_is wants =
     let k = known cs count page in
     let before : wants_memory due f (scene note.first note.second page) ≡ wants_memory (due_in false c) f (scene_in false c k) =
-        ap (λ d. wants_memory d f (scene note.first note.second page)) due_is
-        ∙ ap (λ (x : Connection). wants_memory (due_in false c) f (scene x.first x.second page)) noted_is in
+    ap (λ d. wants_memory d f (scene note.first note.second page)) due_is
+    ∙ ap (λ (x : Connection). wants_memory (due_in false c) f (scene x.first x.second page)) noted_is in
     in_wants i flow f c k there (sym (ap (λ p. wants_in p f c k) side) ∙ memory_wants false f c k (sym before ∙ wants))

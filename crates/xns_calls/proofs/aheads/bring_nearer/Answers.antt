@@ -1,4 +1,4 @@
-use Rattle.std.proofs.Common.{◌≡◌, ◌∙◌, ap, arith, ℕ, suc, ◌+◌, ◌<◌, ◌++◌, length, take, drop}
+use Rattle.std.proofs.Common.{◌≡◌, ◌∙◌, ap, arith, suc, ◌+◌, ◌<◌, ◌++◌, length, take, drop}
 use Rattle.std.specs.Prelude.{slice_index_or, slice_set}
 use Rattle.xns_calls.specs.Acknowledged.{nearer, one_nearer}
 use Rattle.xns_calls.specs.declared.ahead.Ahead.{Ahead}
