@@ -10,6 +10,7 @@ use Rattle.xns_spp.specs.Item.{item_with}
 use Rattle.xns_spp.specs.declared.header.Header.{Header}
 use Rattle.xns_spp.specs.declared.item.Item.{Item}
 use Rattle.xns_calls.specs.declared.early.Early.{Early}
+use Rattle.xns_calls.specs.declared.due.Due.{Due}
 use Rattle.xns_calls.specs.declared.heading.Heading.{Heading}
 use Rattle.xns_calls.specs.declared.heard.Heard.{Heard}
 use Rattle.xns_calls.specs.declared.heard.Heard.TheVariants as heard
@@ -17,7 +18,7 @@ use Rattle.xns_calls.specs.declared.side.Side.{Side}
 use Rattle.xns_calls.specs.declared.track.Track.{Track}
 use Rattle.xns_calls.specs.declared.unanswered.Calls.{Calls}
 use Rattle.xns_calls.specs.declared.waiting.Waiting.{Waiting}
-use Rattle.xns_calls.specs.Exchange.{Scene, acknowledged, advance_other, advance_own, advance_track, advanced, after_acknowledge, after_data, after_new, after_number, after_packet, begin_track, begun, behind_last, ended, new_number, no_side, of_other, scene, seen_from_other, take_in_track, told_of}
+use Rattle.xns_calls.specs.Exchange.{Scene, advance_other, advance_own, advance_track, advanced, after_content, after_data, after_new, after_number, after_packet, begin_track, begun, behind_last, ended, new_number, no_side, of_other, other_reached, own_reached, reached, scene, seen_from_other, take_in_track, told_of}
 use Rattle.xns_calls.specs.Numbers.{most_early}
 use Rattle.xns_calls.specs.Reading.{Told, after_heard, brought, brought_over, is_due, item_read, item_taken, passed, past, read_next, said_item, with_kept_item}
 use Rattle.xns_calls.specs.Speech.{heard_of}
@@ -98,9 +99,17 @@ advanced_none h n s none = by_track s.own.track
     by_track (Some track) =
         left_none s.other (brought h n (told_of track s)).calls.asked none (brought_asked h n (told_of track s) (ap (λ (x : Side). x.call) none))
 
-acknowledge_none : (h : Heading) (field : ℕ) (s : Scene) → s.other ≡ no_side → (after_acknowledge h field s).other ≡ no_side
-unfolding after_acknowledge
-acknowledge_none h field s none = ap (λ x. (advance_other h (acknowledged x field) s).other) none ∙ none
+reached_none : (h : Heading) (number : Option ℕ) (s : Scene) → s.other ≡ no_side → (other_reached h number s).other ≡ no_side
+unfolding other_reached
+reached_none h number s none = ap (λ (x : Side). (advance_other h (reached x.track number) s).other) none ∙ none
+
+own_none : (h : Heading) (o : Option ℕ) (s : Scene) → s.other ≡ no_side → (advance_own h o s).other ≡ no_side
+own_none h None s none = none
+own_none h (Some n) s none = advanced_none h n s none
+
+own_reached_none : (h : Heading) (number : Option ℕ) (s : Scene) → s.other ≡ no_side → (own_reached h number s).other ≡ no_side
+unfolding own_reached
+own_reached_none h number s none = own_none h (reached s.own.track number) s none
 
 begun_none : (h : Heading) (packet : PacketModel) (f : Header) (s : Scene) → s.other ≡ no_side → (begun h packet f s).other ≡ no_side
 unfolding begun
@@ -128,36 +137,32 @@ unfolding after_data
 data_none h packet f content s none =
     number_none h (new_number (begun h packet f s).own.track f.sequence) (item_with f content) (begun h packet f s) (begun_none h packet f s none)
 
-packet_none : (h : Heading) (packet : PacketModel) (f : Header) (content : List ℕ) (s : Scene) → s.other ≡ no_side → (after_packet h packet f content s).other ≡ no_side
-unfolding after_packet
-packet_none h packet f content s none = over (is_system f)
+content_none : (h : Heading) (packet : PacketModel) (f : Header) (content : List ℕ) (s : Scene) → s.other ≡ no_side → (after_content h packet f content s).other ≡ no_side
+unfolding after_content
+content_none h packet f content s none = over (is_system f)
   where
-    known : Scene
-    known = after_acknowledge h f.acknowledge s
+    over : (p : Bool) → (cond p s (after_data h packet f content s)).other ≡ no_side
+    over true = none
+    over false = data_none h packet f content s none
 
-    stays : known.other ≡ no_side
-    stays = acknowledge_none h f.acknowledge s none
+packet_none : (h : Heading) (due : Due) (packet : PacketModel) (f : Header) (content : List ℕ) (s : Scene) → s.other ≡ no_side → (after_packet h due packet f content s).other ≡ no_side
+unfolding after_packet
+packet_none h due packet f content s none =
+    let known = other_reached h due.other s in
+    own_reached_none h due.own (after_content h packet f content known) (content_none h packet f content known (reached_none h due.other s none))
 
-    over : (p : Bool) → (cond p known (after_data h packet f content known)).other ≡ no_side
-    over true = stays
-    over false = data_none h packet f content known stays
-
-pub alone : (h : Heading) (packet : PacketModel) (f : Header) (content : List ℕ) (own other own' other' : Side) (page page' : Page) → other ≡ no_side
-    → scene own' other' page' ≡ after_packet h packet f content (scene own other page) → scene own' no_side page' ≡ after_packet h packet f content (scene own no_side page)
-alone h packet f content own other own' other' page page' is e =
-    let none : other' ≡ no_side = ap (λ (s : Scene). s.other) e ∙ packet_none h packet f content (scene own other page) is in
-    ap (λ x. scene own' x page') (sym none) ∙ e ∙ ap (λ x. after_packet h packet f content (scene own x page)) is
+pub alone : (h : Heading) (due : Due) (packet : PacketModel) (f : Header) (content : List ℕ) (own other own' other' : Side) (page page' : Page) → other ≡ no_side
+    → scene own' other' page' ≡ after_packet h due packet f content (scene own other page) → scene own' no_side page' ≡ after_packet h due packet f content (scene own no_side page)
+alone h due packet f content own other own' other' page page' is e =
+    let none : other' ≡ no_side = ap (λ (s : Scene). s.other) e ∙ packet_none h due packet f content (scene own other page) is in
+    ap (λ x. scene own' x page') (sym none) ∙ e ∙ ap (λ x. after_packet h due packet f content (scene own x page)) is
 
 pub ended_alone : (h : Heading) (own other own' other' : Side) (page page' : Page) → other ≡ no_side
     → scene own' other' page' ≡ ended h (scene own other page) → scene own' no_side page' ≡ ended h (scene own no_side page)
 unfolding ended
 ended_alone h own other own' other' page page' is e =
-    let none : other' ≡ no_side = ap (λ (s : Scene). s.other) e ∙ by_last (behind_last own.track) in
+    let none : other' ≡ no_side = ap (λ (s : Scene). s.other) e ∙ own_none h (behind_last own.track) (scene own other page) is in
     ap (λ x. scene own' x page') (sym none) ∙ e ∙ ap (λ x. ended h (scene own x page)) is
-  where
-    by_last : (o : Option ℕ) → (advance_own h o (scene own other page)).other ≡ no_side
-    by_last None = is
-    by_last (Some n) = advanced_none h n (scene own other page) is
 
 -- ---- where a flow has not begun itself
 
@@ -165,12 +170,20 @@ other_none : (h : Heading) (o : Option ℕ) (s : Scene) → s.own ≡ no_side �
 other_none h None s none = none
 other_none h (Some n) s none = advanced_none (of_other h) n (seen_from_other s) none
 
-pub before : (h : Heading) (packet : PacketModel) (f : Header) (content : List ℕ) (own other own' other' : Side) (page page' : Page) → own ≡ no_side → is_system f ≡ true
-    → scene own' other' page' ≡ after_packet h packet f content (scene own other page) → scene no_side other' page' ≡ after_packet h packet f content (scene no_side other page)
-unfolding after_packet after_acknowledge
-before h packet f content own other own' other' page page' is system e =
+own_stays : (h : Heading) (number : Option ℕ) (s : Scene) → s.own ≡ no_side → (own_reached h number s).own ≡ no_side
+unfolding own_reached
+own_stays h number s none = ap (λ (x : Side). (advance_own h (reached x.track number) s).own) none ∙ none
+
+system_stays : (h : Heading) (packet : PacketModel) (f : Header) (content : List ℕ) (s : Scene) → is_system f ≡ true → after_content h packet f content s ≡ s
+unfolding after_content
+system_stays h packet f content s system = ap (λ p. cond p s (after_data h packet f content s)) system
+
+pub before : (h : Heading) (due : Due) (packet : PacketModel) (f : Header) (content : List ℕ) (own other own' other' : Side) (page page' : Page) → own ≡ no_side → is_system f ≡ true
+    → scene own' other' page' ≡ after_packet h due packet f content (scene own other page) → scene no_side other' page' ≡ after_packet h due packet f content (scene no_side other page)
+unfolding after_packet other_reached
+before h due packet f content own other own' other' page page' is system e =
     let s : Scene = scene own other page in
-    let known : Scene = after_acknowledge h f.acknowledge s in
-    let stays : known.own ≡ no_side = other_none h (acknowledged other f.acknowledge) s is in
-    let none : own' ≡ no_side = ap (λ (x : Scene). x.own) (e ∙ ap (λ p. cond p known (after_data h packet f content known)) system) ∙ stays in
-    ap (λ x. scene x other' page') (sym none) ∙ e ∙ ap (λ x. after_packet h packet f content (scene x other page)) is
+    let known : Scene = other_reached h due.other s in
+    let stays : known.own ≡ no_side = other_none h (reached other.track due.other) s is in
+    let none : own' ≡ no_side = ap (λ (x : Scene). x.own) (e ∙ ap (own_reached h due.own) (system_stays h packet f content known system)) ∙ own_stays h due.own known stays in
+    ap (λ x. scene x other' page') (sym none) ∙ e ∙ ap (λ x. after_packet h due packet f content (scene x other page)) is

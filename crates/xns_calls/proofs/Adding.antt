@@ -1,5 +1,5 @@
 -- What a packet says of a flow is said under the flow's heading.
-use Rattle.std.proofs.Common.{◌≡◌, ◌∙◌, ap, sym, refl, ℕ, ◌+◌, ◌-◌, ◌==◌, List, [], ◌∷◌, ◌++◌, append_assoc, append-nil, Option, Some, None}
+use Rattle.std.proofs.Common.{◌≡◌, ◌∙◌, ap, sym, refl, ℕ, ◌+◌, ◌-◌, ◌==◌, Bool, true, false, cond, List, [], ◌∷◌, ◌++◌, append_assoc, append-nil, Option, Some, None}
 use Rattle.std.specs.Prelude.{nat_lt}
 use Rattle.std.proofs.lemmas.Grind.{flat_map-append}
 use Rattle.xns_idp.specs.Packet.{PacketModel}
@@ -7,12 +7,15 @@ use Rattle.xns_spp.specs.Header.{is_system}
 use Rattle.xns_spp.specs.Item.{item_with}
 use Rattle.xns_spp.specs.declared.header.Header.{Header}
 use Rattle.xns_spp.specs.declared.item.Item.{Item}
-use Rattle.xns_calls.specs.Exchange.{Scene, acknowledged, advance_other, advance_own, advance_track, advanced, after_acknowledge, after_data, after_new, after_number, after_packet, begin_track, begun, behind_last, ended, new_number, of_other, seen_from_other, take_in_track, told_of}
+use Rattle.xns_calls.specs.Events.{acknowledged_event, after_events, brought_if, captured_event}
+use Rattle.xns_calls.specs.Exchange.{Scene, advance_other, advance_own, advance_track, advanced, after_content, after_data, after_new, after_number, after_packet, begin_track, begun, behind_last, ended, is_repeat, new_number, of_other, other_reached, own_reached, reached, seen_from_other, take_in_track, told_of, up_to}
 use Rattle.xns_calls.specs.Input.{Said, begins, lacks, message, refuses, said_text, said_texts}
 use Rattle.xns_calls.specs.Numbers.{most_early}
 use Rattle.xns_calls.specs.Reading.{Told, after_heard, brought, brought_over, is_due, item_read, item_taken, passed, past, read_next, said_item, with_kept_item}
 use Rattle.xns_calls.specs.Speech.{heard_of}
 use Rattle.xns_calls.specs.Telling.{heard_text}
+use Rattle.xns_calls.specs.Queue.{last_number}
+use Rattle.xns_calls.specs.declared.due.Due.{Due}
 use Rattle.xns_calls.specs.declared.early.Early.{Early}
 use Rattle.xns_calls.specs.declared.heading.Heading.{Heading}
 use Rattle.xns_calls.specs.declared.heard.Heard.{Heard}
@@ -97,10 +100,10 @@ other_adds : (h : Heading) (o : Option ℕ) (s : Scene) → Adds (of_other h) s.
 other_adds h None s = adds_none (of_other h) s.text
 other_adds h (Some n) s = advanced_adds (of_other h) n (seen_from_other s)
 
--- what a packet acknowledges is said of the flow behind
-pub acknowledge_adds : (h : Heading) (field : ℕ) (s : Scene) → Adds (of_other h) s.text (after_acknowledge h field s).text
-unfolding after_acknowledge
-acknowledge_adds h field s = other_adds h (acknowledged s.other field) s
+-- what takes effect of the flow behind is said of that flow
+pub reached_adds : (h : Heading) (number : Option ℕ) (s : Scene) → Adds (of_other h) s.text (other_reached h number s).text
+unfolding other_reached
+reached_adds h number s = other_adds h (reached s.other.track number) s
 
 begin_adds : (h : Heading) (packet : PacketModel) (f : Header) (o : Option Track) (s : Scene) → Adds h s.text (begin_track h packet f o s).text
 begin_adds h packet f (Some track) s = adds_none h s.text
@@ -127,19 +130,54 @@ data_adds h packet f content s =
     (number_adds h (new_number u.own.track f.sequence) (item_with f content) u)
 
 -- and the rest of its own flow
-pub packet_adds : (h : Heading) (packet : PacketModel) (f : Header) (content : List ℕ) (s : Scene)
-    → Adds h (after_acknowledge h f.acknowledge s).text (after_packet h packet f content s).text
-unfolding after_packet
-packet_adds h packet f content s =
-    let known = after_acknowledge h f.acknowledge s in
-    by_test (λ (u : Scene). Adds h known.text u.text) (is_system f) known (after_data h packet f content known) (λ e. adds_none h known.text)
-    (λ e. data_adds h packet f content known)
-
 own_adds : (h : Heading) (o : Option ℕ) (s : Scene) → Adds h s.text (advance_own h o s).text
 own_adds h None s = adds_none h s.text
 own_adds h (Some n) s = advanced_adds h n s
 
--- so it is at the end
+content_adds : (h : Heading) (packet : PacketModel) (f : Header) (content : List ℕ) (s : Scene) → Adds h s.text (after_content h packet f content s).text
+unfolding after_content
+content_adds h packet f content s =
+    by_test (λ (u : Scene). Adds h s.text u.text) (is_system f) s (after_data h packet f content s) (λ e. adds_none h s.text) (λ e. data_adds h packet f content s)
+
+own_reached_adds : (h : Heading) (number : Option ℕ) (s : Scene) → Adds h s.text (own_reached h number s).text
+unfolding own_reached
+own_reached_adds h number s = own_adds h (reached s.own.track number) s
+
+pub packet_adds : (h : Heading) (due : Due) (packet : PacketModel) (f : Header) (content : List ℕ) (s : Scene)
+    → Adds h (other_reached h due.other s).text (after_packet h due packet f content s).text
+unfolding after_packet
+packet_adds h due packet f content s =
+    let known = other_reached h due.other s in
+    let new = after_content h packet f content known in
+    adds_on h known.text new.text (own_reached h due.own new).text (content_adds h packet f content known) (own_reached_adds h due.own new)
+
+-- ---- events
+
+if_adds : (h : Heading) (o : Option ℕ) (t : Told) → Adds h t.text (brought_if h o t).text
+if_adds h None t = adds_none h t.text
+if_adds h (Some n) t = brought_adds h n t
+
+effect_adds : (h : Heading) (o : Option ℕ) (t : Told) → Adds h t.text (after_events (acknowledged_event h o) t).text
+effect_adds h None t = adds_none h t.text
+effect_adds h (Some n) t = if_adds h (up_to (last_number t.track.early) (Some n)) t
+
+captured_adds : (h : Heading) (o : Option ℕ) (item : Item) (t : Told) → Adds h t.text (after_events (captured_event h o item) t).text
+captured_adds h None item t = adds_none h t.text
+captured_adds h (Some n) item t =
+    by_test (λ (u : Told). Adds h t.text u.text) (is_repeat n t.track) t (item_taken h n item t) (λ e. adds_none h t.text) (λ e. taken_adds h n item t)
+
+item_adds_to : (p : Bool) (h : Heading) (o : Option ℕ) (item : Item) (t : Told) → Adds h t.text (after_events (cond p [] (captured_event h o item)) t).text
+item_adds_to true h o item t = adds_none h t.text
+item_adds_to false h o item t = captured_adds h o item t
+
+-- what an item says, and what takes effect says behind it
+pub both_add : (p : Bool) (h : Heading) (o : Option ℕ) (item : Item) (a : Option ℕ) (t : Told)
+    → Adds h t.text (after_events (cond p [] (captured_event h o item)) t).text
+    × Adds h (after_events (cond p [] (captured_event h o item)) t).text (after_events (acknowledged_event h a) (after_events (cond p [] (captured_event h o item)) t)).text
+both_add p h o item a t = (item_adds_to p h o item t, effect_adds h a (after_events (cond p [] (captured_event h o item)) t))
+
+-- ---- the end
+
 pub ended_adds : (h : Heading) (s : Scene) → Adds h s.text (ended h s).text
 unfolding ended
 ended_adds h s = own_adds h (behind_last s.own.track) s

@@ -9,28 +9,31 @@ use Rattle.xns_spp.specs.declared.header.Header.{Header}
 use Rattle.xns_dump.specs.Flows.{flow_of}
 use Rattle.xns_dump.specs.declared.flows.flow.Flow.{Flow}
 use Rattle.xns_calls.specs.Naming.{Programs}
+use Rattle.xns_calls.specs.Acknowledged.{aheads_in, due_in, due_of, effective, if_begun, nearer, noted}
 use Rattle.xns_calls.specs.Anew.{begins_anew}
 use Rattle.xns_calls.specs.Calls.{after_line, known_from, line_taken, text_from}
-use Rattle.xns_calls.specs.Capture.{Known, after_at, after_in, after_new_flow, after_place, after_sequenced, after_there, forgotten, heading_at, is_behind_in, new_connection, place_of, renewed, renewed_there, scene_in, with_closing, with_new, with_scene}
+use Rattle.xns_calls.specs.Capture.{Known, after_at, after_in, after_new_flow, after_place, after_sequenced, after_there, forgotten, heading_at, is_behind_in, new_connection, place_of, renewed, renewed_there, scene_in, with_new, with_scene}
 use Rattle.xns_calls.specs.Events.{Event, acknowledged_event, after_events, captured_event}
-use Rattle.xns_calls.specs.Exchange.{Scene, acknowledged_track, advance_other, advance_own, after_acknowledge, after_data, after_packet, after_told, begin_track, begun, behind_last, ended, first_track, new_number, of_other, seen_from_other, take_number, told_of}
+use Rattle.xns_calls.specs.Exchange.{Scene, advance_other, advance_own, after_content, after_data, after_packet, after_told, begin_track, begun, behind_last, ended, first_track, new_number, of_other, other_reached, own_reached, reached, seen_from_other, take_number, told_of}
 use Rattle.xns_calls.specs.Input.{Arrival, FlowName, Part, arrival, begins, connection_at, connection_of, ending_events, events_at, events_between, events_from, events_there, field_at, field_between, field_there, first_field_from, is_same, item_events, name_in, next_name, or_later, part_text, parts_text, said_texts, text_in, texts_in, told}
 use Rattle.xns_calls.specs.Numbers.{near}
-use Rattle.xns_calls.specs.Over.{closing_with, side_in}
+use Rattle.xns_calls.specs.Over.{side_in}
+use Rattle.xns_calls.specs.Queue.{last_number}
 use Rattle.xns_calls.specs.Reading.{Told}
 use Rattle.xns_calls.specs.Texts.{flow_line}
 use Rattle.xns_calls.specs.Whole.{flow_text}
-use Rattle.xns_calls.specs.declared.closing.Closing.{Closing}
 use Rattle.xns_calls.specs.declared.connection.Connection.{Connection}
+use Rattle.xns_calls.specs.declared.due.Due.{Due}
 use Rattle.xns_calls.specs.declared.heading.Heading.{Heading}
+use Rattle.xns_calls.specs.declared.track.Track.{Track}
 use Rattle.xns_calls.proofs.Adding.{number_adds}
 use Rattle.xns_calls.proofs.Gaps.{equal_tells}
-use Rattle.xns_calls.proofs.Happenings.{IsOn, IsPlain, far_ended, far_texts, forgotten_parts, in_text, near_events, new_there, none_new, side_track, stands_own}
+use Rattle.xns_calls.proofs.Happenings.{IsOn, IsPlain, far_ended, far_texts, forgotten_parts, in_text, near_events, new_there, none_due, none_new, side_track, stands_own}
 use Rattle.xns_calls.proofs.Inputs.{events_front, line_is, lines_ran, numbered_line}
-use Rattle.xns_calls.proofs.Parts.{acknowledged_is, acknowledged_said, acknowledged_text, added, after_append, behind_text, captured_new, captured_plain, drop_all, ended_parts, ended_text, first_ended, first_ended_said, flow_append, flow_at, number_tells, other_text, own_text, packet_parts, packet_said, plain, plain_one, said_text_of, scene_text, second_ended, second_ended_said, two_of, two_texts}
+use Rattle.xns_calls.proofs.Parts.{reached_is, reached_said, reached_text, added, after_append, behind_text, captured_new, captured_plain, drop_all, ended_parts, ended_text, first_ended, first_ended_said, flow_append, flow_at, number_tells, other_text, own_text, packet_parts, packet_said, plain, plain_one, said_text_of, scene_text, second_ended, second_ended_said, two_of, two_texts}
 use Rattle.xns_calls.proofs.Numbered.{AllKeep, IsNumbered, keep_more, keep_set, scene_number}
 use Rattle.xns_calls.proofs.Others.{get_last, get_same}
-use Rattle.xns_calls.proofs.Packets.{acknowledge_own, ended_other, number_event, packet_other}
+use Rattle.xns_calls.proofs.Packets.{ended_other, number_event, packet_other, reached_own, up_to_none}
 use Rattle.xns_calls.proofs.Places.{place_there}
 use Rattle.xns_calls.specs.declared.origin.Origin.{Origin}
 use Rattle.xns_calls.specs.Origins.{line_origin}
@@ -68,41 +71,56 @@ Met m b before k happened field = Awaits m b before k happened field ⊎ Starts 
 waits_still : (m : ℕ) (b : Bool) (k : Known) (happened : List Event) (field : Option ℕ) → AllKeep m b k.connections None → happened ≡ [] → field ≡ None → Awaits m b k.text k happened field
 waits_still m b k happened field none nothing later = record { none = none; nothing = nothing; later = later; parts = []; text = sym (append-nil k.text); own = refl }
 
-pub track_own : (b : Bool) (closing : Closing) (c : Connection) (s : Scene) → (side_in b (with_scene b s (with_closing b closing c))).track ≡ s.own.track
-track_own true closing c s = refl
-track_own false closing c s = refl
+pub track_own : (b : Bool) (f : Header) (c : Connection) (s : Scene) → (side_in b (with_scene b s (noted b f c))).track ≡ s.own.track
+track_own true f c s = refl
+track_own false f c s = refl
 
-pub track_behind : (q : Bool) (closing : Closing) (c : Connection) (s : Scene) → (side_in (not q) (with_scene q s (with_closing q closing c))).track ≡ s.other.track
-track_behind true closing c s = refl
-track_behind false closing c s = refl
+pub track_behind : (q : Bool) (f : Header) (c : Connection) (s : Scene) → (side_in (not q) (with_scene q s (noted q f c))).track ≡ s.other.track
+track_behind true f c s = refl
+track_behind false f c s = refl
+
+-- nothing takes effect of it
+none_due_of : (b : Bool) (c : Connection) → (side_in b c).track ≡ None → due_of b c ≡ None
+none_due_of b c none = ap (λ o. if_begun o (effective (nearer (aheads_in b c)))) none
+
+none_reached : (h : Heading) (s : Scene) → own_reached h None s ≡ s
+unfolding own_reached
+none_reached h s = by_track s.own.track
+  where
+    by_track : (o : Option Track) → advance_own h (reached o None) s ≡ s
+    by_track None = refl
+    by_track (Some track) = ap (λ o. advance_own h o s) (up_to_none (last_number track.early))
 
 abbrev item_field : Header → Option ℕ
 item_field f = cond (is_system f) None (Some f.sequence)
 
 -- a system packet of its own
-system_same : (h : Heading) (packet : PacketModel) (f : Header) (content : List ℕ) (s : Scene) → is_system f ≡ true → after_packet h packet f content s ≡ after_acknowledge h f.acknowledge s
-unfolding after_packet
-system_same h packet f content s e =
-    let known = after_acknowledge h f.acknowledge s in ap (λ p. cond p known (after_data h packet f content known)) e
+system_same : (h : Heading) (due : Due) (packet : PacketModel) (f : Header) (content : List ℕ) (s : Scene) → due.own ≡ None → is_system f ≡ true → after_packet h due packet f content s ≡ other_reached h due.other s
+unfolding after_packet after_content
+system_same h due packet f content s nothing e =
+    let known = other_reached h due.other s in
+    ap (λ p. own_reached h due.own (cond p known (after_data h packet f content known))) e ∙ ap (λ o. own_reached h o known) nothing ∙ none_reached h known
 
 own_waits : (n : Origin) (i : ℕ) (b : Bool) (packet : PacketModel) (f : Header) (content : List ℕ) (c : Connection) (k : Known) → AllKeep c.number b k.connections None → (scene_in b c k).own.track ≡ None → is_system f ≡ true
-    → Awaits c.number b k.text (after_in n i b packet f content c k) (item_events (heading_at n c.number b) f content None) (item_field f)
+    → Awaits c.number b k.text (after_in n i b packet f content c k) (item_events (heading_at n c.number b) f content None ++ acknowledged_event (heading_at n c.number b) (due_of b c)) (item_field f)
 own_waits n i b packet f content c k all none e =
     let m = c.number in
     let h = heading_at n m b in
     let s = scene_in b c k in
-    let known = after_acknowledge h f.acknowledge s in
-    let new = after_packet h packet f content s in
-    let same : new ≡ known = system_same h packet f content s e in record {
-      none = keep_set m b k.connections i (with_scene b new (with_closing b (closing_with b f c) c)) None all
-          (λ is. track_own b (closing_with b f c) c new ∙ ap (λ (x : Scene). x.own.track) same ∙ acknowledge_own h f.acknowledge s ∙ none);
-      nothing = ap (λ p. cond p [] (captured_event h (near (first_track f.sequence).next f.sequence) (item_with f content))) e;
+    let due = due_in b c in
+    let known = other_reached h due.other s in
+    let new = after_packet h due packet f content s in
+    let nothing : due.own ≡ None = none_due_of b c (sym (side_track b c k) ∙ none) in
+    let same : new ≡ known = system_same h due packet f content s nothing e in record {
+      none = keep_set m b k.connections i (with_scene b new (noted b f c)) None all
+          (λ is. track_own b f c new ∙ ap (λ (x : Scene). x.own.track) same ∙ reached_own h due.other s ∙ none);
+      nothing = ap (λ p. cond p [] (captured_event h (near (first_track f.sequence).next f.sequence) (item_with f content)) ++ acknowledged_event h due.own) e ∙ ap (acknowledged_event h) nothing;
       later = ap (λ p. cond p None (Some f.sequence)) e;
-      parts = packet_parts n m b packet f content s;
+      parts = packet_parts n m b due packet f content s;
       text = in_text n i b packet f content c k;
-      own = two_of (text_in (flow_at m b) (told n (flow_at m (not b)) (acknowledged_said n m b f s))) (text_in (flow_at m b) (told n (flow_at m b) (packet_said n m b packet f content s))) [] []
-          (other_text n m b (acknowledged_said n m b f s))
-          (own_text n m b (packet_said n m b packet f content s) ∙ sym (said_text_of n m b packet f content s) ∙ ap (λ (x : Scene). drop (length known.text) x.text) same ∙ drop_all known.text);
+      own = two_of (text_in (flow_at m b) (told n (flow_at m (not b)) (reached_said n m b due s))) (text_in (flow_at m b) (told n (flow_at m b) (packet_said n m b due packet f content s))) [] []
+          (other_text n m b (reached_said n m b due s))
+          (own_text n m b (packet_said n m b due packet f content s) ∙ sym (said_text_of n m b due packet f content s) ∙ ap (λ (x : Scene). drop (length known.text) x.text) same ∙ drop_all known.text);
     }
 
 -- and a data packet of its own, with which it begins
@@ -110,21 +128,24 @@ data_new : (h : Heading) (packet : PacketModel) (f : Header) (content : List ℕ
 unfolding after_data begun
 data_new h packet f content s none = ap (λ o. take_number h f (item_with f content) (begin_track h packet f o s)) none
 
-packet_new : (h : Heading) (packet : PacketModel) (f : Header) (content : List ℕ) (s : Scene) → s.own.track ≡ None → is_system f ≡ false
-    → after_packet h packet f content s ≡ take_number h f (item_with f content) (begin_track h packet f None (after_acknowledge h f.acknowledge s))
-unfolding after_packet
-packet_new h packet f content s none e =
-    let known = after_acknowledge h f.acknowledge s in
-    ap (λ p. cond p known (after_data h packet f content known)) e ∙ data_new h packet f content known (acknowledge_own h f.acknowledge s ∙ none)
+packet_new : (h : Heading) (due : Due) (packet : PacketModel) (f : Header) (content : List ℕ) (s : Scene) → due.own ≡ None → s.own.track ≡ None → is_system f ≡ false
+    → after_packet h due packet f content s ≡ take_number h f (item_with f content) (begin_track h packet f None (other_reached h due.other s))
+unfolding after_packet after_content
+packet_new h due packet f content s nothing none e =
+    let known = other_reached h due.other s in
+    ap (λ p. own_reached h due.own (cond p known (after_data h packet f content known))) e ∙ ap (λ o. own_reached h o (after_data h packet f content known)) nothing
+    ∙ none_reached h (after_data h packet f content known) ∙ data_new h packet f content known (reached_own h due.other s ∙ none)
 
 own_starts : (n : Origin) (i : ℕ) (b : Bool) (packet : PacketModel) (f : Header) (content : List ℕ) (c : Connection) (k : Known) → slice_get k.connections i ≡ Some c → (scene_in b c k).own.track ≡ None → is_system f ≡ false
-    → Starts c.number b k.text (after_in n i b packet f content c k) (item_events (heading_at n c.number b) f content None) (item_field f)
+    → Starts c.number b k.text (after_in n i b packet f content c k) (item_events (heading_at n c.number b) f content None ++ acknowledged_event (heading_at n c.number b) (due_of b c)) (item_field f)
 own_starts n i b packet f content c k there none e =
     let m = c.number in
     let h = heading_at n m b in
     let s = scene_in b c k in
-    let known = after_acknowledge h f.acknowledge s in
-    let new = after_packet h packet f content s in
+    let due = due_in b c in
+    let nothing : due.own ≡ None = none_due_of b c (sym (side_track b c k) ∙ none) in
+    let known = other_reached h due.other s in
+    let new = after_packet h due packet f content s in
     let B : Scene = begin_track h packet f None known in
     let item = item_with f content in
     let first = first_track f.sequence in
@@ -132,25 +153,25 @@ own_starts n i b packet f content c k there none e =
     let events = captured_event h o item in
     let start = told_of first B in
     let u = after_events events start in
-    let takes : new ≡ take_number h f item B = packet_new h packet f content s none e in
+    let takes : new ≡ take_number h f item B = packet_new h due packet f content s nothing none e in
     let one : take_number h f item B ≡ after_told u B = number_event h f item B first o refl refl in
     let after : new ≡ after_told u B = takes ∙ one in
     let z = number_adds h (new_number B.own.track f.sequence) item B in
     let line = flow_line h packet f in
-    let before = acknowledged_said n m b f s in
+    let before = reached_said n m b due s in
     let parts = told n (flow_at m (not b)) before ∷ told n (flow_at m b) (begins packet f ∷ z.said) ∷ [] in record {
       first = f.sequence;
       has = ap (λ p. cond p None (Some f.sequence)) e;
       start = start;
       track = refl;
       events = events;
-      are = captured_plain h o item ∙ sym (ap (λ p. cond p [] events) e);
-      stands = inl (stands_own i b (closing_with b f c) c new k there u (ap (λ (x : Scene). x.own.track) after) (sym (ap (λ (x : Scene). told_of u.track x) after)));
+      are = captured_plain h o item ∙ sym (append-nil events) ∙ sym (ap (λ a. events ++ acknowledged_event h a) nothing) ∙ sym (ap (λ p. cond p [] events ++ acknowledged_event h due.own) e);
+      stands = inl (stands_own i b f c new k there u (ap (λ (x : Scene). x.own.track) after) (sym (ap (λ (x : Scene). told_of u.track x) after)));
       heading = h;
       packet = packet;
       header = f;
       parts = parts;
-      text = two_texts s.text known.text new.text (said_texts (of_other h) before) (line ++ said_texts h z.said) (acknowledged_is n m b f s)
+      text = two_texts s.text known.text new.text (said_texts (of_other h) before) (line ++ said_texts h z.said) (reached_is n m b due s)
           (ap (λ (x : Scene). x.text) takes ∙ z.is ∙ append_assoc known.text line (said_texts h z.said))
           ∙ ap (λ x. x ++ parts_text parts) (scene_text b c k);
       own = two_of (text_in (flow_at m b) (told n (flow_at m (not b)) before)) (text_in (flow_at m b) (told n (flow_at m b) (begins packet f ∷ z.said))) [] (line ++ flow_text events start)
@@ -160,43 +181,48 @@ own_starts n i b packet f content c k there none e =
     }
 
 own_meets : (n : Origin) (i : ℕ) (b : Bool) (packet : PacketModel) (f : Header) (content : List ℕ) (c : Connection) (k : Known) → slice_get k.connections i ≡ Some c → AllKeep c.number b k.connections None
-    → (scene_in b c k).own.track ≡ None → Met c.number b k.text (after_in n i b packet f content c k) (item_events (heading_at n c.number b) f content None) (item_field f)
+    → (scene_in b c k).own.track ≡ None → Met c.number b k.text (after_in n i b packet f content c k) (item_events (heading_at n c.number b) f content None ++ acknowledged_event (heading_at n c.number b) (due_of b c)) (item_field f)
 own_meets n i b packet f content c k there all none = by_system (is_system f) refl
   where
-    by_system : (p : Bool) → is_system f ≡ p → Met c.number b k.text (after_in n i b packet f content c k) (item_events (heading_at n c.number b) f content None) (item_field f)
+    by_system : (p : Bool) → is_system f ≡ p → Met c.number b k.text (after_in n i b packet f content c k) (item_events (heading_at n c.number b) f content None ++ acknowledged_event (heading_at n c.number b) (due_of b c)) (item_field f)
     by_system true e = inl (own_waits n i b packet f content c k all none e)
     by_system false e = inr (own_starts n i b packet f content c k there none e)
 
 -- a packet of the flow behind
-acknowledge_same : (h : Heading) (field : ℕ) (s : Scene) → s.other.track ≡ None → after_acknowledge h field s ≡ s
-unfolding after_acknowledge
-acknowledge_same h field s none = ap (λ o. advance_other h (acknowledged_track o field) s) none
+reached_same : (h : Heading) (number : Option ℕ) (s : Scene) → s.other.track ≡ None → other_reached h number s ≡ s
+unfolding other_reached
+reached_same h number s none = ap (λ o. advance_other h (reached o number) s) none
+
+other_track : (q : Bool) (c : Connection) (k : Known) → (scene_in q c k).other.track ≡ (side_in (not q) c).track
+other_track true c k = refl
+other_track false c k = refl
 
 behind_waits : (n : Origin) (i : ℕ) (q : Bool) (packet : PacketModel) (f : Header) (content : List ℕ) (c : Connection) (k : Known) → AllKeep c.number (not q) k.connections None → (scene_in q c k).other.track ≡ None
-    → Awaits c.number (not q) k.text (after_in n i q packet f content c k) [] None
+    → Awaits c.number (not q) k.text (after_in n i q packet f content c k) (acknowledged_event (heading_at n c.number (not q)) (due_of (not q) c)) None
 behind_waits n i q packet f content c k all none =
     let m = c.number in
     let h = heading_at n m q in
     let s = scene_in q c k in
-    let new = after_packet h packet f content s in
-    let same : after_acknowledge h f.acknowledge s ≡ s = acknowledge_same h f.acknowledge s none in
+    let due = due_in q c in
+    let new = after_packet h due packet f content s in
+    let same : other_reached h due.other s ≡ s = reached_same h due.other s none in
     let P = flow_at m (not q) in record {
-      none = keep_set m (not q) k.connections i (with_scene q new (with_closing q (closing_with q f c) c)) None all
-          (λ is. track_behind q (closing_with q f c) c new ∙ packet_other h packet f content s ∙ ap (λ (x : Scene). x.other.track) same ∙ none);
-      nothing = refl;
+      none = keep_set m (not q) k.connections i (with_scene q new (noted q f c)) None all
+          (λ is. track_behind q f c new ∙ packet_other h due packet f content s ∙ ap (λ (x : Scene). x.other.track) same ∙ none);
+      nothing = ap (acknowledged_event (heading_at n m (not q))) (none_due_of (not q) c (sym (other_track q c k) ∙ none));
       later = refl;
-      parts = packet_parts n m q packet f content s;
+      parts = packet_parts n m q due packet f content s;
       text = in_text n i q packet f content c k;
-      own = two_of (text_in P (told n P (acknowledged_said n m q f s))) (text_in P (told n (flow_at m q) (packet_said n m q packet f content s))) [] []
-          (own_text n m (not q) (acknowledged_said n m q f s) ∙ sym (acknowledged_text n m q f s) ∙ ap (λ (x : Scene). drop (length s.text) x.text) same ∙ drop_all s.text)
-          (behind_text n m q (packet_said n m q packet f content s));
+      own = two_of (text_in P (told n P (reached_said n m q due s))) (text_in P (told n (flow_at m q) (packet_said n m q due packet f content s))) [] []
+          (own_text n m (not q) (reached_said n m q due s) ∙ sym (reached_text n m q due s) ∙ ap (λ (x : Scene). drop (length s.text) x.text) same ∙ drop_all s.text)
+          (behind_text n m q (packet_said n m q due packet f content s));
     }
 
 abbrev near_field : Bool → Bool → Header → Option ℕ
 near_field b q f = cond (is_same b q) (item_field f) None
 
 near_meets : (n : Origin) (i : ℕ) (b q : Bool) (packet : PacketModel) (f : Header) (content : List ℕ) (c : Connection) (k : Known) → slice_get k.connections i ≡ Some c → AllKeep c.number b k.connections None
-    → (scene_in b c k).own.track ≡ None → Met c.number b k.text (after_in n i q packet f content c k) (near_events n c.number b q f content None) (near_field b q f)
+    → (scene_in b c k).own.track ≡ None → Met c.number b k.text (after_in n i q packet f content c k) (near_events n c.number b q f content None (due_of b c)) (near_field b q f)
 near_meets n i true true packet f content c k there all none = own_meets n i true packet f content c k there all none
 near_meets n i false false packet f content c k there all none = own_meets n i false packet f content c k there all none
 near_meets n i true false packet f content c k there all none = inl (behind_waits n i false packet f content c k all none)
@@ -206,55 +232,61 @@ far_waits : (n : Origin) (m i : ℕ) (b q : Bool) (packet : PacketModel) (f : He
     → Awaits m b k.text (after_in n i q packet f content c k) [] None
 far_waits n m i b q packet f content c k far other all =
     let s = scene_in q c k in
-    let new = after_packet (heading_at n c.number q) packet f content s in record {
-      none = keep_set m b k.connections i (with_scene q new (with_closing q (closing_with q f c) c)) None all (λ is. absurd (other (sym is ∙ scene_number q new (closing_with q f c) c)));
+    let new = after_packet (heading_at n c.number q) (due_in q c) packet f content s in record {
+      none = keep_set m b k.connections i (with_scene q new (noted q f c)) None all (λ is. absurd (other (sym is ∙ scene_number q new f c)));
       nothing = refl;
       later = refl;
-      parts = packet_parts n c.number q packet f content s;
+      parts = packet_parts n c.number q (due_in q c) packet f content s;
       text = in_text n i q packet f content c k;
-      own = far_texts n m b q packet f content c.number s far;
+      own = far_texts n m b q (due_in q c) packet f content c.number s far;
     }
 
 at_meets : (n : Origin) (m i : ℕ) (b q : Bool) (packet : PacketModel) (f : Header) (content : List ℕ) (c : Connection) (k : Known) → slice_get k.connections i ≡ Some c → AllKeep m b k.connections None
-    → Met m b k.text (after_in n i q packet f content c k) (events_between (flow_at m b) (flow_at c.number q) (heading_at n m b) f content (side_in b c).track) (field_between (flow_at m b) (flow_at c.number q) f)
+    → Met m b k.text (after_in n i q packet f content c k) (events_between (flow_at m b) (flow_at c.number q) (heading_at n m b) f content (side_in b c).track (due_of b c)) (field_between (flow_at m b) (flow_at c.number q) f)
 at_meets n m i b q packet f content c k there all = by_number (m == c.number) refl
   where
     by_number : (p : Bool) → (m == c.number) ≡ p
-        → Met m b k.text (after_in n i q packet f content c k) (cond p (near_events n m b q f content (side_in b c).track) []) (cond p (near_field b q f) None)
+        → Met m b k.text (after_in n i q packet f content c k) (cond p (near_events n m b q f content (side_in b c).track (due_of b c)) []) (cond p (near_field b q f) None)
     by_number true e =
         let same : m ≡ c.number = equal_tells m c.number e in
         let none : (side_in b c).track ≡ None = all i c there (sym same) in
-        subst (λ o. Met m b k.text (after_in n i q packet f content c k) (near_events n m b q f content o) (near_field b q f)) (sym none)
-        (subst (λ g. Met g b k.text (after_in n i q packet f content c k) (near_events n g b q f content None) (near_field b q f)) (sym same)
+        subst (λ o. Met m b k.text (after_in n i q packet f content c k) (near_events n m b q f content o (due_of b c)) (near_field b q f)) (sym none)
+        (subst (λ g. Met g b k.text (after_in n i q packet f content c k) (near_events n g b q f content None (due_of b c)) (near_field b q f)) (sym same)
         (near_meets n i b q packet f content c k there (subst (λ g. AllKeep g b k.connections None) same all) (side_track b c k ∙ none)))
     by_number false e = inl (far_waits n m i b q packet f content c k e (number_tells m c.number e) all)
 
 -- ---- where its connection stands
 
 fresh_meets : IsPlain → (n : Origin) (m i : ℕ) (b : Bool) (flow : Flow) (packet : PacketModel) (f : Header) (content : List ℕ) (number : ℕ) (k : Known) → slice_get k.connections i ≡ Some (new_connection number flow) → AllKeep m b k.connections None
-    → Met m b k.text (after_at n i flow packet f content k) (events_between (flow_at m b) (flow_at number false) (heading_at n m b) f content None) (field_between (flow_at m b) (flow_at number false) f)
+    → Met m b k.text (after_at n i flow packet f content k) (events_between (flow_at m b) (flow_at number false) (heading_at n m b) f content None None) (field_between (flow_at m b) (flow_at number false) f)
 fresh_meets plain_places n m i b flow packet f content number k there all =
     let c = new_connection number flow in
-    subst (λ k'. Met m b k.text k' (events_between (flow_at m b) (flow_at number false) (heading_at n m b) f content None) (field_between (flow_at m b) (flow_at number false) f)) (sym (new_there plain_places n i flow packet f content number k there))
-    (subst (λ o. Met m b k.text (after_in n i false packet f content c k) (events_between (flow_at m b) (flow_at number false) (heading_at n m b) f content o) (field_between (flow_at m b) (flow_at number false) f)) (none_new b number flow)
-    (at_meets n m i b false packet f content c k there all))
+    subst (λ k'. Met m b k.text k' (events_between (flow_at m b) (flow_at number false) (heading_at n m b) f content None None) (field_between (flow_at m b) (flow_at number false) f)) (sym (new_there plain_places n i flow packet f content number k there))
+    (subst (λ o. Met m b k.text (after_in n i false packet f content c k) (events_between (flow_at m b) (flow_at number false) (heading_at n m b) f content None o) (field_between (flow_at m b) (flow_at number false) f)) (none_due b number flow)
+    (subst (λ o. Met m b k.text (after_in n i false packet f content c k) (events_between (flow_at m b) (flow_at number false) (heading_at n m b) f content o (due_of b c)) (field_between (flow_at m b) (flow_at number false) f)) (none_new b number flow)
+    (at_meets n m i b false packet f content c k there all)))
 
 nothing_left : {A : Type 0} (p q : Bool) (x : A) → cond p (cond q x x) x ≡ x
 nothing_left true true x = refl
 nothing_left true false x = refl
 nothing_left false q x = refl
 
+no_events : (p q : Bool) (x : List Event) → x ≡ [] → cond p (cond q x [] ++ []) [] ≡ []
+no_events true true x none = append-nil x ∙ none
+no_events true false x none = refl
+no_events false q x none = refl
+
 new_meets : IsPlain → (n : Origin) (m : ℕ) (b : Bool) (flow : Flow) (packet : PacketModel) (f : Header) (content : List ℕ) (k : Known) → AllKeep m b k.connections None
-    → Met m b k.text (after_new_flow n flow packet f content k) (events_between (flow_at m b) (next_name k) (heading_at n m b) f content None) (field_between (flow_at m b) (next_name k) f)
+    → Met m b k.text (after_new_flow n flow packet f content k) (events_between (flow_at m b) (next_name k) (heading_at n m b) f content None None) (field_between (flow_at m b) (next_name k) f)
 new_meets plain_places n m b flow packet f content k all = by_system (is_system f) refl
   where
     by_system : (p : Bool) → is_system f ≡ p
-        → Met m b k.text (cond p k (after_at n (length k.connections) flow packet f content (with_new flow k))) (events_between (flow_at m b) (next_name k) (heading_at n m b) f content None) (field_between (flow_at m b) (next_name k) f)
+        → Met m b k.text (cond p k (after_at n (length k.connections) flow packet f content (with_new flow k))) (events_between (flow_at m b) (next_name k) (heading_at n m b) f content None None) (field_between (flow_at m b) (next_name k) f)
     by_system true e =
         let h = heading_at n m b in
         let items = captured_event h (near (first_track f.sequence).next f.sequence) (item_with f content) in
-        inl (waits_still m b k (events_between (flow_at m b) (next_name k) h f content None) (field_between (flow_at m b) (next_name k) f) all
-        (ap (λ r. cond (m == k.count + 1) (cond (is_same b false) (cond r [] items) []) []) e ∙ nothing_left (m == k.count + 1) (is_same b false) [])
+        inl (waits_still m b k (events_between (flow_at m b) (next_name k) h f content None None) (field_between (flow_at m b) (next_name k) f) all
+        (no_events (m == k.count + 1) (is_same b false) (cond (is_system f) [] items) (ap (λ r. cond r [] items) e))
         (ap (λ r. cond (m == k.count + 1) (cond (is_same b false) (cond r None (Some f.sequence)) None) None) e ∙ nothing_left (m == k.count + 1) (is_same b false) None))
     by_system false e =
         fresh_meets plain_places n m (length k.connections) b flow packet f content (k.count + 1) (with_new flow k) (get_last k.connections (new_connection (k.count + 1) flow))
@@ -352,19 +384,19 @@ place_meets plain_places n m i b packet f content c k there all =
 
     by_anew : (p : Bool)
         → Met m b k.text (after_at n i flow packet f content (cond p (forgotten n i flow c k) k))
-        (cond p (ending_events (flow_at m b) (heading_at n m b) c ++ events_between (flow_at m b) (next_name k) (heading_at n m b) f content None)
-        (events_between (flow_at m b) (name_in flow c) (heading_at n m b) f content (side_in b c).track))
+        (cond p (ending_events (flow_at m b) (heading_at n m b) c ++ events_between (flow_at m b) (next_name k) (heading_at n m b) f content None None)
+        (events_between (flow_at m b) (name_in flow c) (heading_at n m b) f content (side_in b c).track (due_of b c)))
         (cond p (field_between (flow_at m b) (next_name k) f) (field_between (flow_at m b) (name_in flow c) f))
     by_anew true =
         let w = forget_waits n m i b flow c k there all in
         met_behind m b k.text (forgotten n i flow c k) (after_at n i flow packet f content (forgotten n i flow c k)) (ending_events (flow_at m b) (heading_at n m b) c)
-        (events_between (flow_at m b) (next_name k) (heading_at n m b) f content None) (field_between (flow_at m b) (next_name k) f) w
+        (events_between (flow_at m b) (next_name k) (heading_at n m b) f content None None) (field_between (flow_at m b) (next_name k) f) w
         (fresh_meets plain_places n m i b flow packet f content (k.count + 1) (forgotten n i flow c k) (get_same k.connections i c (new_connection (k.count + 1) flow) there) w.none)
     by_anew false = there_meets
       where
-        there_meets : Met m b k.text (after_at n i flow packet f content k) (events_between (flow_at m b) (name_in flow c) (heading_at n m b) f content (side_in b c).track) (field_between (flow_at m b) (name_in flow c) f)
+        there_meets : Met m b k.text (after_at n i flow packet f content k) (events_between (flow_at m b) (name_in flow c) (heading_at n m b) f content (side_in b c).track (due_of b c)) (field_between (flow_at m b) (name_in flow c) f)
         there_meets =
-            subst (λ o. Met m b k.text (after_there n i flow packet f content o k) (events_between (flow_at m b) (name_in flow c) (heading_at n m b) f content (side_in b c).track) (field_between (flow_at m b) (name_in flow c) f)) (sym there)
+            subst (λ o. Met m b k.text (after_there n i flow packet f content o k) (events_between (flow_at m b) (name_in flow c) (heading_at n m b) f content (side_in b c).track (due_of b c)) (field_between (flow_at m b) (name_in flow c) f)) (sym there)
             (at_meets n m i b (is_behind_in flow c) packet f content c k there all)
 
 sequenced_meets : IsPlain → (n : Origin) (m : ℕ) (b : Bool) (packet : PacketModel) (f : Header) (content : List ℕ) (k : Known) → AllKeep m b k.connections None

@@ -8,18 +8,19 @@ use Rattle.xns_spp.specs.Item.{item_with}
 use Rattle.xns_spp.specs.declared.header.Header.{Header}
 use Rattle.xns_dump.specs.Flows.{flow_of, is_place}
 use Rattle.xns_dump.specs.declared.flows.flow.Flow.{Flow}
+use Rattle.xns_calls.specs.Acknowledged.{due_in, due_of, noted}
 use Rattle.xns_calls.specs.Anew.{begins_anew}
-use Rattle.xns_calls.specs.Capture.{Known, after_at, after_in, after_new_flow, after_place, after_scene, after_sequenced, after_there, forgotten, heading_at, is_behind_in, new_connection, place_of, renewed, renewed_there, scene_in, with_closing, with_new, with_scene}
+use Rattle.xns_calls.specs.Capture.{Known, after_at, after_in, after_new_flow, after_place, after_scene, after_sequenced, after_there, forgotten, heading_at, is_behind_in, new_connection, place_of, renewed, renewed_there, scene_in, with_new, with_scene}
 use Rattle.xns_calls.specs.Events.{Event, acknowledged_event, after_event, after_events, brought_if, meanwhile, own_events, with_others}
-use Rattle.xns_calls.specs.Exchange.{Scene, advance_own, advance_track, advanced, after_acknowledge, after_packet, after_told, behind_last, ended, of_other, seen_from_other, told_of, up_to}
-use Rattle.xns_calls.specs.Input.{Part, acknowledge_events, connection_at, connection_of, ending_events, events_between, events_there, is_same, item_events, name_in, next_name, part_text, parts_text, text_in, texts_in, told}
+use Rattle.xns_calls.specs.Exchange.{Scene, advance_own, advance_track, advanced, after_packet, after_told, behind_last, ended, of_other, other_reached, seen_from_other, told_of, up_to}
+use Rattle.xns_calls.specs.Input.{Part, connection_at, connection_of, ending_events, events_between, events_there, is_same, item_events, name_in, next_name, part_text, parts_text, text_in, texts_in, told}
 use Rattle.xns_calls.specs.Numbers.{near}
-use Rattle.xns_calls.specs.Over.{closing_with, side_in}
+use Rattle.xns_calls.specs.Over.{side_in}
 use Rattle.xns_calls.specs.Queue.{last_number}
 use Rattle.xns_calls.specs.Reading.{Told, brought}
 use Rattle.xns_calls.specs.Whole.{flow_text}
-use Rattle.xns_calls.specs.declared.closing.Closing.{Closing}
 use Rattle.xns_calls.specs.declared.connection.Connection.{Connection}
+use Rattle.xns_calls.specs.declared.due.Due.{Due}
 use Rattle.xns_calls.specs.declared.heading.Heading.{Heading}
 use Rattle.xns_calls.specs.declared.track.Track.{Track}
 use Rattle.xns_calls.proofs.Gaps.{equal_tells}
@@ -27,9 +28,9 @@ use Rattle.xns_calls.proofs.Numbered.{IsNumbered, fresh_number, more_cases, numb
 use Rattle.xns_calls.proofs.Others.{get_front, get_last, get_same, get_set}
 use Rattle.xns_calls.proofs.Places.{place_there}
 use Rattle.xns_calls.proofs.Whole.{get_below}
-use Rattle.xns_calls.proofs.Packets.{acknowledge_event, ended_other, packet_events, packet_other, put_back}
+use Rattle.xns_calls.proofs.Packets.{reached_event, ended_other, packet_events, packet_other, put_back}
 use Rattle.xns_calls.specs.declared.origin.Origin.{Origin}
-use Rattle.xns_calls.proofs.Parts.{ack_plain, acknowledged_new, acknowledged_plain, acknowledged_said, acknowledged_text, after_append, behind_text, ended_parts, ended_text, far_text, first_ended, first_ended_said, flow_append, flow_at, item_new, item_plain, number_tells, other_number, other_text, own_text, packet_parts, packet_said, packet_text, plain, plain_one, said_text_of, scene_text, second_ended, second_ended_said, two_of}
+use Rattle.xns_calls.proofs.Parts.{ack_plain, acknowledged_new, acknowledged_plain, after_append, behind_text, both_new, both_plain, ended_parts, ended_text, far_text, first_ended, first_ended_said, flow_append, flow_at, number_tells, other_number, other_text, own_text, packet_parts, packet_said, packet_text, plain, plain_one, reached_said, reached_text, said_text_of, scene_text, second_ended, second_ended_said, two_of}
 
 -- ---- where a flow stands that has begun
 
@@ -50,16 +51,16 @@ abbrev pub IsOn : ℕ → Bool → Known → Told → Type 0
 IsOn m b k t = IsAt m b k t ⊎ IsGone m k
 
 -- behind a packet of its own
-pub stands_own : (i : ℕ) (b : Bool) (closing : Closing) (c : Connection) (s : Scene) (k : Known) → slice_get k.connections i ≡ Some c → (u : Told) → s.own.track ≡ Some u.track → u ≡ told_of u.track s
-    → IsAt c.number b (after_scene i b (with_closing b closing c) s k) u
-stands_own i true closing c s k e u track is = record { place = i; connection = with_scene true s (with_closing true closing c); there = get_same k.connections i c (with_scene true s (with_closing true closing c)) e; number = refl; track = track; is = is }
-stands_own i false closing c s k e u track is = record { place = i; connection = with_scene false s (with_closing false closing c); there = get_same k.connections i c (with_scene false s (with_closing false closing c)) e; number = refl; track = track; is = is }
+pub stands_own : (i : ℕ) (b : Bool) (f : Header) (c : Connection) (s : Scene) (k : Known) → slice_get k.connections i ≡ Some c → (u : Told) → s.own.track ≡ Some u.track → u ≡ told_of u.track s
+    → IsAt c.number b (after_scene i b (noted b f c) s k) u
+stands_own i true f c s k e u track is = record { place = i; connection = with_scene true s (noted true f c); there = get_same k.connections i c (with_scene true s (noted true f c)) e; number = refl; track = track; is = is }
+stands_own i false f c s k e u track is = record { place = i; connection = with_scene false s (noted false f c); there = get_same k.connections i c (with_scene false s (noted false f c)) e; number = refl; track = track; is = is }
 
 -- and behind one of the flow behind it
-pub stands_behind : (i : ℕ) (q : Bool) (closing : Closing) (c : Connection) (s : Scene) (k : Known) → slice_get k.connections i ≡ Some c → (u : Told) → s.other.track ≡ Some u.track
-    → u ≡ told_of u.track (seen_from_other s) → IsAt c.number (not q) (after_scene i q (with_closing q closing c) s k) u
-stands_behind i true closing c s k e u track is = record { place = i; connection = with_scene true s (with_closing true closing c); there = get_same k.connections i c (with_scene true s (with_closing true closing c)) e; number = refl; track = track; is = is }
-stands_behind i false closing c s k e u track is = record { place = i; connection = with_scene false s (with_closing false closing c); there = get_same k.connections i c (with_scene false s (with_closing false closing c)) e; number = refl; track = track; is = is }
+pub stands_behind : (i : ℕ) (q : Bool) (f : Header) (c : Connection) (s : Scene) (k : Known) → slice_get k.connections i ≡ Some c → (u : Told) → s.other.track ≡ Some u.track
+    → u ≡ told_of u.track (seen_from_other s) → IsAt c.number (not q) (after_scene i q (noted q f c) s k) u
+stands_behind i true f c s k e u track is = record { place = i; connection = with_scene true s (noted true f c); there = get_same k.connections i c (with_scene true s (noted true f c)) e; number = refl; track = track; is = is }
+stands_behind i false f c s k e u track is = record { place = i; connection = with_scene false s (noted false f c); there = get_same k.connections i c (with_scene false s (noted false f c)) e; number = refl; track = track; is = is }
 
 -- where its connection stays
 pub still : (m : ℕ) (b : Bool) (k k' : Known) (t : Told) → (a : IsAt m b k t) → slice_get k'.connections a.place ≡ slice_get k.connections a.place → IsAt m b k' (with_others t.calls k'.text k'.is_refused t)
@@ -124,60 +125,64 @@ two_steps m b k k' k'' t xs ys w next =
 
 pub own_step : (n : Origin) (i : ℕ) (b : Bool) (packet : PacketModel) (f : Header) (content : List ℕ) (c : Connection) (k : Known) (t : Told) → slice_get k.connections i ≡ Some c
     → (scene_in b c k).own.track ≡ Some t.track → t ≡ told_of t.track (scene_in b c k)
-    → Stepped c.number b k (after_in n i b packet f content c k) t (item_events (heading_at n c.number b) f content (Some t.track))
+    → Stepped c.number b k (after_in n i b packet f content c k) t (item_events (heading_at n c.number b) f content (Some t.track) ++ acknowledged_event (heading_at n c.number b) (due_of b c))
 own_step n i b packet f content c k t e track is =
     let m = c.number in
     let h = heading_at n m b in
     let s = scene_in b c k in
-    let known = after_acknowledge h f.acknowledge s in
-    let new = after_packet h packet f content s in
-    let events = own_events h f content t.track known in
+    let due = due_in b c in
+    let known = other_reached h due.other s in
+    let new = after_packet h due packet f content s in
+    let events = own_events h due.own f content t.track known in
     let u = after_events events t in
-    let after : new ≡ after_told u known = packet_events h packet f content s t.track track ∙ ap (λ (x : Told). after_told (after_events events x) known) (sym is) in record {
+    let others = with_others (record { own = known.own.call; asked = known.other.call }) known.text known.is_refused t in
+    let o = near t.track.next f.sequence in
+    let after : new ≡ after_told u known = packet_events h due packet f content s t.track track ∙ ap (λ (x : Told). after_told (after_events events x) known) (sym is) in record {
       events = events;
-      are = item_plain (is_system f) h (near t.track.next f.sequence) (item_with f content);
-      stands = inl (stands_own i b (closing_with b f c) c new k e u (ap (λ (x : Scene). x.own.track) after) (sym (ap (λ (x : Scene). told_of u.track x) after)));
-      parts = packet_parts n m b packet f content s;
-      text = packet_text n m b packet f content s ∙ ap (λ z. z ++ parts_text (packet_parts n m b packet f content s)) (scene_text b c k);
-      own = two_of (text_in (flow_at m b) (told n (flow_at m (not b)) (acknowledged_said n m b f s))) (text_in (flow_at m b) (told n (flow_at m b) (packet_said n m b packet f content s))) [] (flow_text events t)
-          (other_text n m b (acknowledged_said n m b f s))
-          (own_text n m b (packet_said n m b packet f content s) ∙ sym (said_text_of n m b packet f content s) ∙ ap (λ (x : Scene). drop (length known.text) x.text) after
-          ∙ sym (item_new (is_system f) h (near t.track.next f.sequence) (item_with f content) (with_others (record { own = known.own.call; asked = known.other.call }) known.text known.is_refused t)));
+      are = both_plain (is_system f) h o (item_with f content) due.own;
+      stands = inl (stands_own i b f c new k e u (ap (λ (x : Scene). x.own.track) after) (sym (ap (λ (x : Scene). told_of u.track x) after)));
+      parts = packet_parts n m b due packet f content s;
+      text = packet_text n m b due packet f content s ∙ ap (λ z. z ++ parts_text (packet_parts n m b due packet f content s)) (scene_text b c k);
+      own = two_of (text_in (flow_at m b) (told n (flow_at m (not b)) (reached_said n m b due s))) (text_in (flow_at m b) (told n (flow_at m b) (packet_said n m b due packet f content s))) [] (flow_text events t)
+          (other_text n m b (reached_said n m b due s))
+          (own_text n m b (packet_said n m b due packet f content s) ∙ sym (said_text_of n m b due packet f content s) ∙ ap (λ (x : Scene). drop (length known.text) x.text) after
+          ∙ sym (both_new (is_system f) h o (item_with f content) due.own others));
     }
 
 pub behind_step : (n : Origin) (i : ℕ) (q : Bool) (packet : PacketModel) (f : Header) (content : List ℕ) (c : Connection) (k : Known) (t : Told) → slice_get k.connections i ≡ Some c
     → (scene_in q c k).other.track ≡ Some t.track → t ≡ told_of t.track (seen_from_other (scene_in q c k))
-    → Stepped c.number (not q) k (after_in n i q packet f content c k) t (acknowledge_events (heading_at n c.number (not q)) f (Some t.track))
+    → Stepped c.number (not q) k (after_in n i q packet f content c k) t (acknowledged_event (heading_at n c.number (not q)) (due_of (not q) c))
 behind_step n i q packet f content c k t e track is =
     let m = c.number in
     let h = heading_at n m q in
     let s = scene_in q c k in
-    let known = after_acknowledge h f.acknowledge s in
-    let new = after_packet h packet f content s in
-    let acks = acknowledged_event (of_other h) (near t.track.next f.acknowledge) in
+    let due = due_in q c in
+    let known = other_reached h due.other s in
+    let new = after_packet h due packet f content s in
+    let acks = acknowledged_event (of_other h) due.other in
     let v = after_events acks t in
     let others = meanwhile (record { own = new.other.call; asked = new.own.call }) new.text new.is_refused in
     let after : known ≡ seen_from_other (after_told v (seen_from_other s)) =
-    acknowledge_event h f.acknowledge s t.track track ∙ ap (λ (x : Told). seen_from_other (after_told (after_events acks x) (seen_from_other s))) (sym is) in
+    reached_event h due.other s t.track track ∙ ap (λ (x : Told). seen_from_other (after_told (after_events acks x) (seen_from_other s))) (sym is) in
     let P = flow_at m (not q) in record {
       events = acks ++ others ∷ [];
-      are = acknowledged_plain (of_other h) (near t.track.next f.acknowledge) others refl;
+      are = acknowledged_plain (of_other h) due.other others refl;
       stands = inl (subst (IsAt m (not q) (after_in n i q packet f content c k)) (sym (after_append acks (others ∷ []) t))
-          (stands_behind i q (closing_with q f c) c new k e (after_event others v) (packet_other h packet f content s ∙ ap (λ (x : Scene). x.other.track) after) refl));
-      parts = packet_parts n m q packet f content s;
-      text = packet_text n m q packet f content s ∙ ap (λ z. z ++ parts_text (packet_parts n m q packet f content s)) (scene_text q c k);
-      own = two_of (text_in P (told n P (acknowledged_said n m q f s))) (text_in P (told n (flow_at m q) (packet_said n m q packet f content s))) (flow_text acks t) []
-          (own_text n m (not q) (acknowledged_said n m q f s) ∙ sym (acknowledged_text n m q f s) ∙ ap (λ (x : Scene). drop (length s.text) x.text) after
-          ∙ ap (λ (x : Told). drop (length x.text) v.text) (sym is) ∙ sym (acknowledged_new (of_other h) (near t.track.next f.acknowledge) t))
-          (behind_text n m q (packet_said n m q packet f content s))
+          (stands_behind i q f c new k e (after_event others v) (packet_other h due packet f content s ∙ ap (λ (x : Scene). x.other.track) after) refl));
+      parts = packet_parts n m q due packet f content s;
+      text = packet_text n m q due packet f content s ∙ ap (λ z. z ++ parts_text (packet_parts n m q due packet f content s)) (scene_text q c k);
+      own = two_of (text_in P (told n P (reached_said n m q due s))) (text_in P (told n (flow_at m q) (packet_said n m q due packet f content s))) (flow_text acks t) []
+          (own_text n m (not q) (reached_said n m q due s) ∙ sym (reached_text n m q due s) ∙ ap (λ (x : Scene). drop (length s.text) x.text) after
+          ∙ ap (λ (x : Told). drop (length x.text) v.text) (sym is) ∙ sym (acknowledged_new (of_other h) due.other t))
+          (behind_text n m q (packet_said n m q due packet f content s))
           ∙ sym (flow_append acks (others ∷ []) t);
     }
 
 -- the texts of a packet of another connection
-pub far_texts : (n : Origin) (m : ℕ) (b q : Bool) (packet : PacketModel) (f : Header) (content : List ℕ) (g : ℕ) (s : Scene) → (m == g) ≡ false → texts_in (flow_at m b) (packet_parts n g q packet f content s) ≡ []
-far_texts n m b q packet f content g s far =
-    two_of (text_in (flow_at m b) (told n (flow_at g (not q)) (acknowledged_said n g q f s))) (text_in (flow_at m b) (told n (flow_at g q) (packet_said n g q packet f content s))) [] []
-    (far_text n m g b (not q) (acknowledged_said n g q f s) far) (far_text n m g b q (packet_said n g q packet f content s) far)
+pub far_texts : (n : Origin) (m : ℕ) (b q : Bool) (due : Due) (packet : PacketModel) (f : Header) (content : List ℕ) (g : ℕ) (s : Scene) → (m == g) ≡ false → texts_in (flow_at m b) (packet_parts n g q due packet f content s) ≡ []
+far_texts n m b q due packet f content g s far =
+    two_of (text_in (flow_at m b) (told n (flow_at g (not q)) (reached_said n g q due s))) (text_in (flow_at m b) (told n (flow_at g q) (packet_said n g q due packet f content s))) [] []
+    (far_text n m g b (not q) (reached_said n g q due s) far) (far_text n m g b q (packet_said n g q due packet f content s) far)
 
 pub far_ended : (n : Origin) (m : ℕ) (b : Bool) (g : ℕ) (s : Scene) → (m == g) ≡ false → texts_in (flow_at m b) (ended_parts n g s) ≡ []
 far_ended n m b g s far =
@@ -185,16 +190,17 @@ far_ended n m b g s far =
     (far_text n m g b false (first_ended_said n g s) far) (far_text n m g b true (second_ended_said n g s) far)
 
 pub in_text : (n : Origin) (i : ℕ) (q : Bool) (packet : PacketModel) (f : Header) (content : List ℕ) (c : Connection) (k : Known)
-    → (after_in n i q packet f content c k).text ≡ k.text ++ parts_text (packet_parts n c.number q packet f content (scene_in q c k))
+    → (after_in n i q packet f content c k).text ≡ k.text ++ parts_text (packet_parts n c.number q (due_in q c) packet f content (scene_in q c k))
 in_text n i q packet f content c k =
-    let s = scene_in q c k in packet_text n c.number q packet f content s ∙ ap (λ z. z ++ parts_text (packet_parts n c.number q packet f content s)) (scene_text q c k)
+    let s = scene_in q c k in
+    packet_text n c.number q (due_in q c) packet f content s ∙ ap (λ z. z ++ parts_text (packet_parts n c.number q (due_in q c) packet f content s)) (scene_text q c k)
 
-abbrev pub near_events : Origin → ℕ → Bool → Bool → Header → List ℕ → Option Track → List Event
-near_events n m b q f content track = cond (is_same b q) (item_events (heading_at n m b) f content track) (acknowledge_events (heading_at n m b) f track)
+abbrev pub near_events : Origin → ℕ → Bool → Bool → Header → List ℕ → Option Track → Option ℕ → List Event
+near_events n m b q f content track due = cond (is_same b q) (item_events (heading_at n m b) f content track) [] ++ acknowledged_event (heading_at n m b) due
 
 -- a packet of its own connection
 pub near_step : (n : Origin) (i : ℕ) (b q : Bool) (packet : PacketModel) (f : Header) (content : List ℕ) (c : Connection) (k : Known) (t : Told) → slice_get k.connections i ≡ Some c
-    → (scene_in b c k).own.track ≡ Some t.track → t ≡ told_of t.track (scene_in b c k) → Stepped c.number b k (after_in n i q packet f content c k) t (near_events n c.number b q f content (Some t.track))
+    → (scene_in b c k).own.track ≡ Some t.track → t ≡ told_of t.track (scene_in b c k) → Stepped c.number b k (after_in n i q packet f content c k) t (near_events n c.number b q f content (Some t.track) (due_of b c))
 near_step n i true true packet f content c k t e track is = own_step n i true packet f content c k t e track is
 near_step n i false false packet f content c k t e track is = own_step n i false packet f content c k t e track is
 near_step n i true false packet f content c k t e track is = behind_step n i false packet f content c k t e track is
@@ -219,17 +225,17 @@ gone_set m i k c c' gone there same j d at is = by_case (set_cases k.connections
     by_case (inr (other, e)) = gone.none j d e is
 
 pub at_step : (n : Origin) (m i : ℕ) (b q : Bool) (packet : PacketModel) (f : Header) (content : List ℕ) (c : Connection) (k : Known) (t : Told) → IsNumbered k.connections k.count → slice_get k.connections i ≡ Some c → IsOn m b k t
-    → Stepped m b k (after_in n i q packet f content c k) t (events_between (flow_at m b) (flow_at c.number q) (heading_at n m b) f content (side_in b c).track)
+    → Stepped m b k (after_in n i q packet f content c k) t (events_between (flow_at m b) (flow_at c.number q) (heading_at n m b) f content (side_in b c).track (due_of b c))
 at_step n m i b q packet f content c k t numbered there on = by_number (m == c.number) refl on
   where
     s : Scene
     s = scene_in q c k
 
     parts : List Part
-    parts = packet_parts n c.number q packet f content s
+    parts = packet_parts n c.number q (due_in q c) packet f content s
 
     Goal : Bool → Type 0
-    Goal p = Stepped m b k (after_in n i q packet f content c k) t (cond p (near_events n m b q f content (side_in b c).track) [])
+    Goal p = Stepped m b k (after_in n i q packet f content c k) t (cond p (near_events n m b q f content (side_in b c).track (due_of b c)) [])
 
     by_number : (p : Bool) → (m == c.number) ≡ p → IsOn m b k t → Goal p
     by_number true e (inl a) =
@@ -238,16 +244,16 @@ at_step n m i b q packet f content c k t numbered there on = by_number (m == c.n
         let one : a.connection ≡ c = (cc) in
         let track : (scene_in b c k).own.track ≡ Some t.track = ap (λ (x : Connection). (scene_in b x k).own.track) (sym one) ∙ a.track in
         let is : t ≡ told_of t.track (scene_in b c k) = a.is ∙ ap (λ (x : Connection). told_of t.track (scene_in b x k)) one in
-        subst (λ o. Stepped m b k (after_in n i q packet f content c k) t (near_events n m b q f content o)) (sym track ∙ side_track b c k)
-        (subst (λ g. Stepped g b k (after_in n i q packet f content c k) t (near_events n g b q f content (Some t.track))) (sym (equal_tells m c.number e))
+        subst (λ o. Stepped m b k (after_in n i q packet f content c k) t (near_events n m b q f content o (due_of b c))) (sym track ∙ side_track b c k)
+        (subst (λ g. Stepped g b k (after_in n i q packet f content c k) t (near_events n g b q f content (Some t.track) (due_of b c))) (sym (equal_tells m c.number e))
         (near_step n i b q packet f content c k t there track is))
     by_number true e (inr gone) = absurd (gone.none i c there (sym (equal_tells m c.number e)))
     by_number false e (inl a) =
-        unchanged m b k (after_in n i q packet f content c k) t parts (in_text n i q packet f content c k) (far_texts n m b q packet f content c.number s e) a
+        unchanged m b k (after_in n i q packet f content c k) t parts (in_text n i q packet f content c k) (far_texts n m b q (due_in q c) packet f content c.number s e) a
         (get_set k.connections a.place i _ (other_place k a.place i a.connection c a.there there (λ same. number_tells m c.number e (sym a.number ∙ same))))
     by_number false e (inr gone) =
-        stays_gone m b k (after_in n i q packet f content c k) t parts (in_text n i q packet f content c k) (far_texts n m b q packet f content c.number s e)
-        (record { counted = gone.counted; none = gone_set m i k c _ gone there (scene_number q _ _ c) })
+        stays_gone m b k (after_in n i q packet f content c k) t parts (in_text n i q packet f content c k) (far_texts n m b q (due_in q c) packet f content c.number s e)
+        (record { counted = gone.counted; none = gone_set m i k c _ gone there (scene_number q _ f c) })
 
 -- ---- the end of a connection that begins anew
 
@@ -393,6 +399,10 @@ forget_step n m i b flow c k t numbered there on = by_number (m == c.number) ref
 abbrev pub IsPlain : Type 0
 IsPlain = (flow : Flow) → is_place flow.source flow.source ≡ true
 
+pub none_due : (b : Bool) (number : ℕ) (flow : Flow) → due_of b (new_connection number flow) ≡ None
+none_due true number flow = refl
+none_due false number flow = refl
+
 pub none_new : (b : Bool) (number : ℕ) (flow : Flow) → (side_in b (new_connection number flow)).track ≡ None
 none_new true number flow = refl
 none_new false number flow = refl
@@ -407,12 +417,13 @@ new_there plain n i flow packet f content number k there =
 -- its first packet is nothing to a flow that has begun before
 pub fresh_step : IsPlain → (n : Origin) (m i : ℕ) (b : Bool) (flow : Flow) (packet : PacketModel) (f : Header) (content : List ℕ) (number : ℕ) (k : Known) (t : Told) → IsNumbered k.connections k.count
     → slice_get k.connections i ≡ Some (new_connection number flow) → IsOn m b k t
-    → Stepped m b k (after_at n i flow packet f content k) t (events_between (flow_at m b) (flow_at number false) (heading_at n m b) f content None)
+    → Stepped m b k (after_at n i flow packet f content k) t (events_between (flow_at m b) (flow_at number false) (heading_at n m b) f content None None)
 fresh_step plain n m i b flow packet f content number k t numbered there on =
     let c = new_connection number flow in
-    subst (λ k'. Stepped m b k k' t (events_between (flow_at m b) (flow_at number false) (heading_at n m b) f content None)) (sym (new_there plain n i flow packet f content number k there))
-    (subst (λ o. Stepped m b k (after_in n i false packet f content c k) t (events_between (flow_at m b) (flow_at number false) (heading_at n m b) f content o)) (none_new b number flow)
-    (at_step n m i b false packet f content c k t numbered there on))
+    subst (λ k'. Stepped m b k k' t (events_between (flow_at m b) (flow_at number false) (heading_at n m b) f content None None)) (sym (new_there plain n i flow packet f content number k there))
+    (subst (λ o. Stepped m b k (after_in n i false packet f content c k) t (events_between (flow_at m b) (flow_at number false) (heading_at n m b) f content None o)) (none_due b number flow)
+    (subst (λ o. Stepped m b k (after_in n i false packet f content c k) t (events_between (flow_at m b) (flow_at number false) (heading_at n m b) f content o (due_of b c))) (none_new b number flow)
+    (at_step n m i b false packet f content c k t numbered there on)))
 
 pub with_more : (m : ℕ) (b : Bool) (flow : Flow) (k : Known) (t : Told) → IsOn m b k t → IsOn m b (with_new flow k) t
 with_more m true flow k t (inl a) = inl (record {
@@ -446,18 +457,18 @@ begun_before m b k t numbered (inr gone) = gone.counted
 
 -- a packet that begins a connection, or that is a system packet of none
 pub new_step : IsPlain → (n : Origin) (m : ℕ) (b : Bool) (flow : Flow) (packet : PacketModel) (f : Header) (content : List ℕ) (k : Known) (t : Told) → IsNumbered k.connections k.count → IsOn m b k t
-    → Stepped m b k (after_new_flow n flow packet f content k) t (events_between (flow_at m b) (next_name k) (heading_at n m b) f content None)
+    → Stepped m b k (after_new_flow n flow packet f content k) t (events_between (flow_at m b) (next_name k) (heading_at n m b) f content None None)
 new_step plain n m b flow packet f content k t numbered on = over (is_system f)
   where
     more : Known
     more = with_new flow k
 
     happened : List Event
-    happened = events_between (flow_at m b) (next_name k) (heading_at n m b) f content None
+    happened = events_between (flow_at m b) (next_name k) (heading_at n m b) f content None None
 
     none : happened ≡ []
     none =
-        ap (λ (p : Bool). cond p (near_events n m b false f content None) [])
+        ap (λ (p : Bool). cond p (near_events n m b false f content None None) [])
         (next_other m k.count (begun_before m b k t numbered on))
 
     over : (p : Bool) → Stepped m b k (cond p k (after_at n (length k.connections) flow packet f content more)) t happened
@@ -480,20 +491,20 @@ place_step plain n m i b packet f content c k t numbered there on =
 
     by_anew : (p : Bool)
         → Stepped m b k (after_at n i flow packet f content (cond p (forgotten n i flow c k) k)) t
-        (cond p (ending_events (flow_at m b) (heading_at n m b) c ++ events_between (flow_at m b) (next_name k) (heading_at n m b) f content None)
-        (events_between (flow_at m b) (name_in flow c) (heading_at n m b) f content (side_in b c).track))
+        (cond p (ending_events (flow_at m b) (heading_at n m b) c ++ events_between (flow_at m b) (next_name k) (heading_at n m b) f content None None)
+        (events_between (flow_at m b) (name_in flow c) (heading_at n m b) f content (side_in b c).track (due_of b c)))
     by_anew true =
         two_steps m b k (forgotten n i flow c k) (after_at n i flow packet f content (forgotten n i flow c k)) t (ending_events (flow_at m b) (heading_at n m b) c)
-        (events_between (flow_at m b) (next_name k) (heading_at n m b) f content None)
+        (events_between (flow_at m b) (next_name k) (heading_at n m b) f content None None)
         (forget_step n m i b flow c k t numbered there on)
         (λ u on'. fresh_step plain n m i b flow packet f content (k.count + 1) (forgotten n i flow c k) u
         (numbered_renewed k.connections k.count i (new_connection (k.count + 1) flow) numbered refl)
         (get_same k.connections i c (new_connection (k.count + 1) flow) there) on')
     by_anew false = there_step
       where
-        there_step : Stepped m b k (after_at n i flow packet f content k) t (events_between (flow_at m b) (name_in flow c) (heading_at n m b) f content (side_in b c).track)
+        there_step : Stepped m b k (after_at n i flow packet f content k) t (events_between (flow_at m b) (name_in flow c) (heading_at n m b) f content (side_in b c).track (due_of b c))
         there_step =
-            subst (λ o. Stepped m b k (after_there n i flow packet f content o k) t (events_between (flow_at m b) (name_in flow c) (heading_at n m b) f content (side_in b c).track)) (sym there)
+            subst (λ o. Stepped m b k (after_there n i flow packet f content o k) t (events_between (flow_at m b) (name_in flow c) (heading_at n m b) f content (side_in b c).track (due_of b c))) (sym there)
             (at_step n m i b (is_behind_in flow c) packet f content c k t numbered there on)
 
 pub sequenced_step : IsPlain → (n : Origin) (m : ℕ) (b : Bool) (packet : PacketModel) (f : Header) (content : List ℕ) (k : Known) (t : Told) → IsNumbered k.connections k.count → IsOn m b k t

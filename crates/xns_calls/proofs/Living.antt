@@ -6,9 +6,10 @@ use Rattle.xns_spp.specs.declared.header.Header.{Header}
 use Rattle.xns_dump.specs.Flows.{flow_of}
 use Rattle.xns_dump.specs.declared.flows.flow.Flow.{Flow}
 use Rattle.xns_calls.specs.Naming.{Programs}
+use Rattle.xns_calls.specs.Acknowledged.{due_in, noted}
 use Rattle.xns_calls.specs.Anew.{begins_anew, begins_items}
 use Rattle.xns_calls.specs.Calls.{known_from, line_taken}
-use Rattle.xns_calls.specs.Capture.{Known, after_at, after_in, after_sequenced, after_there, forgotten, heading_at, is_behind_in, place_of, renewed, renewed_there, scene_in, with_closing, with_scene}
+use Rattle.xns_calls.specs.Capture.{Known, after_at, after_in, after_sequenced, after_there, forgotten, heading_at, is_behind_in, place_of, renewed, renewed_there, scene_in, with_scene}
 use Rattle.xns_calls.specs.Exchange.{Scene, after_packet}
 use Rattle.xns_calls.specs.Input.{Arrival, arrival}
 use Rattle.xns_calls.specs.Living.{AnswersNothing, IsNotAnswered, is_answered}
@@ -53,7 +54,7 @@ closing_replies q f c other = by_item (closes f.stream && brings_item q f c)
     by_item true = closed_replies f.stream (closing_in q c) other
     by_item false = refl
 
-answered_same : (q : Bool) (f : Header) (c : Connection) (s : Scene) → (f.stream ≡ 255 → ⊥) → is_answered (with_scene q s (with_closing q (closing_with q f c) c)) ≡ is_answered c
+answered_same : (q : Bool) (f : Header) (c : Connection) (s : Scene) → (f.stream ≡ 255 → ⊥) → is_answered (with_scene q s (noted q f c)) ≡ is_answered c
 answered_same true f c s other = ap (λ p. has_replied c.first_closing || p) (closing_replies true f c other)
 answered_same false f c s other = ap (λ p. p || has_replied c.second_closing) (closing_replies false f c other)
 
@@ -76,13 +77,13 @@ own_stays : (n : Origin) (i number : ℕ) (flow : Flow) (packet : PacketModel) (
 unfolding Stays renewed after_at
 own_stays n i number flow packet f content k other (c, there, is, quiet) =
     let q = is_behind_in flow c in
-    let s = after_packet (heading_at n c.number q) packet f content (scene_in q c k) in
-    let c' = with_scene q s (with_closing q (closing_with q f c) c) in
+    let s = after_packet (heading_at n c.number q) (due_in q c) packet f content (scene_in q c k) in
+    let c' = with_scene q s (noted q f c) in
     let same : renewed_there n i flow f (slice_get k.connections i) k ≡ k =
     ap (λ o. renewed_there n i flow f o k) there ∙ ap (λ p. cond p (forgotten n i flow c k) k) (never_anew f c quiet) in
     let takes : after_there n i flow packet f content (slice_get k.connections i) k ≡ after_in n i q packet f content c k = ap (λ o. after_there n i flow packet f content o k) there in
     subst (λ (x : Known). (d : Connection) × (slice_get (after_there n i flow packet f content (slice_get x.connections i) x).connections i ≡ Some d) × (d.number ≡ number) × (is_answered d ≡ false)) (sym same)
-    (c', ap (λ (x : Known). slice_get x.connections i) takes ∙ get_same k.connections i c c' there, scene_number q s (closing_with q f c) c ∙ is, answered_same q f c s other ∙ quiet)
+    (c', ap (λ (x : Known). slice_get x.connections i) takes ∙ get_same k.connections i c c' there, scene_number q s f c ∙ is, answered_same q f c s other ∙ quiet)
 
 other_stays : (n : Origin) (i number : ℕ) (packet : PacketModel) (f : Header) (content : List ℕ) (k : Known) → (place_of (flow_of packet f) k.connections ≡ Some i → ⊥) → Stays i number k
     → Stays i number (after_sequenced n packet f content k)

@@ -6,11 +6,11 @@ use Rattle.xns_spp.specs.Header.{is_system}
 use Rattle.xns_spp.specs.declared.header.Header.{Header}
 use Rattle.xns_dump.specs.Flows.{flow_of}
 use Rattle.xns_dump.specs.declared.flows.flow.Flow.{Flow}
+use Rattle.xns_calls.specs.Acknowledged.{noted}
 use Rattle.xns_calls.specs.Anew.{begins_anew}
-use Rattle.xns_calls.specs.Capture.{Known, after_at, after_place, after_sequenced, after_there, forgotten, is_behind_in, new_connection, place_of, renewed, renewed_there, with_closing, with_new, with_scene}
+use Rattle.xns_calls.specs.Capture.{Known, after_at, after_place, after_sequenced, after_there, forgotten, is_behind_in, new_connection, place_of, renewed, renewed_there, with_new, with_scene}
 use Rattle.xns_calls.specs.Exchange.{Scene}
 use Rattle.xns_calls.specs.Over.{side_in}
-use Rattle.xns_calls.specs.declared.closing.Closing.{Closing}
 use Rattle.xns_calls.specs.declared.connection.Connection.{Connection}
 use Rattle.xns_calls.specs.declared.origin.Origin.{Origin}
 use Rattle.xns_calls.specs.declared.track.Track.{Track}
@@ -137,15 +137,15 @@ AreNumbered : Known → Type 0
 AreNumbered k = IsNumbered k.connections k.count
 
 -- a flow that changes leaves the number
-pub scene_number : (b : Bool) (s : Scene) (closing : Closing) (c : Connection) → (with_scene b s (with_closing b closing c)).number ≡ c.number
-scene_number true s closing c = refl
-scene_number false s closing c = refl
+pub scene_number : (b : Bool) (s : Scene) (f : Header) (c : Connection) → (with_scene b s (noted b f c)).number ≡ c.number
+scene_number true s f c = refl
+scene_number false s f c = refl
 
 numbered_there : (n : Origin) (i : ℕ) (flow : Flow) (packet : PacketModel) (f : Header) (content : List ℕ) (o : Option Connection) (k : Known) → slice_get k.connections i ≡ o → AreNumbered k
     → AreNumbered (after_there n i flow packet f content o k)
 unfolding AreNumbered
 numbered_there n i flow packet f content None k there w = w
-numbered_there n i flow packet f content (Some c) k there w = numbered_set k.connections k.count i c _ w there (scene_number (is_behind_in flow c) _ _ c)
+numbered_there n i flow packet f content (Some c) k there w = numbered_set k.connections k.count i c _ w there (scene_number (is_behind_in flow c) _ f c)
 
 numbered_at : (n : Origin) (i : ℕ) (flow : Flow) (packet : PacketModel) (f : Header) (content : List ℕ) (k : Known) → AreNumbered k → AreNumbered (after_at n i flow packet f content k)
 unfolding after_at

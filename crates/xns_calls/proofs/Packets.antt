@@ -8,13 +8,15 @@ use Rattle.xns_spp.specs.Nearest.{field_round, half_round, nearest}
 use Rattle.xns_spp.specs.Numbers.{most_items}
 use Rattle.xns_spp.specs.declared.header.Header.{Header}
 use Rattle.xns_spp.specs.declared.item.Item.{Item}
+use Rattle.xns_calls.specs.declared.due.Due.{Due}
 use Rattle.xns_calls.specs.declared.heading.Heading.{Heading}
 use Rattle.xns_calls.specs.declared.track.Track.{Track}
 use Rattle.xns_calls.specs.Events.{acknowledged_event, after_events, brought_if, captured_event, own_events}
-use Rattle.xns_calls.specs.Exchange.{Scene, acknowledged, acknowledged_track, advance_other, advance_own, advance_track, advanced, after_acknowledge, after_data, after_new, after_number, after_packet, after_told, begin_track, begun, behind_last, ended, new_number, of_other, seen_from_other, take_in_track, take_number, told_of, unless_repeat, up_to}
+use Rattle.xns_calls.specs.Exchange.{Scene, advance_other, advance_own, advance_track, advanced, after_content, after_data, after_new, after_number, after_packet, after_told, begin_track, begun, behind_last, ended, new_number, of_other, other_reached, own_reached, reached, seen_from_other, take_in_track, take_number, told_of, unless_repeat, up_to}
 use Rattle.xns_calls.specs.Numbers.{near}
 use Rattle.xns_calls.specs.Queue.{last_number}
 use Rattle.xns_calls.proofs.Gaps.{item_event, lt_false}
+use Rattle.xns_calls.proofs.Parts.{after_append}
 
 -- a flow that is put back as it was
 pub put_back : (s : Scene) (track : Track) → s.own.track ≡ Some track → after_told (told_of track s) s ≡ s
@@ -57,18 +59,25 @@ unfolding after_data begun
 data_other h packet f content s =
     number_other h (new_number (begun h packet f s).own.track f.sequence) (item_with f content) (begun h packet f s) ∙ begin_other h packet f s.own.track s
 
-pub packet_other : (h : Heading) (packet : PacketModel) (f : Header) (content : List ℕ) (s : Scene) → (after_packet h packet f content s).other.track ≡ (after_acknowledge h f.acknowledge s).other.track
-unfolding after_packet
-packet_other h packet f content s = over (is_system f)
+content_other : (h : Heading) (packet : PacketModel) (f : Header) (content : List ℕ) (s : Scene) → (after_content h packet f content s).other.track ≡ s.other.track
+unfolding after_content
+content_other h packet f content s = over (is_system f)
   where
-    known : Scene
-    known = after_acknowledge h f.acknowledge s
-
-    over : (p : Bool) → (cond p known (after_data h packet f content known)).other.track ≡ known.other.track
+    over : (p : Bool) → (cond p s (after_data h packet f content s)).other.track ≡ s.other.track
     over true = refl
-    over false = data_other h packet f content known
+    over false = data_other h packet f content s
 
--- ---- what it acknowledges
+reached_other : (h : Heading) (number : Option ℕ) (s : Scene) → (own_reached h number s).other.track ≡ s.other.track
+unfolding own_reached
+reached_other h number s = own_other h (reached s.own.track number) s
+
+pub packet_other : (h : Heading) (due : Due) (packet : PacketModel) (f : Header) (content : List ℕ) (s : Scene) → (after_packet h due packet f content s).other.track ≡ (other_reached h due.other s).other.track
+unfolding after_packet
+packet_other h due packet f content s =
+    let known = other_reached h due.other s in
+    reached_other h due.own (after_content h packet f content known) ∙ content_other h packet f content known
+
+-- ---- what takes effect with it
 
 advance_event : (h : Heading) (o : Option ℕ) (s : Scene) (track : Track) → s.other.track ≡ Some track
     → advance_other h o s ≡ seen_from_other (after_told (brought_if (of_other h) o (told_of track (seen_from_other s))) (seen_from_other s))
@@ -76,20 +85,43 @@ unfolding advanced
 advance_event h None s track e = ap seen_from_other (sym (put_back (seen_from_other s) track e))
 advance_event h (Some n) s track e = ap (λ o. seen_from_other (advance_track (of_other h) n o (seen_from_other s))) e
 
-up_to_none : (l : Option ℕ) → up_to l None ≡ None
+pub up_to_none : (l : Option ℕ) → up_to l None ≡ None
 up_to_none None = refl
 up_to_none (Some last) = refl
 
-pub acknowledge_event : (h : Heading) (field : ℕ) (s : Scene) (track : Track) → s.other.track ≡ Some track
-    → after_acknowledge h field s
-    ≡ seen_from_other (after_told (after_events (acknowledged_event (of_other h) (near track.next field)) (told_of track (seen_from_other s))) (seen_from_other s))
-unfolding after_acknowledge
-acknowledge_event h field s track e = ap (λ o. advance_other h (acknowledged_track o field) s) e ∙ of_number (near track.next field)
+pub reached_event : (h : Heading) (number : Option ℕ) (s : Scene) (track : Track) → s.other.track ≡ Some track
+    → other_reached h number s
+    ≡ seen_from_other (after_told (after_events (acknowledged_event (of_other h) number) (told_of track (seen_from_other s))) (seen_from_other s))
+unfolding other_reached
+reached_event h number s track e = ap (λ o. advance_other h (reached o number) s) e ∙ of_number number
   where
     of_number : (o : Option ℕ) → advance_other h (up_to (last_number track.early) o) s
         ≡ seen_from_other (after_told (after_events (acknowledged_event (of_other h) o) (told_of track (seen_from_other s))) (seen_from_other s))
     of_number None = ap (λ o. advance_other h o s) (up_to_none (last_number track.early)) ∙ advance_event h None s track e
     of_number (Some n) = advance_event h (up_to (last_number track.early) (Some n)) s track e
+
+own_event : (h : Heading) (o : Option ℕ) (s : Scene) (track : Track) → s.own.track ≡ Some track → advance_own h o s ≡ after_told (brought_if h o (told_of track s)) s
+unfolding advanced
+own_event h None s track e = sym (put_back s track e)
+own_event h (Some n) s track e = ap (λ o. advance_track h n o s) e
+
+own_reached_event : (h : Heading) (number : Option ℕ) (s : Scene) (track : Track) → s.own.track ≡ Some track
+    → own_reached h number s ≡ after_told (after_events (acknowledged_event h number) (told_of track s)) s
+unfolding own_reached
+own_reached_event h number s track e = ap (λ o. advance_own h (reached o number) s) e ∙ of_number number
+  where
+    of_number : (o : Option ℕ) → advance_own h (up_to (last_number track.early) o) s ≡ after_told (after_events (acknowledged_event h o) (told_of track s)) s
+    of_number None = ap (λ o. advance_own h o s) (up_to_none (last_number track.early)) ∙ own_event h None s track e
+    of_number (Some n) = own_event h (up_to (last_number track.early) (Some n)) s track e
+
+-- where nothing does, the flow behind stays
+pub none_other : (h : Heading) (s : Scene) → other_reached h None s ≡ s
+unfolding other_reached
+none_other h s = by_track s.other.track
+  where
+    by_track : (o : Option Track) → advance_other h (reached o None) s ≡ s
+    by_track None = refl
+    by_track (Some track) = ap (λ o. advance_other h o s) (up_to_none (last_number track.early))
 
 -- ---- and its item
 
@@ -97,9 +129,9 @@ other_own : (h : Heading) (o : Option ℕ) (s : Scene) → (advance_other h o s)
 other_own h None s = refl
 other_own h (Some n) s = advanced_other (of_other h) n (seen_from_other s)
 
-pub acknowledge_own : (h : Heading) (field : ℕ) (s : Scene) → (after_acknowledge h field s).own.track ≡ s.own.track
-unfolding after_acknowledge
-acknowledge_own h field s = other_own h (acknowledged s.other field) s
+pub reached_own : (h : Heading) (number : Option ℕ) (s : Scene) → (other_reached h number s).own.track ≡ s.own.track
+unfolding other_reached
+reached_own h number s = other_own h (reached s.other.track number) s
 
 pub number_event : (h : Heading) (f : Header) (item : Item) (s : Scene) (track : Track) (o : Option ℕ) → s.own.track ≡ Some track → near track.next f.sequence ≡ o
     → take_number h f item s ≡ after_told (after_events (captured_event h o item) (told_of track s)) s
@@ -117,22 +149,29 @@ unfolding after_data
 data_event h packet f content s track e =
     ap (take_number h f (item_with f content)) (begun_same h packet f s track e) ∙ number_event h f (item_with f content) s track (near track.next f.sequence) e refl
 
-pub packet_events : (h : Heading) (packet : PacketModel) (f : Header) (content : List ℕ) (s : Scene) (track : Track) → s.own.track ≡ Some track
-    → after_packet h packet f content s
-    ≡ after_told (after_events (own_events h f content track (after_acknowledge h f.acknowledge s)) (told_of track s)) (after_acknowledge h f.acknowledge s)
-unfolding after_packet
-packet_events h packet f content s track e = over (is_system f)
+content_events : (h : Heading) (packet : PacketModel) (f : Header) (content : List ℕ) (s : Scene) (track : Track) → s.own.track ≡ Some track
+    → after_content h packet f content s
+    ≡ after_told (after_events (cond (is_system f) [] (captured_event h (near track.next f.sequence) (item_with f content))) (told_of track s)) s
+unfolding after_content
+content_events h packet f content s track e = over (is_system f)
   where
-    known : Scene
-    known = after_acknowledge h f.acknowledge s
+    over : (p : Bool) → cond p s (after_data h packet f content s)
+        ≡ after_told (after_events (cond p [] (captured_event h (near track.next f.sequence) (item_with f content))) (told_of track s)) s
+    over true = sym (put_back s track e)
+    over false = data_event h packet f content s track e
 
-    there : known.own.track ≡ Some track
-    there = acknowledge_own h f.acknowledge s ∙ e
-
-    over : (p : Bool) → cond p known (after_data h packet f content known)
-        ≡ after_told (after_events (cond p [] (captured_event h (near track.next f.sequence) (item_with f content))) (told_of track known)) known
-    over true = sym (put_back known track there)
-    over false = data_event h packet f content known track there
+pub packet_events : (h : Heading) (due : Due) (packet : PacketModel) (f : Header) (content : List ℕ) (s : Scene) (track : Track) → s.own.track ≡ Some track
+    → after_packet h due packet f content s
+    ≡ after_told (after_events (own_events h due.own f content track (other_reached h due.other s)) (told_of track s)) (other_reached h due.other s)
+unfolding after_packet
+packet_events h due packet f content s track e =
+    let known = other_reached h due.other s in
+    let items = cond (is_system f) [] (captured_event h (near track.next f.sequence) (item_with f content)) in
+    let acks = acknowledged_event h due.own in
+    let u = after_events items (told_of track known) in
+    ap (own_reached h due.own) (content_events h packet f content known track (reached_own h due.other s ∙ e))
+    ∙ own_reached_event h due.own (after_told u known) u.track refl
+    ∙ ap (λ t. after_told t known) (sym (after_append items acks (told_of track known)))
 
 -- ---- the numbers of items
 

@@ -3,19 +3,21 @@ use Rattle.std.proofs.Common.{◌≡◌, ◌∙◌, ap, sym, refl, subst, arith,
 use Rattle.std.specs.Prelude.{not}
 use Rattle.std.specs.List.{flat_map}
 use Rattle.std.proofs.lemmas.Bool.Decides.{nat_tests}
+use Rattle.std.proofs.lemmas.Grind.{flat_map-append}
 use Rattle.std.proofs.Math.Seq.{drop-append_seam}
 use Rattle.xns_idp.specs.Packet.{PacketModel}
 use Rattle.xns_spp.specs.declared.header.Header.{Header}
 use Rattle.xns_spp.specs.declared.item.Item.{Item}
 use Rattle.xns_calls.specs.Capture.{Known, heading_at, scene_in}
 use Rattle.xns_calls.specs.Events.{AreWithinReach, Event, IsAmong, acknowledged, acknowledged_event, after_event, after_events, captured, captured_event, captured_in, meanwhile}
-use Rattle.xns_calls.specs.Exchange.{Scene, after_acknowledge, after_packet, both_ended, ended, of_other, seen_from_other}
+use Rattle.xns_calls.specs.Exchange.{Scene, after_packet, both_ended, ended, of_other, other_reached, seen_from_other}
 use Rattle.xns_calls.specs.Input.{FlowName, Part, Said, is_same, parts_text, said_texts, text_in, told}
 use Rattle.xns_calls.specs.Reading.{Told}
 use Rattle.xns_calls.specs.Whole.{AreOf, IsWhole, flow_text, new_text}
 use Rattle.xns_calls.specs.declared.connection.Connection.{Connection}
+use Rattle.xns_calls.specs.declared.due.Due.{Due}
 use Rattle.xns_calls.specs.declared.heading.Heading.{Heading}
-use Rattle.xns_calls.proofs.Adding.{Adds, acknowledge_adds, ended_adds, packet_adds}
+use Rattle.xns_calls.proofs.Adding.{Adds, both_add, ended_adds, packet_adds, reached_adds}
 use Rattle.xns_calls.specs.declared.origin.Origin.{Origin}
 
 -- ---- texts
@@ -51,6 +53,22 @@ flow_append (e ∷ xs) ys t =
 pub after_append : (xs ys : List Event) (t : Told) → after_events (xs ++ ys) t ≡ after_events ys (after_events xs t)
 after_append [] ys t = refl
 after_append (e ∷ xs) ys t = after_append xs ys (after_event e t)
+
+-- so do an item, and what takes effect behind it
+pub both_new : (p : Bool) (h : Heading) (o : Option ℕ) (item : Item) (a : Option ℕ) (t : Told)
+    → flow_text (cond p [] (captured_event h o item) ++ acknowledged_event h a) t ≡ drop (length t.text) (after_events (cond p [] (captured_event h o item) ++ acknowledged_event h a) t).text
+both_new p h o item a t =
+    let items = cond p [] (captured_event h o item) in
+    let acks = acknowledged_event h a in
+    let u = after_events items t in
+    let v = after_events acks u in
+    let x = both_add p h o item a t in
+    flow_append items acks t
+    ∙ ap (λ z. z ++ flow_text acks u) (item_new p h o item t ∙ added h t.text u.text x.0)
+    ∙ ap (λ z. said_texts h x.0.said ++ z) (acknowledged_new h a u ∙ added h u.text v.text x.1)
+    ∙ sym (drop-append_seam t.text (said_texts h x.0.said ++ said_texts h x.1.said))
+    ∙ ap (drop (length t.text)) (sym (x.1.is ∙ ap (λ z. z ++ said_texts h x.1.said) x.0.is ∙ append_assoc t.text (said_texts h x.0.said) (said_texts h x.1.said)))
+    ∙ ap (λ (w : Told). drop (length t.text) w.text) (sym (after_append items acks t))
 
 -- ---- what others do meanwhile is nothing to whether a flow is whole
 
@@ -99,6 +117,13 @@ pub ack_plain : (h : Heading) (o : Option ℕ) → plain (acknowledged_event h o
 ack_plain h None = refl
 ack_plain h (Some n) = refl
 
+pub both_plain : (p : Bool) (h : Heading) (o : Option ℕ) (item : Item) (a : Option ℕ)
+    → plain (cond p [] (captured_event h o item) ++ acknowledged_event h a) ≡ cond p [] (captured_event h o item) ++ acknowledged_event h a
+both_plain p h o item a =
+    let items = cond p [] (captured_event h o item) in
+    flat_map-append plain_one items (acknowledged_event h a)
+    ∙ ap (λ z. z ++ plain (acknowledged_event h a)) (item_plain p h o item) ∙ ap (λ z. items ++ z) (ack_plain h a)
+
 pub acknowledged_plain : (h : Heading) (o : Option ℕ) (others : Event) → plain_one others ≡ [] → plain (acknowledged_event h o ++ others ∷ []) ≡ acknowledged_event h o
 acknowledged_plain h None others none = ap (λ z. z ++ []) none
 acknowledged_plain h (Some n) others none = ap (λ z. acknowledged h n ∷ (z ++ [])) none
@@ -145,45 +170,45 @@ pub scene_text : (b : Bool) (c : Connection) (k : Known) → (scene_in b c k).te
 scene_text true c k = refl
 scene_text false c k = refl
 
-pub acknowledged_said : Origin → ℕ → Bool → Header → Scene → List Said
-acknowledged_said n i q f s = (acknowledge_adds (heading_at n i q) f.acknowledge s).said
+pub reached_said : Origin → ℕ → Bool → Due → Scene → List Said
+reached_said n i q due s = (reached_adds (heading_at n i q) due.other s).said
 
-pub packet_said : Origin → ℕ → Bool → PacketModel → Header → List ℕ → Scene → List Said
-packet_said n i q packet f content s = (packet_adds (heading_at n i q) packet f content s).said
+pub packet_said : Origin → ℕ → Bool → Due → PacketModel → Header → List ℕ → Scene → List Said
+packet_said n i q due packet f content s = (packet_adds (heading_at n i q) due packet f content s).said
 
 -- what a packet of a flow says of the flow behind it, and of the flow
-abbrev pub packet_parts : Origin → ℕ → Bool → PacketModel → Header → List ℕ → Scene → List Part
-packet_parts n i q packet f content s = told n (flow_at i (not q)) (acknowledged_said n i q f s) ∷ told n (flow_at i q) (packet_said n i q packet f content s) ∷ []
+abbrev pub packet_parts : Origin → ℕ → Bool → Due → PacketModel → Header → List ℕ → Scene → List Part
+packet_parts n i q due packet f content s = told n (flow_at i (not q)) (reached_said n i q due s) ∷ told n (flow_at i q) (packet_said n i q due packet f content s) ∷ []
 
 pub two_texts : (a b c x y : List ℕ) → b ≡ a ++ x → c ≡ b ++ y → c ≡ a ++ (x ++ (y ++ []))
 two_texts a b c x y e f = f ∙ ap (λ z. z ++ y) e ∙ append_assoc a x y ∙ ap (λ z. a ++ (x ++ z)) (sym (append-nil y))
 
-pub packet_text : (n : Origin) (i : ℕ) (q : Bool) (packet : PacketModel) (f : Header) (content : List ℕ) (s : Scene)
-    → (after_packet (heading_at n i q) packet f content s).text ≡ s.text ++ parts_text (packet_parts n i q packet f content s)
-unfolding acknowledged_said packet_said
-packet_text n i q packet f content s =
+pub packet_text : (n : Origin) (i : ℕ) (q : Bool) (due : Due) (packet : PacketModel) (f : Header) (content : List ℕ) (s : Scene)
+    → (after_packet (heading_at n i q) due packet f content s).text ≡ s.text ++ parts_text (packet_parts n i q due packet f content s)
+unfolding reached_said packet_said
+packet_text n i q due packet f content s =
     let h = heading_at n i q in
-    let x = acknowledge_adds h f.acknowledge s in
-    let y = packet_adds h packet f content s in
-    two_texts s.text (after_acknowledge h f.acknowledge s).text (after_packet h packet f content s).text (said_texts (of_other h) x.said) (said_texts h y.said) x.is y.is
+    let x = reached_adds h due.other s in
+    let y = packet_adds h due packet f content s in
+    two_texts s.text (other_reached h due.other s).text (after_packet h due packet f content s).text (said_texts (of_other h) x.said) (said_texts h y.said) x.is y.is
 
-pub acknowledged_is : (n : Origin) (i : ℕ) (q : Bool) (f : Header) (s : Scene)
-    → (after_acknowledge (heading_at n i q) f.acknowledge s).text ≡ s.text ++ said_texts (of_other (heading_at n i q)) (acknowledged_said n i q f s)
-unfolding acknowledged_said
-acknowledged_is n i q f s = (acknowledge_adds (heading_at n i q) f.acknowledge s).is
+pub reached_is : (n : Origin) (i : ℕ) (q : Bool) (due : Due) (s : Scene)
+    → (other_reached (heading_at n i q) due.other s).text ≡ s.text ++ said_texts (of_other (heading_at n i q)) (reached_said n i q due s)
+unfolding reached_said
+reached_is n i q due s = (reached_adds (heading_at n i q) due.other s).is
 
-pub acknowledged_text : (n : Origin) (i : ℕ) (q : Bool) (f : Header) (s : Scene)
-    → drop (length s.text) (after_acknowledge (heading_at n i q) f.acknowledge s).text ≡ said_texts (of_other (heading_at n i q)) (acknowledged_said n i q f s)
-unfolding acknowledged_said
-acknowledged_text n i q f s =
-    let h = heading_at n i q in added (of_other h) s.text (after_acknowledge h f.acknowledge s).text (acknowledge_adds h f.acknowledge s)
+pub reached_text : (n : Origin) (i : ℕ) (q : Bool) (due : Due) (s : Scene)
+    → drop (length s.text) (other_reached (heading_at n i q) due.other s).text ≡ said_texts (of_other (heading_at n i q)) (reached_said n i q due s)
+unfolding reached_said
+reached_text n i q due s =
+    let h = heading_at n i q in added (of_other h) s.text (other_reached h due.other s).text (reached_adds h due.other s)
 
-pub said_text_of : (n : Origin) (i : ℕ) (q : Bool) (packet : PacketModel) (f : Header) (content : List ℕ) (s : Scene)
-    → drop (length (after_acknowledge (heading_at n i q) f.acknowledge s).text) (after_packet (heading_at n i q) packet f content s).text
-    ≡ said_texts (heading_at n i q) (packet_said n i q packet f content s)
+pub said_text_of : (n : Origin) (i : ℕ) (q : Bool) (due : Due) (packet : PacketModel) (f : Header) (content : List ℕ) (s : Scene)
+    → drop (length (other_reached (heading_at n i q) due.other s).text) (after_packet (heading_at n i q) due packet f content s).text
+    ≡ said_texts (heading_at n i q) (packet_said n i q due packet f content s)
 unfolding packet_said
-said_text_of n i q packet f content s =
-    let h = heading_at n i q in added h (after_acknowledge h f.acknowledge s).text (after_packet h packet f content s).text (packet_adds h packet f content s)
+said_text_of n i q due packet f content s =
+    let h = heading_at n i q in added h (other_reached h due.other s).text (after_packet h due packet f content s).text (packet_adds h due packet f content s)
 
 -- what the end of a connection says of its flows
 pub first_ended_said : Origin → ℕ → Scene → List Said

@@ -27,7 +27,7 @@ use Rattle.xns_calls.specs.Numbers.{most_early}
 use Rattle.xns_calls.specs.Calls.{after_body, after_bytes, after_digits, after_found, after_header, after_line, calls_text, end_count, has_refusal, has_refused, known_from, known_with_end, line_taken, nothing_known, text_from, text_with_end}
 use Rattle.xns_calls.specs.Anew.{begins_anew}
 use Rattle.xns_calls.specs.Capture.{Known, after_at, after_end, after_in, after_place, after_sequenced, after_there, ended_there, forgotten, heading_at, is_behind_in, place_of, renewed, renewed_there, scene_in, with_new}
-use Rattle.xns_calls.specs.Exchange.{Scene, acknowledged, advance_other, advance_own, behind_last, ended, advance_track, advanced, after_acknowledge, after_data, after_new, after_number, after_packet, begin_track, begun, both_ended, new_number, of_other, seen_from_other, take_in_track, told_of}
+use Rattle.xns_calls.specs.Exchange.{Scene, advance_other, advance_own, behind_last, ended, advance_track, advanced, after_content, after_data, after_new, after_number, after_packet, begin_track, begun, both_ended, new_number, of_other, other_reached, own_reached, reached, seen_from_other, take_in_track, told_of}
 use Rattle.xns_calls.specs.Reading.{Told, after_heard, brought, brought_over, is_due, item_read, passed, past, read_next, said_item, with_kept_item}
 use Rattle.xns_calls.specs.Speech.{heard_of}
 use Rattle.xns_calls.specs.Naming.{Programs, named_abort, named_call, named_return}
@@ -37,6 +37,8 @@ use Rattle.xns_calls.specs.declared.unanswered.Calls.{Calls}
 use Rattle.xns_calls.specs.declared.connection.Connection.{Connection}
 use Rattle.xns_calls.specs.declared.early.Early.{Early}
 use Rattle.xns_dump.specs.declared.flows.flow.Flow.{Flow}
+use Rattle.xns_calls.specs.Acknowledged.{due_in}
+use Rattle.xns_calls.specs.declared.due.Due.{Due}
 use Rattle.xns_calls.specs.declared.heading.Heading.{Heading}
 use Rattle.xns_calls.specs.declared.heard.Heard.{Heard}
 use Rattle.xns_calls.specs.declared.heard.Heard.TheVariants as heard
@@ -294,9 +296,17 @@ module _ (joined : JoinedTextsSayRefused) (only : OnlyRefusalsSayRefused) where
   other_says b h plain None s k = k
   other_says b h plain (Some n) s k = advanced_says b (of_other h) plain n (seen_from_other s) k
 
-  acknowledge_says : (b : Bool) (h : Heading) (plain : IsPlain h) (field : ℕ) (s : Scene) → SaysScene b s → SaysScene b (after_acknowledge h field s)
-  unfolding after_acknowledge
-  acknowledge_says b h plain field s k = other_says b h plain (acknowledged s.other field) s k
+  reached_says : (b : Bool) (h : Heading) (plain : IsPlain h) (number : Option ℕ) (s : Scene) → SaysScene b s → SaysScene b (other_reached h number s)
+  unfolding other_reached
+  reached_says b h plain number s k = other_says b h plain (reached s.other.track number) s k
+
+  own_says : (b : Bool) (h : Heading) (plain : IsPlain h) (o : Option ℕ) (s : Scene) → SaysScene b s → SaysScene b (advance_own h o s)
+  own_says b h plain None s k = k
+  own_says b h plain (Some n) s k = advanced_says b h plain n s k
+
+  own_reached_says : (b : Bool) (h : Heading) (plain : IsPlain h) (number : Option ℕ) (s : Scene) → SaysScene b s → SaysScene b (own_reached h number s)
+  unfolding own_reached
+  own_reached_says b h plain number s k = own_says b h plain (reached s.own.track number) s k
 
   begin_says : (b : Bool) (h : Heading) (p : PacketModel) (f : Header) (o : Option Track) (s : Scene) → SaysScene b s → SaysScene b (begin_track h p f o s)
   begin_says b h p f (Some track) s k = k
@@ -324,11 +334,16 @@ module _ (joined : JoinedTextsSayRefused) (only : OnlyRefusalsSayRefused) where
   data_says b h plain p f content s k =
       let u = begun h p f s in number_says b h plain (new_number u.own.track f.sequence) (item_with f content) u (begun_says b h p f s k)
 
-  packet_says : (b : Bool) (h : Heading) (plain : IsPlain h) (p : PacketModel) (f : Header) (content : List ℕ) (s : Scene) → SaysScene b s → SaysScene b (after_packet h p f content s)
+  content_says : (b : Bool) (h : Heading) (plain : IsPlain h) (p : PacketModel) (f : Header) (content : List ℕ) (s : Scene) → SaysScene b s → SaysScene b (after_content h p f content s)
+  unfolding after_content
+  content_says b h plain p f content s k = cases (SaysScene b) (is_system f) s (after_data h p f content s) k (data_says b h plain p f content s k)
+
+  packet_says : (b : Bool) (h : Heading) (plain : IsPlain h) (due : Due) (p : PacketModel) (f : Header) (content : List ℕ) (s : Scene) → SaysScene b s → SaysScene b (after_packet h due p f content s)
   unfolding after_packet
-  packet_says b h plain p f content s k =
-      let u = after_acknowledge h f.acknowledge s in
-      let ok = acknowledge_says b h plain f.acknowledge s k in cases (SaysScene b) (is_system f) u (after_data h p f content u) ok (data_says b h plain p f content u ok)
+  packet_says b h plain due p f content s k =
+      let u = other_reached h due.other s in
+      let v = after_content h p f content u in
+      own_reached_says b h plain due.own v (content_says b h plain p f content u (reached_says b h plain due.other s k))
 
   -- ---- a line
 
@@ -340,16 +355,12 @@ module _ (joined : JoinedTextsSayRefused) (only : OnlyRefusalsSayRefused) where
   there_says b n plain i flow p f content (Some c) k s = in_says (is_behind_in flow c)
     where
       in_says : (q : Bool) → SaysKnown b (after_in n i q p f content c k)
-      in_says true = packet_says b (heading_at n c.number true) plain p f content (scene_in true c k) s
-      in_says false = packet_says b (heading_at n c.number false) plain p f content (scene_in false c k) s
+      in_says true = packet_says b (heading_at n c.number true) plain (due_in true c) p f content (scene_in true c k) s
+      in_says false = packet_says b (heading_at n c.number false) plain (due_in false c) p f content (scene_in false c k) s
 
   at_says : (b : Bool) (n : Origin) (plain : n.programs ≡ None) (i : ℕ) (flow : Flow) (p : PacketModel) (f : Header) (content : List ℕ) (k : Known) → SaysKnown b k → SaysKnown b (after_at n i flow p f content k)
   unfolding after_at
   at_says b n plain i flow p f content k s = there_says b n plain i flow p f content (slice_get k.connections i) k s
-
-  own_says : (b : Bool) (h : Heading) (plain : IsPlain h) (o : Option ℕ) (s : Scene) → SaysScene b s → SaysScene b (advance_own h o s)
-  own_says b h plain None s k = k
-  own_says b h plain (Some n) s k = advanced_says b h plain n s k
 
   ended_says : (b : Bool) (h : Heading) (plain : IsPlain h) (s : Scene) → SaysScene b s → SaysScene b (ended h s)
   unfolding ended

@@ -8,8 +8,7 @@ use Rattle.xns_spp.specs.declared.header.Header.{Header}
 use Rattle.xns_dump.specs.Flows.{flow_of}
 use Rattle.xns_dump.specs.declared.flows.flow.Flow.{Flow}
 use Rattle.xns_calls.specs.Anew.{begins_anew}
-use Rattle.xns_calls.specs.Capture.{IsThereOrBegins, Known, after_at, after_new_flow, after_place, after_sequenced, begins_anew_in, forgotten, forgotten_in, is_behind_in, known, new_connection, place_of, renewed, renewed_there, scene_in, wants_at, wants_place, wants_sequenced, wants_there, with_new}
-use Rattle.xns_calls.specs.Exchange.{wants_memory}
+use Rattle.xns_calls.specs.Capture.{IsThereOrBegins, Known, after_at, after_new_flow, after_place, after_sequenced, begins_anew_in, forgotten, forgotten_in, is_behind_in, known, new_connection, place_of, renewed, renewed_there, wants_at, wants_in, wants_place, wants_sequenced, wants_there, with_new}
 use Rattle.xns_calls.specs.Over.{closes, is_over}
 use Rattle.xns_calls.specs.declared.connection.Connection.{Connection}
 use Rattle.xns_calls.specs.declared.origin.Origin.{Origin}
@@ -68,7 +67,7 @@ anew_wants at flow f k e = by_connection (slice_get k.connections at) e
   where
     by_connection : (o : Option Connection) → begins_anew_in f o ≡ true → wants_there flow f o k ≡ true
     by_connection None is = (cc)
-    by_connection (Some c) is = or_left (begins_anew f c) (wants_memory f (scene_in (is_behind_in flow c) c k)) is
+    by_connection (Some c) is = or_left (begins_anew f c) (wants_in (is_behind_in flow c) f c k) is
 
 -- nor does one that begins a connection
 and_false : (p : Bool) → (p && false) ≡ false
@@ -133,7 +132,7 @@ renewed_wants n at flow f k e = by_connection (slice_get k.connections at) refl 
       where
         by_anew : (p : Bool) → begins_anew f c ≡ p → wants_at at flow f (cond p (forgotten n at flow c k) k) ≡ true → wants_at at flow f k ≡ true
         by_anew true is e =
-            ap (λ o. wants_there flow f o k) there ∙ or_left (begins_anew f c) (wants_memory f (scene_in (is_behind_in flow c) c k)) is
+            ap (λ o. wants_there flow f o k) there ∙ or_left (begins_anew f c) (wants_in (is_behind_in flow c) f c k) is
         by_anew false is e = e
 
 pub wants_data : (packet : PacketModel) (f : Header) (cs cs' : List Connection) (count count' : ℕ) (page : Page) (flow : Flow) (at : ℕ) → flow ≡ flow_of packet f

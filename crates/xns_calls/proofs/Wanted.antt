@@ -1,20 +1,24 @@
 -- Where a packet wants memory.
-use Rattle.std.proofs.Common.{◌≡◌, ◌∙◌, ap, sym, refl, ℕ, Bool, true, false, Option, Some, None, Result, Ok, Err}
+use Rattle.std.proofs.Common.{◌≡◌, ◌∙◌, ap, sym, refl, ℕ, Bool, true, false, cond, List, Option, Some, None, Result, Ok, Err}
 use Rattle.std.specs.Option.{is_some}
 use Rattle.std.specs.Prelude.{OnErr, not, slice_get, ◌||◌, ◌&&◌}
 use Rattle.xns_idp.specs.Packet.{PacketModel}
 use Rattle.xns_lines.specs.declared.page.Page.{Page}
 use Rattle.xns_spp.specs.Header.{is_system}
+use Rattle.xns_spp.specs.Item.{item_with}
+use Rattle.xns_spp.specs.declared.item.Item.{Item}
 use Rattle.xns_spp.specs.declared.header.Header.{Header}
+use Rattle.xns_calls.specs.Acknowledged.{ahead_of, due_in}
 use Rattle.xns_calls.specs.Anew.{begins_anew}
-use Rattle.xns_calls.specs.Capture.{Known, is_behind_in, scene_in, wants_at, wants_end, wants_there}
-use Rattle.xns_calls.specs.Exchange.{Scene, acknowledged, after_acknowledge, begin_track, begun, behind_last, brings_new, ended, new_number, scene, wants_memory}
+use Rattle.xns_calls.specs.Capture.{Known, is_behind_in, scene_in, wants_at, wants_end, wants_in, wants_there}
+use Rattle.xns_calls.specs.Exchange.{Scene, after_content, after_data, after_number, begin_track, begun, behind_last, brings_new, brings_on, ended, new_number, other_reached, reached, scene, wants_memory}
 use Rattle.xns_calls.specs.declared.connection.Connection.{Connection}
 use Rattle.xns_dump.specs.declared.flows.flow.Flow.{Flow}
+use Rattle.xns_calls.specs.declared.due.Due.{Due}
 use Rattle.xns_calls.specs.declared.heading.Heading.{Heading}
 use Rattle.xns_calls.specs.declared.side.Side.{Side}
 use Rattle.xns_calls.specs.declared.track.Track.{Track}
-use Rattle.xns_calls.proofs.Packets.{acknowledge_own, ended_other}
+use Rattle.xns_calls.proofs.Packets.{ended_other, reached_own}
 
 -- a flow that has not begun does so
 pub none_brings : (own : Side) (field : ℕ) → own.track ≡ None → brings_new own.track field ≡ true
@@ -44,14 +48,22 @@ or_right true q e = refl
 or_right false q e = e
 
 -- the flow behind is brought to a number
-pub acknowledged_wants : (f : Header) (own other : Side) (page : Page) → is_some (acknowledged other f.acknowledge) ≡ true → wants_memory f (scene own other page) ≡ true
-acknowledged_wants f own other page e = or_left (is_some (acknowledged other f.acknowledge)) (not (is_system f) && brings_new own.track f.sequence) e
+pub other_wants : (due : Due) (f : Header) (own other : Side) (page : Page) → is_some (reached other.track due.other) ≡ true → wants_memory due f (scene own other page) ≡ true
+other_wants due f own other page e =
+    or_left (brings_on due (scene own other page)) (not (is_system f) && brings_new own.track f.sequence) (or_left (is_some (reached other.track due.other)) (is_some (reached own.track due.own)) e)
 
 -- so does one to the connection at a place
-pub at_wants : (i : ℕ) (flow : Flow) (f : Header) (connection : Connection) (k : Known) → slice_get k.connections i ≡ Some connection
-    → wants_memory f (scene_in (is_behind_in flow connection) connection k) ≡ true → wants_at i flow f k ≡ true
-at_wants i flow f connection k at e =
-    ap (λ o. wants_there flow f o k) at ∙ or_right (begins_anew f connection) (wants_memory f (scene_in (is_behind_in flow connection) connection k)) e
+pub in_wants : (i : ℕ) (flow : Flow) (f : Header) (connection : Connection) (k : Known) → slice_get k.connections i ≡ Some connection
+    → wants_in (is_behind_in flow connection) f connection k ≡ true → wants_at i flow f k ≡ true
+in_wants i flow f connection k at e =
+    ap (λ o. wants_there flow f o k) at ∙ or_right (begins_anew f connection) (wants_in (is_behind_in flow connection) f connection k) e
+
+-- what it acknowledges is kept
+pub ahead_wants : (b : Bool) (f : Header) (connection : Connection) (k : Known) → is_some (ahead_of b f connection) ≡ true → wants_in b f connection k ≡ true
+ahead_wants b f connection k e = or_left (is_some (ahead_of b f connection)) (wants_memory (due_in b connection) f (scene_in b connection k)) e
+
+pub memory_wants : (b : Bool) (f : Header) (connection : Connection) (k : Known) → wants_memory (due_in b connection) f (scene_in b connection k) ≡ true → wants_in b f connection k ≡ true
+memory_wants b f connection k e = or_right (is_some (ahead_of b f connection)) (wants_memory (due_in b connection) f (scene_in b connection k)) e
 
 -- so does the end of a connection of which a flow keeps items
 pub end_wants : (connection : Connection) (o : Option Connection) → o ≡ Some connection
@@ -69,12 +81,54 @@ second_wants h first second first' second' page page' e wants =
     or_right (is_some (behind_last first.track)) (is_some (behind_last second.track)) (ap (λ o. is_some (behind_last o)) (sym same) ∙ wants)
 
 -- what is new behind that was new before
-pub data_wants : (h : Heading) (f : Header) (own other own' other' : Side) (page page' : Page) → scene own' other' page' ≡ after_acknowledge h f.acknowledge (scene own other page) → is_system f ≡ false
-    → brings_new own'.track f.sequence ≡ true → wants_memory f (scene own other page) ≡ true
-data_wants h f own other own' other' page page' e brings new =
-    let same : own'.track ≡ own.track = ap (λ (x : Scene). x.own.track) e ∙ acknowledge_own h f.acknowledge (scene own other page) in
-    or_right (is_some (acknowledged other f.acknowledge)) (not (is_system f) && brings_new own.track f.sequence)
-    (ap (λ p. not p && brings_new own.track f.sequence) brings ∙ ap (λ o. brings_new o f.sequence) (sym same) ∙ new)
+pub content_wants : (h : Heading) (due : Due) (f : Header) (own other own' other' : Side) (page page' : Page) → scene own' other' page' ≡ other_reached h due.other (scene own other page)
+    → (not (is_system f) && brings_new own'.track f.sequence) ≡ true → wants_memory due f (scene own other page) ≡ true
+content_wants h due f own other own' other' page page' e new =
+    let same : own'.track ≡ own.track = ap (λ (x : Scene). x.own.track) e ∙ reached_own h due.other (scene own other page) in
+    or_right (brings_on due (scene own other page)) (not (is_system f) && brings_new own.track f.sequence) (ap (λ o. not (is_system f) && brings_new o f.sequence) (sym same) ∙ new)
+
+-- where nothing is new the flow stays as it was
+number_stays : (h : Heading) (o : Option ℕ) (item : Item) (s : Scene) → is_some o ≡ false → (after_number h o item s).own.track ≡ s.own.track
+number_stays h None item s e = refl
+number_stays h (Some n) item s e = (cc)
+
+data_stays : (h : Heading) (packet : PacketModel) (f : Header) (content : List ℕ) (s : Scene) → brings_new s.own.track f.sequence ≡ false → (after_data h packet f content s).own.track ≡ s.own.track
+unfolding after_data begun
+data_stays h packet f content s e = by_track s.own.track refl
+  where
+    item : Item
+    item = item_with f content
+
+    by_track : (o : Option Track) → s.own.track ≡ o
+        → (after_number h (new_number (begin_track h packet f s.own.track s).own.track f.sequence) item (begin_track h packet f s.own.track s)).own.track ≡ s.own.track
+    by_track None at = let wrong : true ≡ false = sym (ap (λ o. brings_new o f.sequence) at) ∙ e in (cc)
+    by_track (Some track) at =
+        let same : begin_track h packet f s.own.track s ≡ s = ap (λ o. begin_track h packet f o s) at in
+        let old : is_some (new_number s.own.track f.sequence) ≡ false = ap (λ o. is_some (new_number o f.sequence)) at ∙ sym (ap (λ o. brings_new o f.sequence) at) ∙ e in
+        ap (λ x. (after_number h (new_number x.own.track f.sequence) item x).own.track) same ∙ number_stays h (new_number s.own.track f.sequence) item s old
+
+content_stays : (h : Heading) (packet : PacketModel) (f : Header) (content : List ℕ) (s : Scene) → (not (is_system f) && brings_new s.own.track f.sequence) ≡ false
+    → (after_content h packet f content s).own.track ≡ s.own.track
+unfolding after_content
+content_stays h packet f content s = over (is_system f)
+  where
+    over : (p : Bool) → (not p && brings_new s.own.track f.sequence) ≡ false → (cond p s (after_data h packet f content s)).own.track ≡ s.own.track
+    over true e = refl
+    over false e = data_stays h packet f content s e
+
+-- the packet's own flow is brought to a number
+pub own_wants : (h : Heading) (due : Due) (packet : PacketModel) (f : Header) (content : List ℕ) (own other own' other' own'' other'' : Side) (page page' page'' : Page)
+    → scene own' other' page' ≡ other_reached h due.other (scene own other page) → scene own'' other'' page'' ≡ after_content h packet f content (scene own' other' page')
+    → is_some (reached own''.track due.own) ≡ true → wants_memory due f (scene own other page) ≡ true
+own_wants h due packet f content own other own' other' own'' other'' page page' page'' e e' wants = by_new (not (is_system f) && brings_new own'.track f.sequence) refl
+  where
+    by_new : (p : Bool) → (not (is_system f) && brings_new own'.track f.sequence) ≡ p → wants_memory due f (scene own other page) ≡ true
+    by_new true new = content_wants h due f own other own' other' page page' e new
+    by_new false old =
+        let first : own'.track ≡ own.track = ap (λ (x : Scene). x.own.track) e ∙ reached_own h due.other (scene own other page) in
+        let second : own''.track ≡ own'.track = ap (λ (x : Scene). x.own.track) e' ∙ content_stays h packet f content (scene own' other' page') old in
+        or_left (brings_on due (scene own other page)) (not (is_system f) && brings_new own.track f.sequence)
+        (or_right (is_some (reached other.track due.other)) (is_some (reached own.track due.own)) (ap (λ o. is_some (reached o due.own)) (sym (second ∙ first)) ∙ wants))
 
 pub on_err : {T E : Type 0} (r : Result T E) (A : Type 0) → A → OnErr r A
 on_err (Ok x) A a = tt

@@ -1,5 +1,5 @@
 -- What happens to one flow, with numbers in the place of fields.
-use Rattle.std.specs.Prelude.{◌≡◌, ℕ, ◌+◌, ◌≤◌, ◌<◌, ◌==◌, ◌⊎◌, Bool, if◌then◌else◌, List, [], ◌∷◌, Option, Some, None}
+use Rattle.std.specs.Prelude.{◌≡◌, ℕ, ◌+◌, ◌≤◌, ◌<◌, ◌==◌, ◌⊎◌, Bool, if◌then◌else◌, List, [], ◌∷◌, ◌++◌, Option, Some, None}
 use Rattle.xns_spp.specs.Header.{is_system}
 use Rattle.xns_spp.specs.Item.{item_with}
 use Rattle.xns_spp.specs.declared.header.Header.{Header}
@@ -13,9 +13,8 @@ use Rattle.xns_calls.specs.declared.heading.Heading.{Heading}
 use Rattle.xns_calls.specs.declared.track.Track.{Track}
 use Rattle.xns_calls.specs.declared.unanswered.Calls.{Calls}
 
--- an item of the flow is captured, or a packet that acknowledges all its items below a number; or what other packets and lines do
--- meanwhile,
--- by which the calls without an answer, the text of the line, and whether something was refused, are others
+-- an item of the flow is captured, or takes effect what acknowledges all its items below a number; or what other packets and lines do
+-- meanwhile, by which the calls without an answer, the text of the line, and whether something was refused, are others
 pub data Event : Type 0 where
   captured : Heading → ℕ → Item → Event
   acknowledged : Heading → ℕ → Event
@@ -44,16 +43,16 @@ abbrev pub captured_event : Heading → Option ℕ → Item → List Event
 captured_event heading None item = []
 captured_event heading (Some number) item = captured heading number item ∷ []
 
--- those of a packet of the flow, once the flow behind is brought to what it acknowledges
-abbrev pub own_events : Heading → Header → List ℕ → Track → Scene → List Event
-own_events heading f content track s =
-    meanwhile (record { own = s.own.call; asked = s.other.call }) s.text s.is_refused
-    ∷ (if is_system f then [] else captured_event heading (near track.next f.sequence) (item_with f content))
-
--- those of a packet of the flow behind
+-- what is acknowledged takes effect
 abbrev pub acknowledged_event : Heading → Option ℕ → List Event
 acknowledged_event heading None = []
 acknowledged_event heading (Some number) = acknowledged heading number ∷ []
+
+-- those of a packet of the flow, once the flow behind is brought to what takes effect of it
+abbrev pub own_events : Heading → Option ℕ → Header → List ℕ → Track → Scene → List Event
+own_events heading due f content track s =
+    meanwhile (record { own = s.own.call; asked = s.other.call }) s.text s.is_refused
+    ∷ (if is_system f then [] else captured_event heading (near track.next f.sequence) (item_with f content)) ++ acknowledged_event heading due
 
 -- ---- the same where nothing is missing: the items that are kept are read while they come next
 
@@ -93,14 +92,13 @@ captured_in [] before = before
 captured_in (e ∷ more) before = captured_in more (with_captured e before)
 
 -- the items from `first` on which were sent so long before the event that they have to be captured by then: they lie 64 or more before an
--- item,
--- or they are acknowledged
+-- item, or what acknowledges them takes effect
 abbrev pub IsLate : Event → ℕ → Type 0
 IsLate (captured heading number item) n = n + most_early < number
 IsLate (acknowledged heading number) n = n < number
 IsLate (meanwhile calls text is_refused) n = ⊥
 
--- each item from `first` on is captured within 63 numbers of its place, and before it is acknowledged
+-- each item from `first` on is captured within 63 numbers of its place, and before what acknowledges it takes effect
 abbrev pub AreWithinReach : ℕ → List ℕ → List Event → Type 0
 AreWithinReach first before [] = Unit {0}
 AreWithinReach first before (e ∷ more) = ((n : ℕ) → first ≤ n → IsLate e n → IsAmong n before)

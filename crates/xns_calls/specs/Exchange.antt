@@ -11,6 +11,7 @@ use Rattle.xns_spp.specs.Header.{is_system}
 use Rattle.xns_spp.specs.Item.{item_with}
 use Rattle.courier_messages.specs.Conversation.{opening}
 use Rattle.xns_lines.specs.declared.page.Page.{Page}
+use Rattle.xns_calls.specs.declared.due.Due.{Due}
 use Rattle.xns_calls.specs.declared.heading.Heading.{Heading}
 use Rattle.xns_calls.specs.declared.side.Side.{Side}
 use Rattle.xns_calls.specs.declared.speech.Speech.TheVariants.{Hearing, Waiting}
@@ -68,13 +69,18 @@ up_to (Some last) (Some number) = Some (min number (last + 1))
 up_to None number = None
 up_to (Some last) None = None
 
--- the number to which a flow is brought by what a field acknowledges: what lies behind the last item that is kept may still come
-abbrev pub acknowledged_track : Option Track → ℕ → Option ℕ
-acknowledged_track None field = None
-acknowledged_track (Some track) field = up_to (last_number track.early) (near track.next field)
+-- the number to which a flow is brought where this one takes effect: what lies behind the last item that is kept may still come
+abbrev pub reached : Option Track → Option ℕ → Option ℕ
+reached None number = None
+reached (Some track) number = up_to (last_number track.early) number
 
-abbrev pub acknowledged : Side → ℕ → Option ℕ
-acknowledged side field = acknowledged_track side.track field
+abbrev pub advance_own : Heading → Option ℕ → Scene → Scene
+advance_own heading None s = s
+advance_own heading (Some number) s = advanced heading number s
+
+-- the flow is brought to what takes effect of it
+unfoldable pub own_reached : Heading → Option ℕ → Scene → Scene
+own_reached heading number s = advance_own heading (reached s.own.track number) s
 
 -- the same for the other flow of the connection
 abbrev pub of_other : Heading → Heading
@@ -84,9 +90,9 @@ abbrev pub advance_other : Heading → Option ℕ → Scene → Scene
 advance_other heading None s = s
 advance_other heading (Some number) s = seen_from_other (advanced (of_other heading) number (seen_from_other s))
 
--- the flow behind is brought to what the field acknowledges of it
-unfoldable pub after_acknowledge : Heading → ℕ → Scene → Scene
-after_acknowledge heading field s = advance_other heading (acknowledged s.other field) s
+-- the flow behind is brought to what takes effect of it
+unfoldable pub other_reached : Heading → Option ℕ → Scene → Scene
+other_reached heading number s = advance_other heading (reached s.other.track number) s
 
 -- a flow whose first field a window that begins with number 0 can hold begins with that number and its version range, and another one in
 -- the middle
@@ -139,20 +145,28 @@ take_number heading f item s = after_number heading (new_number s.own.track f.se
 unfoldable pub after_data : Heading → PacketModel → Header → List ℕ → Scene → Scene
 after_data heading packet f content s = take_number heading f (item_with f content) (begun heading packet f s)
 
--- what a packet does: first what it acknowledges of the flow behind, and then its item, if it brings one
-unfoldable pub after_packet : Heading → PacketModel → Header → List ℕ → Scene → Scene
-after_packet heading packet f content s =
-    let known = after_acknowledge heading f.acknowledge s in
-    if is_system f then known else after_data heading packet f content known
+-- a system packet brings no item
+unfoldable pub after_content : Heading → PacketModel → Header → List ℕ → Scene → Scene
+after_content heading packet f content s = if is_system f then s else after_data heading packet f content s
+
+-- what a packet does: first what takes effect of the flow behind, then its item, if it brings one, and then what takes effect of its own
+-- flow
+unfoldable pub after_packet : Heading → Due → PacketModel → Header → List ℕ → Scene → Scene
+after_packet heading due packet f content s =
+    own_reached heading due.own (after_content heading packet f content (other_reached heading due.other s))
 
 -- a data packet begins its flow, or its item is no repeat
 abbrev pub brings_new : Option Track → ℕ → Bool
 brings_new None field = true
 brings_new (Some track) field = is_some (new_number (Some track) field)
 
--- memory is wanted only where a packet brings the flow behind to a number, or is a data packet that brings something new
-abbrev pub wants_memory : Header → Scene → Bool
-wants_memory f s = is_some (acknowledged s.other f.acknowledge) || (not (is_system f) && brings_new s.own.track f.sequence)
+-- what takes effect brings a flow to a number
+abbrev pub brings_on : Due → Scene → Bool
+brings_on due s = is_some (reached s.other.track due.other) || is_some (reached s.own.track due.own)
+
+-- memory is wanted only where what takes effect brings a flow to a number, or where a data packet brings something new
+abbrev pub wants_memory : Due → Header → Scene → Bool
+wants_memory due f s = brings_on due s || (not (is_system f) && brings_new s.own.track f.sequence)
 
 -- ---- the end of the input
 
@@ -160,10 +174,6 @@ wants_memory f s = is_some (acknowledged s.other f.acknowledge) || (not (is_syst
 abbrev pub behind_last : Option Track → Option ℕ
 behind_last None = None
 behind_last (Some track) = option_map (λ number. number + 1) (last_number track.early)
-
-abbrev pub advance_own : Heading → Option ℕ → Scene → Scene
-advance_own heading None s = s
-advance_own heading (Some number) s = advanced heading number s
 
 -- the flow is brought behind the last item that it keeps, as by an acknowledgement of all of them
 unfoldable pub ended : Heading → Scene → Scene

@@ -19,6 +19,7 @@ use Rattle.xns_dump.specs.Flows.{flow_of}
 use Rattle.xns_dump.specs.Layers.Packets.{idp_refusal}
 use Rattle.xns_dump.specs.Layers.Sequenced.{header_refusal}
 use Rattle.xns_calls.specs.Calls.{line_taken, nothing_known}
+use Rattle.xns_calls.specs.Acknowledged.{due_of}
 use Rattle.xns_calls.specs.Anew.{begins_anew}
 use Rattle.xns_calls.specs.Capture.{Known, heading_at, is_behind_in, place_of}
 use Rattle.xns_calls.specs.Events.{Event, acknowledged_event, captured_event}
@@ -98,15 +99,10 @@ abbrev pub item_events : Heading → Header → List ℕ → Option Track → Li
 item_events h f content track =
     if is_system f then [] else captured_event h (near (next_in f.sequence track) f.sequence) (item_with f content)
 
--- a packet of the flow behind acknowledges items, once it has begun
-abbrev pub acknowledge_events : Heading → Header → Option Track → List Event
-acknowledge_events h f None = []
-acknowledge_events h f (Some track) = acknowledged_event h (near track.next f.acknowledge)
-
--- what a packet of flow q is to flow p, of which this is kept
-abbrev pub events_between : FlowName → FlowName → Heading → Header → List ℕ → Option Track → List Event
-events_between p q h f content track =
-    if p.connection == q.connection then (if is_same p.is_behind q.is_behind then item_events h f content track else acknowledge_events h f track)
+-- what a packet of flow q is to flow p, of which this is kept: its item, and what takes effect with it
+abbrev pub events_between : FlowName → FlowName → Heading → Header → List ℕ → Option Track → Option ℕ → List Event
+events_between p q h f content track due =
+    if p.connection == q.connection then (if is_same p.is_behind q.is_behind then item_events h f content track else []) ++ acknowledged_event h due
     else []
 
 -- where a connection begins anew, its flows are brought behind the last item that they keep, as by an acknowledgement of all of them
@@ -115,10 +111,10 @@ ending_events p h connection =
     if p.connection == connection.number then acknowledged_event h (behind_last (side_in p.is_behind connection).track) else []
 
 abbrev pub events_there : FlowName → Heading → Arrival → Option Connection → Known → List Event
-events_there p h a None k = events_between p (next_name k) h a.1 a.2 None
+events_there p h a None k = events_between p (next_name k) h a.1 a.2 None None
 events_there p h a (Some connection) k =
-    if begins_anew a.1 connection then ending_events p h connection ++ events_between p (next_name k) h a.1 a.2 None
-    else events_between p (name_in (flow_of a.0 a.1) connection) h a.1 a.2 (side_in p.is_behind connection).track
+    if begins_anew a.1 connection then ending_events p h connection ++ events_between p (next_name k) h a.1 a.2 None None
+    else events_between p (name_in (flow_of a.0 a.1) connection) h a.1 a.2 (side_in p.is_behind connection).track (due_of p.is_behind connection)
 
 abbrev pub events_at : FlowName → Origin → Option Arrival → Known → List Event
 events_at p n None k = []

@@ -1,5 +1,5 @@
 -- What the laws say: of what is heard, and of items that had not come.
-use Rattle.std.specs.Prelude.{◌≡◌, ◌≢◌, ℕ, ◌+◌, ◌%◌, ◌≤◌, ◌<◌, ◌⊎◌, List, [], ◌++◌, ◌||◌, false, length, map, option_map, slice_get, IfOk, codes, None, Some}
+use Rattle.std.specs.Prelude.{◌≡◌, ◌≢◌, ℕ, ◌+◌, ◌%◌, ◌≤◌, ◌<◌, ◌⊎◌, List, Option, [], ◌++◌, ◌||◌, false, length, map, option_map, slice_get, IfOk, codes, None, Some}
 use Rattle.std.specs.Ordering.{is_eq}
 use Rattle.xns_idp.specs.Packet.{PacketModel}
 use Rattle.xns_spp.specs.Ends.{most_pending}
@@ -14,12 +14,13 @@ use Rattle.xns_dump.specs.Dump.Line.{has_word}
 use Rattle.xns_dump.specs.Flows.{flow_of, is_flow}
 use Rattle.xns_dump.specs.declared.flows.flow.Flow.{Flow}
 use Rattle.xns_lines.specs.Lines.{lines_of}
+use Rattle.xns_calls.specs.Acknowledged.{ago, effective, kept_behind, most_waited, nearer}
 use Rattle.xns_calls.specs.Calls.{calls_text, has_refusal, known_from, known_of}
 use Rattle.xns_calls.specs.Capture.{Known, after_sequenced, flow_behind, place_of}
 use Rattle.xns_calls.specs.Events.{AreWithinReach, Event, IsAmong, acknowledged_event, after_event, after_events, after_whole_event}
 use Rattle.xns_calls.specs.Events.{after_whole_events, captured, captured_in, own_events, with_captured}
 use Rattle.xns_calls.specs.Files.{calls_capture_text, has_file_refusal}
-use Rattle.xns_calls.specs.Exchange.{Scene, after_acknowledge, after_packet, after_told, first_track, of_other, seen_from_other}
+use Rattle.xns_calls.specs.Exchange.{Scene, after_packet, after_told, first_track, of_other, other_reached, seen_from_other}
 use Rattle.xns_calls.specs.Exchange.{take_number, told_of}
 use Rattle.xns_calls.specs.Input.{FlowName, TellsConversation, events_in, first_field}
 use Rattle.xns_calls.specs.Keys.{IsFlow, connection_key, key_cmp}
@@ -30,6 +31,7 @@ use Rattle.xns_calls.specs.Numbers.{near}
 use Rattle.xns_calls.specs.Reading.{Told}
 use Rattle.xns_calls.specs.Whole.{IsWhole, SaysConversation, flow_text, of_courier}
 use Rattle.xns_calls.specs.declared.connection.Connection.{Connection}
+use Rattle.xns_calls.specs.declared.due.Due.{Due}
 use Rattle.xns_calls.specs.declared.heading.Heading.{Heading}
 use Rattle.xns_calls.specs.declared.origin.Origin.{Origin}
 use Rattle.xns_calls.specs.declared.speech.Speech.{Speech}
@@ -63,26 +65,32 @@ AnItemIsAnEvent = (h : Heading) (f : Header) (item : Item) (s : Scene) (track : 
     → near track.next f.sequence ≡ Some number
     → take_number h f item s ≡ after_told (after_event (captured h number item) (told_of track s)) s
 
--- what a packet does to a flow are its events: one of the flow itself, and one of the flow behind, of which nothing else changes the flow
+-- what a packet does to a flow are its events: of the flow itself, and of the flow behind, of which nothing else changes the flow. Where
+-- nothing takes effect of the flow behind, nothing is said of it
 pub record PacketsAreEvents : Type 0 where
-  pub own : (h : Heading) (packet : PacketModel) (f : Header) (content : List ℕ) (s : Scene) (track : Track) → s.own.track ≡ Some track
-      → after_packet h packet f content s
-      ≡ after_told (after_events (own_events h f content track (after_acknowledge h f.acknowledge s)) (told_of track s))
-      (after_acknowledge h f.acknowledge s)
-  pub behind : (h : Heading) (field : ℕ) (s : Scene) (track : Track) → s.other.track ≡ Some track
-      → after_acknowledge h field s
-      ≡ seen_from_other (after_told (after_events (acknowledged_event (of_other h) (near track.next field))
-      (told_of track (seen_from_other s))) (seen_from_other s))
-  pub only : (h : Heading) (packet : PacketModel) (f : Header) (content : List ℕ) (s : Scene)
-      → (after_packet h packet f content s).other.track ≡ (after_acknowledge h f.acknowledge s).other.track
+  pub own : (h : Heading) (due : Due) (packet : PacketModel) (f : Header) (content : List ℕ) (s : Scene) (track : Track) → s.own.track ≡ Some track
+      → after_packet h due packet f content s
+      ≡ after_told (after_events (own_events h due.own f content track (other_reached h due.other s)) (told_of track s))
+      (other_reached h due.other s)
+  pub behind : (h : Heading) (number : Option ℕ) (s : Scene) (track : Track) → s.other.track ≡ Some track
+      → other_reached h number s
+      ≡ seen_from_other (after_told (after_events (acknowledged_event (of_other h) number) (told_of track (seen_from_other s))) (seen_from_other s))
+  pub only : (h : Heading) (due : Due) (packet : PacketModel) (f : Header) (content : List ℕ) (s : Scene)
+      → (after_packet h due packet f content s).other.track ≡ (other_reached h due.other s).other.track
+  pub quiet : (h : Heading) (s : Scene) → other_reached h None s ≡ s
+
+-- what takes effect with a packet is what the packet of its connection 64 before it acknowledged ahead, and no more numbers are kept
+pub record AcknowledgementsWait : Type 0 where
+  pub effect : (packets : List (Option ℕ)) → effective (nearer (kept_behind packets [])) ≡ ago packets
+  pub few : (packets : List (Option ℕ)) → length (kept_behind packets []) ≤ most_waited
 
 -- the field of an item within half a round of the next one is read as the item's number
 abbrev pub NumbersAreReadBack : Type 0
 NumbersAreReadBack = (next number : ℕ) → next ≤ most_items → next ≤ number + half_round → number < next + half_round
     → near next (number % field_round) ≡ Some number
 
--- where each item of a flow is captured within 63 numbers of its place, and before it is acknowledged, none is missing: what is said is
--- what is said without the line of missing items
+-- where each item of a flow is captured within 63 numbers of its place, and before what acknowledges it takes effect, none is missing:
+-- what is said is what is said without the line of missing items
 abbrev pub NothingIsMissing : Type 0
 NothingIsMissing = (events : List Event) (t : Told) → t.track.early ≡ [] → AreWithinReach t.track.next [] events
     → after_events events t ≡ after_whole_events events t
@@ -104,9 +112,8 @@ pub record MissingItemsAreBeforeCapturedOnes : Type 0 where
       → ((n : ℕ) → IsAmong n (with_captured e (captured_in events [])) → n ≤ (after_events events t).track.next)
       → after_event e (after_events events t) ≡ after_whole_event e (after_events events t)
 
--- of a flow that begins with item 0, of which each item is captured, in whatever order within 63 numbers and before it is acknowledged,
--- the lines of the
--- messages of its conversation are printed, and nothing else up to the first fault
+-- of a flow that begins with item 0, of which each item is captured, in whatever order within 63 numbers and before what acknowledges it
+-- takes effect, the lines of the messages of its conversation are printed, and nothing else up to the first fault
 abbrev pub WholeFlowsSayTheirConversation : Type 0
 WholeFlowsSayTheirConversation = (items : List Item) (events : List Event) (field : ℕ) (t : Told) → field < most_pending
     → t.track ≡ first_track field → IsWhole items events

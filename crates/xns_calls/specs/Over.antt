@@ -45,6 +45,10 @@ closing_in false connection = connection.first_closing
 abbrev pub brings_item : Bool → Header → Connection → Bool
 brings_item is_behind f connection = not (is_system f) && brings_new (side_in is_behind connection).track f.sequence
 
+abbrev pub with_closing : Bool → Closing → Connection → Connection
+with_closing true closing connection = record connection { second_closing = closing }
+with_closing false closing connection = record connection { first_closing = closing }
+
 -- with what the flow has closed the connection, once this packet of it was captured
 abbrev pub closing_with : Bool → Header → Connection → Closing
 closing_with is_behind f connection =

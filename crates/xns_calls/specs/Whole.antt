@@ -20,8 +20,8 @@ abbrev pub AreOf : List Item → List Event → Type 0
 AreOf items [] = Unit {0}
 AreOf items (e ∷ more) = IsOf items e × AreOf items more
 
--- each item of the flow is captured, in whatever order within 63 numbers of its place, and before it is acknowledged; repeats may come at
--- any time
+-- each item of the flow is captured, in whatever order within 63 numbers of its place, and before what acknowledges it takes effect;
+-- repeats may come at any time
 pub record IsWhole (items : List Item) (events : List Event) : Type 0 where
   pub of : AreOf items events
   pub all : (number : ℕ) → number < length items → IsAmong number (captured_in events [])

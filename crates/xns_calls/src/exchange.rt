@@ -1,14 +1,16 @@
 //! What a packet does to the flows of its connection.
 ghost use Rattle.std.specs.Option.{is_some};
-ghost use Rattle.std.specs.Prelude.{◌≡◌, ◌<◌, IfOk, IfSome, None, OnErr, OnOk, Some, true};
+ghost use Rattle.std.specs.Prelude.{◌≡◌, ◌<◌, ◌&&◌, not, IfSome, None, OnErr, OnOk, Some, true};
 ghost use Rattle.xns_idp.specs.Packet.{packet_model};
+ghost use Rattle.xns_spp.specs.Header.{is_system};
 ghost use Rattle.xns_spp.specs.Item.{item_with};
-ghost use Rattle.xns_calls.specs.Exchange.{acknowledged as acknowledged_of, advanced, after_acknowledge, after_data, after_new};
-ghost use Rattle.xns_calls.specs.Exchange.{after_packet, behind_last as behind_last_of, begun as begun_of, brings_new, ended, first_track};
-ghost use Rattle.xns_calls.specs.Exchange.{new_number as new_number_of, scene, wants_memory};
+ghost use Rattle.xns_calls.specs.Exchange.{advanced, after_content, after_data, after_new, after_packet, behind_last as behind_last_of};
+ghost use Rattle.xns_calls.specs.Exchange.{begun as begun_of, brings_new, ended, first_track, new_number as new_number_of, other_reached};
+ghost use Rattle.xns_calls.specs.Exchange.{own_reached, reached as reached_of, scene, wants_memory};
 ghost use Rattle.xns_calls.specs.Numbers.{most_numbers};
 
 use crate::bringing::{bring, read_or_keep};
+use crate::due::Due;
 use crate::early_items::EarlyItems;
 use crate::heading::Heading;
 use crate::near::near;
@@ -51,13 +53,13 @@ fn advance(
     Ok(())
 }
 
-/// The number to which the flow is brought by what a field acknowledges of it, where it keeps items that came early.
-fn acknowledged(side: &Side, field: u16) -> Option<u64>
-    ensures value { result ≡ acknowledged_of side.now field }
+/// The number to which the flow is brought where this one takes effect. It is none where the flow keeps no items.
+fn reached(side: &Side, number: Option<u64>) -> Option<u64>
+    ensures { result ≡ reached_of side.now.track number }
 {
+    let number = number?;
     let track = side.track.as_ref()?;
     let last = track.early.last_number()?;
-    let number = near(track.next, field)?;
     Some(number.min(last + 1))
 }
 
@@ -155,24 +157,44 @@ fn take_new(
     Ok(())
 }
 
-/// Takes what a packet acknowledges of the flow behind its own. Memory is refused only where that flow keeps items.
-#[tactic(auto, unfolding(crate::specs::Exchange::after_acknowledge))]
-fn take_acknowledge(
+/// Brings the flow behind to what takes effect of it. Memory is refused only where that flow keeps items.
+#[tactic(auto, unfolding(crate::specs::Exchange::other_reached))]
+fn reach_other(
     scratch: &mut Scratch,
     page: &mut Page,
     heading: Heading<'_>,
     own: &mut Side,
     other: &mut Side,
-    field: u16,
+    number: Option<u64>,
 ) -> Result<(), AllocError>
     ensures front { page.new.text.front ≡ page.old.text.front }
-    ensures memory { OnErr result (is_some (acknowledged_of other.old field) ≡ true) }
-    ensures scene { OnOk result (scene own.new other.new page.new ≡ after_acknowledge heading.entry field (scene own.old other.old page.old)) }
+    ensures memory { OnErr result (is_some (reached_of other.old.track number) ≡ true) }
+    ensures scene { OnOk result (scene own.new other.new page.new ≡ other_reached heading.entry number (scene own.old other.old page.old)) }
 {
-    let Some(number) = acknowledged(other, field) else {
+    let Some(number) = reached(other, number) else {
         return Ok(());
     };
     advance(scratch, page, heading.of_other(), other, own, number)
+}
+
+/// Brings the packet's own flow to what takes effect of it. Memory is refused only where that flow keeps items.
+#[tactic(auto, unfolding(crate::specs::Exchange::own_reached))]
+fn reach_own(
+    scratch: &mut Scratch,
+    page: &mut Page,
+    heading: Heading<'_>,
+    own: &mut Side,
+    other: &mut Side,
+    number: Option<u64>,
+) -> Result<(), AllocError>
+    ensures front { page.new.text.front ≡ page.old.text.front }
+    ensures memory { OnErr result (is_some (reached_of own.old.track number) ≡ true) }
+    ensures scene { OnOk result (scene own.new other.new page.new ≡ own_reached heading.entry number (scene own.old other.old page.old)) }
+{
+    let Some(number) = reached(own, number) else {
+        return Ok(());
+    };
+    advance(scratch, page, heading, own, other, number)
 }
 
 /// Takes the item of a data packet, with which its flow may begin. Memory is refused only where it begins or the item is new.
@@ -199,10 +221,9 @@ fn take_data(
     take_new(scratch, page, heading, own, other, number, header, content)
 }
 
-/// Takes a packet of a flow: what it acknowledges, and then its item, if it brings one. Memory is refused only where what it
-/// acknowledges brings the flow behind on, where its flow begins, or where its item is no repeat.
-#[tactic(auto, unfolding(crate::specs::Exchange::after_packet), using(crate::proofs::Wanted::acknowledged_wants))]
-pub fn take_packet(
+/// Takes the item of a packet, if it brings one. Memory is refused only where its flow begins or the item is new.
+#[tactic(auto, unfolding(crate::specs::Exchange::after_content))]
+fn take_content(
     scratch: &mut Scratch,
     page: &mut Page,
     heading: Heading<'_>,
@@ -213,15 +234,38 @@ pub fn take_packet(
     content: &[u8],
 ) -> Result<(), AllocError>
     ensures front { page.new.text.front ≡ page.old.text.front }
-    ensures memory { OnErr result (wants_memory header.now (scene own.old other.old page.old) ≡ true) }
+    ensures memory { OnErr result ((not (is_system header.now) && brings_new own.old.track header.now.sequence) ≡ true) }
     ensures scene { OnOk result (scene own.new other.new page.new
-        ≡ after_packet heading.entry (packet_model packet.now) header.now content.now (scene own.old other.old page.old)) }
+        ≡ after_content heading.entry (packet_model packet.now) header.now content.now (scene own.old other.old page.old)) }
 {
-    take_acknowledge(scratch, page, heading, own, other, header.acknowledge)?;
     if header.control & SYSTEM != 0 {
         return Ok(());
     }
     take_data(scratch, page, heading, own, other, packet, header, content)
+}
+
+/// Takes a packet of a flow: what takes effect of the flow behind, then its item, if it brings one, and then what takes effect of its
+/// own flow. Memory is refused only where what takes effect brings a flow on, where its flow begins, or where its item is no repeat.
+#[tactic(auto, unfolding(crate::specs::Exchange::after_packet), using(crate::proofs::Wanted::other_wants))]
+pub fn take_packet(
+    scratch: &mut Scratch,
+    page: &mut Page,
+    heading: Heading<'_>,
+    own: &mut Side,
+    other: &mut Side,
+    due: Due,
+    packet: &Packet<'_>,
+    header: &Header,
+    content: &[u8],
+) -> Result<(), AllocError>
+    ensures front { page.new.text.front ≡ page.old.text.front }
+    ensures memory { OnErr result (wants_memory due header.now (scene own.old other.old page.old) ≡ true) }
+    ensures scene { OnOk result (scene own.new other.new page.new
+        ≡ after_packet heading.entry due (packet_model packet.now) header.now content.now (scene own.old other.old page.old)) }
+{
+    reach_other(scratch, page, heading, own, other, due.other)?;
+    take_content(scratch, page, heading, own, other, packet, header, content)?;
+    reach_own(scratch, page, heading, own, other, due.own)
 }
 
 /// The number behind the last item that the flow keeps.

@@ -3,8 +3,11 @@ ghost use Rattle.std.specs.Prelude.{◌≡◌, ◌||◌, IfOk, OnErr, OnOk, true
 ghost use Rattle.std.specs.Option.{is_some};
 ghost use Rattle.xns_idp.specs.Packet.{packet_model};
 ghost use Rattle.xns_spp.specs.Header.{is_system};
+ghost use Rattle.xns_calls.specs.Acknowledged.{if_begun, new_ahead};
 ghost use Rattle.xns_calls.specs.Exchange.{after_packet, behind_last, both_ended, brings_new, ended, no_side, scene, wants_memory};
 
+use crate::aheads::Aheads;
+use crate::due::Due;
 use crate::exchange::{end_flow, take_packet};
 use crate::heading::Heading;
 use crate::scratch::Scratch;
@@ -49,18 +52,19 @@ fn take_alone(
     page: &mut Page,
     heading: Heading<'_>,
     own: &mut Side,
+    due: Due,
     packet: &Packet<'_>,
     header: &Header,
     content: &[u8],
 ) -> Result<(), AllocError>
     ensures front { page.new.text.front ≡ page.old.text.front }
-    ensures memory { OnErr result (wants_memory header.now (scene own.old no_side page.old) ≡ true) }
+    ensures memory { OnErr result (wants_memory due header.now (scene own.old no_side page.old) ≡ true) }
     ensures scene { OnOk result (scene own.new no_side page.new
-        ≡ after_packet heading.entry (packet_model packet.now) header.now content.now (scene own.old no_side page.old)) }
+        ≡ after_packet heading.entry due (packet_model packet.now) header.now content.now (scene own.old no_side page.old)) }
 {
     let mut other = Side::none();
     take_packet(
-        scratch, page, heading, own, &mut other, packet, header, content,
+        scratch, page, heading, own, &mut other, due, packet, header, content,
     )
 }
 
@@ -70,19 +74,20 @@ fn take_before(
     page: &mut Page,
     heading: Heading<'_>,
     other: &mut Side,
+    due: Due,
     packet: &Packet<'_>,
     header: &Header,
     content: &[u8],
 ) -> Result<(), AllocError>
     requires { is_system header.now ≡ true }
     ensures front { page.new.text.front ≡ page.old.text.front }
-    ensures memory { OnErr result (wants_memory header.now (scene no_side other.old page.old) ≡ true) }
+    ensures memory { OnErr result (wants_memory due header.now (scene no_side other.old page.old) ≡ true) }
     ensures scene { OnOk result (scene no_side other.new page.new
-        ≡ after_packet heading.entry (packet_model packet.now) header.now content.now (scene no_side other.old page.old)) }
+        ≡ after_packet heading.entry due (packet_model packet.now) header.now content.now (scene no_side other.old page.old)) }
 {
     let mut own = Side::none();
     take_packet(
-        scratch, page, heading, &mut own, other, packet, header, content,
+        scratch, page, heading, &mut own, other, due, packet, header, content,
     )
 }
 
@@ -119,6 +124,26 @@ impl KeptSide {
         }
     }
 
+    /// What a field acknowledges of it, where that is more than its next item and more than the last number that is kept.
+    pub fn ahead(&self, kept: &Aheads, field: u16) -> Option<u64>
+        ensures { result ≡ new_ahead self.now.track kept.now field }
+    {
+        match &self.side {
+            None => None,
+            Some(side) => side.as_ref().ahead(kept, field),
+        }
+    }
+
+    /// The number, where the flow has begun.
+    pub fn due(&self, number: Option<u64>) -> Option<u64>
+        ensures { result ≡ if_begun self.now.track number }
+    {
+        match &self.side {
+            None => None,
+            Some(side) => side.as_ref().due(number),
+        }
+    }
+
     /// Whether an item with this field begins the flow, or is no repeat.
     pub fn brings_new(&self, field: u16) -> bool
         ensures { result ≡ brings_new self.now.track field }
@@ -136,14 +161,15 @@ impl KeptSide {
         page: &mut Page,
         heading: Heading<'_>,
         first: &mut Side,
+        due: Due,
         packet: &Packet<'_>,
         header: &Header,
         content: &[u8],
     ) -> Result<(), AllocError>
         ensures front { page.new.text.front ≡ page.old.text.front }
-        ensures memory { OnErr result (wants_memory header.now (scene self.old first.old page.old) ≡ true) }
+        ensures memory { OnErr result (wants_memory due header.now (scene self.old first.old page.old) ≡ true) }
         ensures scene { OnOk result (scene self.new first.new page.new
-            ≡ after_packet heading.entry (packet_model packet.now) header.now content.now (scene self.old first.old page.old)) }
+            ≡ after_packet heading.entry due (packet_model packet.now) header.now content.now (scene self.old first.old page.old)) }
     {
         match &mut self.side {
             Some(side) => take_packet(
@@ -152,12 +178,13 @@ impl KeptSide {
                 heading,
                 side.as_mut(),
                 first,
+                due,
                 packet,
                 header,
                 content,
             ),
             None if header.control & SYSTEM != 0 => {
-                take_before(scratch, page, heading, first, packet, header, content)
+                take_before(scratch, page, heading, first, due, packet, header, content)
             }
             None => {
                 let mut side = boxed_none(scratch.alloc)?;
@@ -167,6 +194,7 @@ impl KeptSide {
                     heading,
                     side.as_mut(),
                     first,
+                    due,
                     packet,
                     header,
                     content,
@@ -184,14 +212,15 @@ impl KeptSide {
         page: &mut Page,
         heading: Heading<'_>,
         first: &mut Side,
+        due: Due,
         packet: &Packet<'_>,
         header: &Header,
         content: &[u8],
     ) -> Result<(), AllocError>
         ensures front { page.new.text.front ≡ page.old.text.front }
-        ensures memory { OnErr result (wants_memory header.now (scene first.old self.old page.old) ≡ true) }
+        ensures memory { OnErr result (wants_memory due header.now (scene first.old self.old page.old) ≡ true) }
         ensures scene { OnOk result (scene first.new self.new page.new
-            ≡ after_packet heading.entry (packet_model packet.now) header.now content.now (scene first.old self.old page.old)) }
+            ≡ after_packet heading.entry due (packet_model packet.now) header.now content.now (scene first.old self.old page.old)) }
     {
         match &mut self.side {
             Some(side) => take_packet(
@@ -200,11 +229,12 @@ impl KeptSide {
                 heading,
                 first,
                 side.as_mut(),
+                due,
                 packet,
                 header,
                 content,
             ),
-            None => take_alone(scratch, page, heading, first, packet, header, content),
+            None => take_alone(scratch, page, heading, first, due, packet, header, content),
         }
     }
 

@@ -1,5 +1,5 @@
 //! Laws of the definitions, as functions that do nothing.
-ghost use Rattle.xns_calls.specs.Laws.{AnItemIsAnEvent, CapturesSayWhatLinesSay, ConnectionsHaveNumbers, HeardMessagesArePrinted, InputsTellTheirConversations};
+ghost use Rattle.xns_calls.specs.Laws.{AcknowledgementsWait, AnItemIsAnEvent, CapturesSayWhatLinesSay, ConnectionsHaveNumbers, HeardMessagesArePrinted, InputsTellTheirConversations};
 ghost use Rattle.xns_calls.specs.Laws.{LivingConnectionsAreKept, MissingItemsAreBeforeCapturedOnes, NothingIsMissing};
 ghost use Rattle.xns_calls.specs.Laws.{NumbersAreReadBack, OneKeyServesBothDirections, OtherConnectionsStay, PacketsAreEvents};
 ghost use Rattle.xns_calls.specs.Laws.{RepeatsSayNothing, TheAnswerSaysRefused, WhatIsHeardIsTheConversation};
@@ -42,9 +42,16 @@ pub fn an_item_is_an_event()
 {}
 
 /// What a packet does to a flow are its events: to its own flow and to the flow behind. Of the flow behind it changes
-/// nothing else but its call without an answer.
+/// nothing else but its call without an answer. Where nothing takes effect of that flow it says nothing of it: an acknowledgement
+/// alone never makes an item missing.
 pub fn packets_are_events()
     ensures { PacketsAreEvents }
+{}
+
+/// What a packet acknowledges ahead of the items takes effect with the 64th packet of its connection behind it, neither before nor
+/// later. So at most 64 numbers of a flow are kept.
+pub fn acknowledgements_wait()
+    ensures { AcknowledgementsWait }
 {}
 
 /// The field of an item is read as the item's number, where that is at most 32,768 below the next one and at most 32,767
@@ -55,8 +62,8 @@ pub fn numbers_are_read_back()
     xns_spp::laws::nearest_number_is_read_back();
 }
 
-/// Where each item of a flow is captured within 63 numbers of its place, and before it is acknowledged, no item is said to
-/// be missing.
+/// Where each item of a flow is captured within 63 numbers of its place, and before what acknowledges it takes effect, no item is
+/// said to be missing.
 pub fn nothing_is_missing()
     ensures { NothingIsMissing }
 {}
@@ -71,8 +78,8 @@ pub fn missing_items_are_before_captured_ones()
     ensures { MissingItemsAreBeforeCapturedOnes }
 {}
 
-/// Of a flow from item 0 on whose items are captured, all of them, in whatever order within 63 numbers and before they are
-/// acknowledged, the lines of the messages of its conversation are printed, in order, up to the first fault. Without a fault
+/// Of a flow from item 0 on whose items are captured, all of them, in whatever order within 63 numbers and before what acknowledges
+/// them takes effect, the lines of the messages of its conversation are printed, in order, up to the first fault. Without a fault
 /// nothing else is printed of it, but the line with which it begins.
 pub fn whole_flows_say_their_conversation()
     ensures { WholeFlowsSayTheirConversation }

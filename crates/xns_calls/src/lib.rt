@@ -1,6 +1,8 @@
 //! `calls`: the Courier calls that a capture has, and what came back.
 #![tactic(auto)]
 
+mod ahead;
+mod aheads;
 mod bringing;
 mod calling;
 mod capture;
@@ -8,6 +10,7 @@ mod closing;
 mod connection;
 mod connection_key;
 mod described;
+mod due;
 mod early;
 mod early_items;
 mod end_key;

@@ -1,5 +1,5 @@
 use Rattle.std.proofs.Common.{rules}
-use Rattle.xns_calls.proofs.exchange.acknowledged.Goals as goal
+use Rattle.xns_calls.proofs.exchange.reached.Goals as goal
 
 pub returns : goal.returns
 returns c = search rules
