@@ -257,6 +257,7 @@ static void networks(void) {
     CHECK(xns_decode(packet, length, &read) == XNS_OK && read.source.network == 1 && xns_host_receive(&service, now, SERVICE_VIA, packet, length) == XNS_OK);
     CHECK(xns_host_set_network(&client, 0x12345678) == XNS_OK);
     asks(number, XNS_KIND_RETURN, 0, 2);
+    CHECK(carry(&client, &service, CLIENT_VIA)); /* the answer is acknowledged */
     CHECK(xns_host_connect(&client, now, CLIENT_VIA, here.socket + 1, &there, &second) == XNS_OK);
     CHECK(xns_host_next_packet(&client, now, packet, sizeof packet, &length, &via) == XNS_OK);
     CHECK(xns_decode(packet, length, &read) == XNS_OK && read.source.network == 0x12345678 && read.target.network == 1);
