@@ -1,12 +1,13 @@
 /* A client of server.c: client PORT NUMBER .. adds each number to the tally, prints what it is answered, and closes; client -i INTERFACE STATION NUMBER ..
  * does so on Ethernet, and net.h has the other networks. xBYTES in the place of a number has so many bytes returned, made even, and prints whether they are
- * the same. */
+ * the same. Behind client, -p is for a network that loses much: a server may be silent for minutes. */
 #ifndef _GNU_SOURCE
 #define _GNU_SOURCE
 #endif
 #include "net.h"
 
-static const struct xns_settings SETTINGS = { .connections = 1, .first_wait = 100, .longest_wait = 1000, .tries = 6 }; /* a server that is silent for 4.5 seconds is gone */
+enum { PATIENT = 255 };
+static struct xns_settings settings = { .connections = 1, .first_wait = 100, .longest_wait = 1000, .tries = 6 }; /* a server that is silent for 4.5 seconds is gone */
 static struct xns_host host;
 static size_t connection;
 static uint16_t sent[XNS_MOST_CALL_WORDS], words[XNS_MOST_MESSAGE_WORDS];
@@ -57,12 +58,15 @@ int main(int count, char **given) {
     uint8_t secret[32];
     struct xns_event event = XNS_EVENT_INIT;
     size_t length;
-    (void)count;
+    if (count > 1 && strcmp(given[1], "-p") == 0) {
+        settings.tries = PATIENT;
+        given++;
+    }
     given = net_open(&link, NET_ASKS, given + 1, server.host);
     if (given == NULL) return 2;
     memcpy(here.host, link.station, 6);
     random_bytes(secret, sizeof secret);
-    check(xns_host_new(&host, &here, &SETTINGS, secret));
+    check(xns_host_new(&host, &here, &settings, secret));
     check(xns_host_connect(&host, now, link.via, link.socket, &server, &connection));
     go_on(now, *given);
     while (event.kind != XNS_EVENT_CLOSED) {
