@@ -54,7 +54,7 @@ told_by kept w side t o k x before h =
     let is : delivers w k ≡ flushes v side = delivers_lands w k ∙ ap (flushed w) told.lands in
     subst (λ (e : World). Knows e side (after_flush u) (after_flush o)) (sym is) (knows_flushed kept v side u (after_flush o) told.knows)
 
--- the first two of the events
+-- two events after a tick that asks: the packet of the tick comes, and then the reply to it
 pub record AskedBy (w : World) (side : Side) (s p : State) : Type 0 where
   a : Asked w side s p
   first : Pair (delivers (ticks w side) (length w.bag)) side (after_tick s) (after_flush (after_receive p a.bytes))

@@ -107,13 +107,13 @@ plain_steps n (Foreign side bytes) h = tt
 plain_steps n (Send side x) h = absurd h
 plain_steps n (Take side) h = tt
 
-plain_before : (m n : ℕ) (e : Event) → m ≤ n → IsFurther n e → IsFurther m e
-plain_before m n (Deliver k) le h = omega (arith, h)
-plain_before m n Rest le h = absurd h
-plain_before m n (Tick side) le h = tt
-plain_before m n (Foreign side bytes) le h = absurd h
-plain_before m n (Send side x) le h = absurd h
-plain_before m n (Take side) le h = tt
+pub further_before : (m n : ℕ) (e : Event) → m ≤ n → IsFurther n e → IsFurther m e
+further_before m n (Deliver k) le h = omega (arith, h)
+further_before m n Rest le h = absurd h
+further_before m n (Tick side) le h = tt
+further_before m n (Foreign side bytes) le h = absurd h
+further_before m n (Send side x) le h = absurd h
+further_before m n (Take side) le h = tt
 
 -- what always holds holds after them
 pub record Both (w : World) : Type 0 where
@@ -149,7 +149,7 @@ leads_then k u v w m n a b =
     record {
       steps = a.steps ++ b.steps;
       plain = All-append (IsFurther (length u.bag)) a.steps b.steps a.plain
-          (All-weaker (IsFurther (length v.bag)) (IsFurther (length u.bag)) (λ s. plain_before (length u.bag) (length v.bag) s more) b.steps b.plain);
+          (All-weaker (IsFurther (length v.bag)) (IsFurther (length u.bag)) (λ s. further_before (length u.bag) (length v.bag) s more) b.steps b.plain);
       few = omega (arith, length-append a.steps b.steps, a.few, b.few);
       is = fold-append happens u a.steps b.steps ∙ (ap (λ (x : World). run x b.steps) a.is ∙ b.is);
     }

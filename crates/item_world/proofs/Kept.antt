@@ -179,7 +179,7 @@ start_kept laws setup fits good =
       bag = All-nil (IsKeptIn w);
     }
 
--- ---- what it gives
+-- ---- what follows of a world that is kept
 
 living : EndLaws → (w : World) (side : Side) (x : Emitted) → Holds w → (i : IsSoundSpelling (end_of w side) (end_of w (other side)) x) → is_past x.at (length (end_of w side).taken) (length (end_of w (other side)).taken) ≡ false
     → numbers_in (end_of w (other side)) i.says.packet ≡ as_meant i.says.meant

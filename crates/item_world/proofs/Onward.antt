@@ -60,7 +60,7 @@ stands w side s p x = subst (λ (y : State). Stands s y) x.there (subst (λ (y :
 pub links : (w : World) (side : Side) (s p : State) → Pair w side s p → IsLinked s.ends p.ends
 links w side s p x = subst (λ (y : State). IsLinked s.ends y.ends) x.there (subst (λ (y : State). IsLinked y.ends (end_of w (other side)).ends) x.here (x.linked.ends side))
 
--- the first of the packets that joined
+-- of the packets that join a network the first lies behind all that were there
 first_new : (bag : List Emitted) (f : List ℕ → Emitted) (bs : List (List ℕ)) (b : List ℕ) → slice_get bs 0 ≡ Some b
     → slice_get (bag ++ map f bs) (length bag) ≡ Some (f b)
 first_new [] f [] b h = absurd (cc)

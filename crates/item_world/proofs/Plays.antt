@@ -174,7 +174,7 @@ left_out_from w i (x ∷ xs) stand =
 pub left_out : (w : World) → unsettled w 0 w.bag ≡ filter (does_land w) (undelivered 0 w.bag)
 left_out w = left_out_from w 0 w.bag (stand_all w)
 
--- ---- nothing comes of them any more
+-- ---- nothing comes of a packet that lives no longer
 
 passed_if : (p : Bool) (l : Side × World) → (if p then None else Some l) ≡ None → p ≡ true
 passed_if true l is = refl
@@ -198,7 +198,7 @@ stay_away_from w i (x ∷ xs) stand =
 pub stay_away : (w : World) → All (StaysAway w) (undelivered 0 w.bag)
 stay_away w = stay_away_from w 0 w.bag (stand_all w)
 
--- ---- so they may be passed over
+-- ---- packets that live no longer may be passed over
 
 -- the number k comes first, which lands or stays away
 one_passed : (w v : World) (k : ℕ) (ks : List ℕ) (o : Option (Side × World)) → landing w k ≡ o → StaysAway w k → Later w v → fold delivers (delivers v k) ks ≡ fold delivers (delivers v k) (filter (does_land w) ks)

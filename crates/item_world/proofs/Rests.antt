@@ -117,7 +117,7 @@ receive_goes laws s b =
       handed = omega (arith, stays.handed);
     }
 
--- ---- a world goes on so
+-- ---- a world of two such ends
 
 abbrev EndsGo : ℕ → World → World → Type 0
 EndsGo most w v = (side : Side) → EndGoes most (end_of w side) (end_of v side)

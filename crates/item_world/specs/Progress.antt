@@ -82,7 +82,7 @@ unfoldable pub rounds : ℕ → World → World
 rounds zero w = w
 rounds (suc n) w = rounds n (run w round)
 
--- all is done after three rounds for each item that is pending and three more, and from then on
+-- after three rounds for each pending item, and three more, all is done, and stays so
 abbrev pub FinishesInRounds : World → Type 0
 FinishesInRounds w = (n : ℕ) → 3 * (pending w A + pending w B + 1) ≤ n → IsDone w (rounds n w)
 

@@ -91,7 +91,7 @@ sends w side x = moved w side (after_send (end_of w side) x) []
 abbrev pub takes : World → Side → World
 takes w side = moved w side (after_take (end_of w side)) []
 
--- ---- what it comes to
+-- ---- the items of a world
 
 -- the items that an end was given to send and accepted
 abbrev pub sent_at : World → Side → List Item

@@ -9,6 +9,7 @@ use Rattle.xns_spp.specs.Sending.{is_full, waiting_count, after_take}
 use Rattle.xns_spp.specs.State.{State, IsState}
 use Rattle.xns_spp.specs.Numbers.{most_items}
 use Rattle.xns_spp.specs.declared.item.Item.{Item}
+use Rattle.item_world.proofs.Finishing.{further_before}
 use Rattle.item_world.specs.Channel.{IsQuiet}
 use Rattle.item_world.specs.Events as events
 use Rattle.item_world.specs.Landing.{landing}
@@ -18,7 +19,7 @@ use Rattle.item_world.specs.Progress.{IsFurther, StirsOut, ticked_out, came_firs
 use Rattle.item_world.specs.Side.{other}
 use Rattle.item_world.specs.World.{World, end_of, flushes, ticks, channel_of, sent_at, handed_at}
 use Rattle.item_world.specs.declared.event.Event.{Event}
-use Rattle.item_world.specs.declared.event.Event.TheVariants.{Deliver, Rest, Tick, Foreign, Send, Take}
+use Rattle.item_world.specs.declared.event.Event.TheVariants.{Deliver, Tick}
 use Rattle.item_world.specs.declared.setup.Setup.{Setup}
 use Rattle.item_world.specs.declared.side.Side.{Side}
 use Rattle.item_world.specs.declared.side.Side.TheVariants.{A, B}
@@ -251,14 +252,6 @@ further_by_events p w g stuck sessions room r left None None a b =
     idle_by p w g stuck sessions r left a b (nat_lt (length (handed_at w.world B)) (length (sent_at w.world A))) (nat_lt (length (handed_at w.world A)) (length (sent_at w.world B))) refl refl
 
 -- ---- to the end
-
-pub further_before : (m n : ℕ) (e : Event) → m ≤ n → IsFurther n e → IsFurther m e
-further_before m n (Deliver k) le h = omega (arith, h)
-further_before m n Rest le h = absurd h
-further_before m n (Tick side) le h = tt
-further_before m n (Foreign side bytes) le h = absurd h
-further_before m n (Send side x) le h = absurd h
-further_before m n (Take side) le h = tt
 
 ends_by : {S : Type 0} (p : Parties S) (d : ℕ) (w : CallWorld) (b : Bool) → nat_lt w.listed (length p.calls) ≡ b → PartiesLaws p
     → NoWorldIsStuck → AllIsAnswered p.serving p.service → CarriesAll p → AtRest p w → bound p ≤ total w + d

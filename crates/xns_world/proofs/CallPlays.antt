@@ -14,7 +14,7 @@ use Rattle.xns_spp.specs.State.{State}
 use Rattle.xns_spp.specs.declared.item.Item.{Item}
 use Rattle.xns_world.proofs.CallRuns.{settles_is, arrived, arrived_nowhere, deliveries_all, steps_leave, quiet_between}
 use Rattle.xns_world.proofs.CallCarries.{steps_hold}
-use Rattle.xns_world.proofs.Ends.{served_on, raw_again}
+use Rattle.xns_world.proofs.ServingEnds.{served_on, raw_again}
 use Rattle.xns_world.specs.declared.call_trace.CallTrace.{CallTrace}
 use Rattle.xns_world.specs.declared.calling.CallingEnd.{CallingEnd}
 use Rattle.xns_world.specs.declared.call_pair.CallPair.{CallPair}

@@ -80,7 +80,7 @@ pub bag_longer : {S : Type 0} (p : Parties S) (w : CallWorld) (ss : List CallSte
 bag_longer p w [] g = omega arith
 bag_longer p w (s ∷ ss) g = omega (arith, step_longer p w s g, bag_longer p (call_stepped p w s) ss g)
 
--- ---- as it begins
+-- ---- a play as it begins
 
 pub starts : {S : Type 0} (p : Parties S) (setup : Setup) → NoWorldIsStuck → IsBetween p (call_start setup)
     → CallsGoOn p (call_start setup)

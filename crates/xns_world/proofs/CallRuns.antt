@@ -70,7 +70,7 @@ deliveries_all p w (k ∷ ks) =
     fold-append (call_stepped p) w (call_arrival_steps k (landing w.world k)) (call_deliveries p (call_delivers p w k) ks)
     ∙ deliveries_all p (call_delivers p w k) ks
 
--- ---- each of them keeps what is always true
+-- ---- each small step keeps what is always true
 
 -- a small step of the network alone
 other_holds : {S : Type 0} (p : Parties S) (w : CallWorld) (s : events.Step) → events.IsStep s → events.IsOther s → PartiesLaws p → CallsHold p w → CallsHold p (in_world w (events.stepped w.world s))

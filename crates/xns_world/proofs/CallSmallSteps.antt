@@ -13,7 +13,8 @@ use Rattle.item_world.specs.declared.event.Event.{Event}
 use Rattle.item_world.specs.declared.event.Event.TheVariants.{Deliver, Rest, Tick, Foreign, Send, Take}
 use Rattle.item_world.specs.declared.side.Side.{Side}
 use Rattle.item_world.specs.declared.side.Side.TheVariants.{A, B}
-use Rattle.xns_world.proofs.CallEvents.{finishes_by, further_before}
+use Rattle.item_world.proofs.Finishing.{further_before}
+use Rattle.xns_world.proofs.CallEvents.{finishes_by}
 use Rattle.xns_world.proofs.CallMoves.{total, Rises, step_rises, step_goes_on, all_go_on}
 use Rattle.xns_world.proofs.CallProgress.{bound, within_bound, bag_longer}
 use Rattle.xns_world.proofs.CallRests.{AtRest, two_sides}

@@ -168,7 +168,7 @@ both_settled p setup = settles p B (settles p A (call_start setup))
 abbrev pub run_calls : {S : Type 0} → Parties S → Setup → List Event → CallWorld
 run_calls p setup events = fold (call_happens p) (both_settled p setup) events
 
--- ---- what it comes to
+-- ---- the calls and the outcomes of a world
 
 -- the calls that the server decided
 abbrev pub carried_at : CallWorld → List RawCall

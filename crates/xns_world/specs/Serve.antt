@@ -46,7 +46,7 @@ serve_start setup = record { end = (start setup).b; replies = [] }
 abbrev pub serve : {S : Type 0} → Serving S → S → Setup → List (List ℕ) → Served
 serve serving s setup packets = fold (serve_hears serving s) (serve_settles serving s (serve_start setup)) packets
 
--- ---- what it comes to
+-- ---- the trace of a server's end
 
 abbrev pub fault_of_ending : Result Phase SessionFault → Option SessionFault
 fault_of_ending (Ok p) = None

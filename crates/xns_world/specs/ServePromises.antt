@@ -50,6 +50,6 @@ pub record ServedEndsStayWithinBounds {S : Type 0} (serving : Serving S) (IsServ
   -- after whatever packets
   pub ends : (s : S) (setup : Setup) (packets : List (List ℕ)) → IsServiceState s → IsSetup setup → IsGood setup → All AreBytes packets
       → IsServedWithin serving s (serve serving s setup packets)
-  -- also after each of the steps by which an end settles
+  -- after each of the steps by which an end settles
   pub settling : (s : S) (v : State) (n : ℕ) → IsServiceState s → IsState v → IsOutShort serving s v
       → IsState (steps (serve_step serving s) v n) × IsOutShort serving s (steps (serve_step serving s) v n)

@@ -1,6 +1,6 @@
 use Rattle.std.proofs.lemmas.Result.{MatchResult-at_ok}
 use Rattle.xns_world.proofs.ServeBounds.{begun_bytes}
-use Rattle.xns_world.proofs.Ends.{heard_along, within}
+use Rattle.xns_world.proofs.ServingEnds.{heard_along, within}
 use Rattle.xns_world.specs.Serve.{serve, serve_start}
 use Rattle.xns_world.proofs.serve.serve_bytes.Goals as goal
 

@@ -3,7 +3,7 @@ use Rattle.courier_calls.specs.Calls.{seen_model}
 use Rattle.courier_calls.specs.Server.{server_state}
 use Rattle.item_world.specs.World.{handed_at}
 use Rattle.item_world.specs.declared.side.Side.TheVariants.{A, B}
-use Rattle.xns_world.proofs.Ends.{served_of}
+use Rattle.xns_world.proofs.ServingEnds.{served_of}
 use Rattle.xns_world.proofs.call_pair.CallPair.into_parts.Goals as goal
 
 pub returns-clause-carried : goal.returns-clause-carried

@@ -1,7 +1,7 @@
 use Rattle.std.proofs.Common.{◌≡◌, ℕ, true, length, sym, ap, subst, arith}
 use Rattle.std.proofs.lemmas.List.Elements.{All-nil}
 use Rattle.xns_world.proofs.CallPlays.{pair_of}
-use Rattle.xns_world.proofs.Ends.{served_of}
+use Rattle.xns_world.proofs.ServingEnds.{served_of}
 use Rattle.xns_world.specs.CallWorld.{call_start}
 use Rattle.item_world.specs.Network.{count_of, is_settled, AreRested}
 use Rattle.item_world.specs.World.{start, end_of}

@@ -1,4 +1,4 @@
-use Rattle.xns_world.proofs.Ends.{stepped_if}
+use Rattle.xns_world.proofs.CallingEnds.{stepped_if}
 use Rattle.xns_world.proofs.calling.CallingEnd.act.Goals as goal
 use Rattle.xns_world.specs.CallPlay.{IsCalling}
 

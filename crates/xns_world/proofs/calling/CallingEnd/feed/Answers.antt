@@ -1,4 +1,4 @@
-use Rattle.xns_world.proofs.Ends.{calling_feeds, calling_none}
+use Rattle.xns_world.proofs.CallingEnds.{calling_feeds, calling_none}
 use Rattle.xns_world.specs.CallPlay.{caller_history}
 use Rattle.xns_world.proofs.calling.CallingEnd.feed.Goals as goal
 

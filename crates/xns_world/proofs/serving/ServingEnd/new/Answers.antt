@@ -1,5 +1,5 @@
 use Rattle.std.proofs.Common.{refl, ◌∙◌}
-use Rattle.xns_world.proofs.Ends.{served_first}
+use Rattle.xns_world.proofs.ServingEnds.{served_first}
 use Rattle.xns_world.proofs.serving.ServingEnd.new.Goals as goal
 
 pub returns : goal.returns
