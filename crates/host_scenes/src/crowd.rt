@@ -231,7 +231,7 @@ impl Crowd {
         self.end()
     }
 
-    /// Puts what came of it.
+    /// Appends the outcome of the play.
     fn tell(&self, text: &mut String) -> Result<(), AllocError> {
         self.outcome.put(text)?;
         put_count(text, self.busy, "calls not made")?;
@@ -239,7 +239,7 @@ impl Crowd {
         write!(text, "{} ms", self.now)
     }
 
-    /// Runs it to its end, and puts what came of it.
+    /// Runs the play to its end, and appends the outcome.
     pub fn run_and_tell(&mut self, seconds: u64, text: &mut String) -> Result<(), anyhow::Error> {
         self.run(seconds)?;
         Ok(self.tell(text)?)

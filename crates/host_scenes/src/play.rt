@@ -71,7 +71,7 @@ impl Play {
         all
     }
 
-    /// Puts what came of it.
+    /// Appends the outcome of the play.
     fn tell(&self, text: &mut String) -> Result<(), AllocError> {
         self.outcome().put(text)?;
         put_count(text, self.network.packets(), "packets")?;
@@ -187,7 +187,7 @@ impl Play {
         Ok(())
     }
 
-    /// Runs it to its end, and puts what came of it.
+    /// Runs the play to its end, and appends the outcome.
     pub fn run_and_tell(&mut self, text: &mut String) -> Result<(), anyhow::Error> {
         self.enter_all()?;
         self.run()?;

@@ -2,7 +2,7 @@
 #[derive(Clone, Copy, PartialEq, Eq)]
 pub enum Restart {
     Never,
-    /// Its new connection has the identifier of the old one.
+    /// The new connection has the identifier of the old one.
     SameIdentifier,
     OtherIdentifier,
 }

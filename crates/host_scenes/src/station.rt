@@ -85,7 +85,7 @@ impl Station {
         self.host.connections()
     }
 
-    /// It goes, and all that it has.
+    /// Drops the station, with its host and all packets.
     pub fn end(self) {}
 }
 

@@ -64,7 +64,7 @@ impl Abandoned {
         Ok(())
     }
 
-    /// Runs it, and puts what came of it.
+    /// Runs the play, and appends the outcome.
     pub fn run_and_tell(&mut self, text: &mut String) -> Result<(), anyhow::Error> {
         self.call()?;
         self.client.abandon(self.number)?;

@@ -110,7 +110,7 @@ impl Clocked {
         Ok(self.now <= LONGEST)
     }
 
-    /// Runs it until the host is at rest, or for ten minutes, and puts what came of it.
+    /// Runs the play until the host is at rest, or for ten minutes, and appends the outcome.
     pub fn run_and_tell(&mut self, text: &mut String) -> Result<(), anyhow::Error> {
         for _ in 0..1_000 {
             if !self.turn()? {

@@ -64,7 +64,7 @@ fn number(words: &[String], place: usize) -> u32 {
     word(words, place).parse::<u32>().unwrap_or(0)
 }
 
-/// Plays all, and prints what came of each.
+/// Plays all scenes, and prints the outcome of each.
 fn show_all(rt: &HostRuntime) -> Result<(), anyhow::Error> {
     for scene in Scene::ALL {
         show_play(rt, scene)?;
@@ -82,33 +82,33 @@ fn show_all(rt: &HostRuntime) -> Result<(), anyhow::Error> {
     speed::run(rt, Made::ByHand, 1, 20)
 }
 
-/// Prints what came of a play.
+/// Prints the outcome of a play.
 fn say(rt: &HostRuntime, name: &str, text: &str) -> Result<(), anyhow::Error> {
     println!(rt; "{name}: {text}")?;
     Ok(())
 }
 
-/// Plays a scene, and prints what came of it.
+/// Plays a scene, and prints the outcome.
 fn show_play(rt: &HostRuntime, scene: Scene) -> Result<(), anyhow::Error> {
     let mut text = String::new(rt.alloc());
     play_scene(rt.alloc(), scene, &mut text)?;
     say(rt, scene.name, text.as_str())
 }
 
-/// Plays a scene, and puts what came of it.
+/// Plays a scene, and appends the outcome.
 fn play_scene(alloc: Global, scene: Scene, text: &mut String) -> Result<(), anyhow::Error> {
     let mut play = Play::new(alloc, scene);
     play.run_and_tell(text)
 }
 
-/// Has a host meet an odd peer, and prints what came of it.
+/// Has a host meet an odd peer, and prints the outcome.
 fn show_meeting(rt: &HostRuntime, manner: Manner) -> Result<(), anyhow::Error> {
     let mut text = String::new(rt.alloc());
     play_meeting(rt.alloc(), manner, &mut text)?;
     say(rt, manner.name(), text.as_str())
 }
 
-/// Has a host meet an odd peer, and puts what came of it.
+/// Has a host meet an odd peer, and appends the outcome.
 fn play_meeting(alloc: Global, manner: Manner, text: &mut String) -> Result<(), anyhow::Error> {
     let mut meetings = room(alloc)?;
     meetings.push(Meeting::new(alloc, manner)?)?;
@@ -118,14 +118,14 @@ fn play_meeting(alloc: Global, manner: Manner, text: &mut String) -> Result<(), 
     Ok(())
 }
 
-/// Has a host call a peer that is not there, by such a clock, and prints what came of it.
+/// Has a host call a peer that is not there, by such a clock, and prints the outcome.
 fn show_clock(rt: &HostRuntime, shown: Shown) -> Result<(), anyhow::Error> {
     let mut text = String::new(rt.alloc());
     play_clock(rt.alloc(), shown, &mut text)?;
     say(rt, shown.name(), text.as_str())
 }
 
-/// Has a host call a peer that is not there, and puts what came of it.
+/// Has a host call a peer that is not there, and appends the outcome.
 fn play_clock(alloc: Global, shown: Shown, text: &mut String) -> Result<(), anyhow::Error> {
     let mut clocks = room(alloc)?;
     clocks.push(Clocked::new(alloc, shown)?)?;
@@ -135,14 +135,14 @@ fn play_clock(alloc: Global, shown: Shown, text: &mut String) -> Result<(), anyh
     Ok(())
 }
 
-/// Has a host abandon a call, and prints what came of it.
+/// Has a host abandon a call, and prints the outcome.
 fn show_abandoned(rt: &HostRuntime) -> Result<(), anyhow::Error> {
     let mut text = String::new(rt.alloc());
     play_abandoned(rt.alloc(), &mut text)?;
     say(rt, "a call that is abandoned", text.as_str())
 }
 
-/// Has a host abandon a call, and puts what came of it.
+/// Has a host abandon a call, and appends the outcome.
 fn play_abandoned(alloc: Global, text: &mut String) -> Result<(), anyhow::Error> {
     let mut pairs = room(alloc)?;
     pairs.push(Abandoned::new(alloc)?)?;
@@ -152,7 +152,7 @@ fn play_abandoned(alloc: Global, text: &mut String) -> Result<(), anyhow::Error>
     Ok(())
 }
 
-/// Plays a thousand connections for so many seconds, and prints what came of them.
+/// Plays a thousand connections for this many seconds, and prints the outcome.
 fn show_crowd(rt: &HostRuntime, seconds: u32) -> Result<(), anyhow::Error> {
     let mut text = String::new(rt.alloc());
     play_crowd(rt.alloc(), seconds, &mut text)?;
@@ -163,7 +163,7 @@ fn show_crowd(rt: &HostRuntime, seconds: u32) -> Result<(), anyhow::Error> {
     )
 }
 
-/// Plays a thousand connections for so many seconds, and puts what came of them.
+/// Plays a thousand connections for this many seconds, and appends the outcome.
 fn play_crowd(alloc: Global, seconds: u32, text: &mut String) -> Result<(), anyhow::Error> {
     let mut crowds = room(alloc)?;
     crowds.push(Crowd::new(alloc)?)?;

@@ -1,17 +1,17 @@
 /// How a peer is odd.
 #[derive(Clone, Copy, PartialEq, Eq)]
 pub enum Manner {
-    /// It says no more once the connection is open.
+    /// Says no more once the connection is open.
     FallsSilent,
-    /// It says to each packet what it said to the first one, which acknowledges nothing.
+    /// Replies to each packet as to the first one, which acknowledges nothing.
     AcknowledgesNothing,
-    /// It acknowledges items and uses none, so that its room ends.
+    /// Acknowledges items and uses none, so that its room ends.
     GivesNoRoom,
-    /// It calls, and closes in the middle of the call.
+    /// Calls, and closes in the middle of the call.
     ClosesInACall,
-    /// It sends two calls before it reads anything. Each call and each answer is longer than the buffers of both ends.
+    /// Sends two calls before it reads anything. Each call and each answer is longer than the buffers of both ends.
     ReadsLate,
-    /// It does so too, but reads what came while its end is full.
+    /// Sends two such calls, but reads what came while its end is full.
     ReadsWhileFull,
 }
 

@@ -288,7 +288,7 @@ impl Meeting {
         Ok(())
     }
 
-    /// Puts what came of it.
+    /// Appends the outcome of the play.
     fn tell(&self, text: &mut String) -> Result<(), AllocError> {
         match self.closed {
             Some(why) => write!(text, "closed, {why:?}, ")?,
@@ -300,7 +300,7 @@ impl Meeting {
         write!(text, "{} packets, {} ms", self.packets, self.now)
     }
 
-    /// Runs it to its end, and puts what came of it.
+    /// Runs the play to its end, and appends the outcome.
     pub fn run_and_tell(&mut self, text: &mut String) -> Result<(), anyhow::Error> {
         self.begin()?;
         self.run()?;

@@ -36,7 +36,7 @@ pub fn run(
     Ok(())
 }
 
-/// So many calls between two hosts: how many were answered.
+/// Makes this many calls between two hosts, and returns how many were answered.
 fn between_hosts(alloc: Global, connections: u32, calls: u32) -> Result<u32, anyhow::Error> {
     let mut pairs = room(alloc)?;
     pairs.push(Pair::new(alloc, connections as usize)?)?;
@@ -47,7 +47,7 @@ fn between_hosts(alloc: Global, connections: u32, calls: u32) -> Result<u32, any
     Ok(answered)
 }
 
-/// So many calls between ends that are made by hand: how many were answered.
+/// Makes this many calls between ends that are made by hand, and returns how many were answered.
 fn between_ends(alloc: Global, calls: u32) -> Result<u32, anyhow::Error> {
     let mut all = room(alloc)?;
     all.push(ByHand::new(alloc)?)?;

@@ -13,7 +13,7 @@ use xns_spp::{Bytes, Endpoint, Item, Received};
 /// How many items may be unacknowledged at an end.
 const BACKLOG: usize = 16;
 
-/// Another identifier that a server may have.
+/// The identifier of a second server.
 const OTHER_ID: u16 = 0x9abc;
 
 /// The place of the control byte in a packet.

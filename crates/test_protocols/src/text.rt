@@ -22,7 +22,7 @@ pub fn put_hexed_if_any(text: &mut String, bytes: &Option<Vec<u8>>) -> Result<()
     }
 }
 
-/// The first word, and what follows it.
+/// A line's first word, and the text behind it.
 pub fn first_word(words: &str) -> (&str, &str) {
     words.split_once(" ").unwrap_or((words, ""))
 }

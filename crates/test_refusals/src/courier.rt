@@ -37,7 +37,7 @@ fn return_message(alloc: Global) -> Result<Message, AllocError> {
     })
 }
 
-/// What comes of writing the message behind the one byte of the vector.
+/// The outcome of writing the message behind the one byte of the vector.
 fn writes_behind(alloc: Global, message: &Message, out: &mut Vec<u8>) -> Outcome {
     if write_message(alloc, message, out).is_ok() {
         return done(out.as_slice().get(1..) == Some(RETURN.as_slice()));

@@ -14,7 +14,7 @@ pub enum Made {
 }
 
 impl Made {
-    /// Makes it, and says whether it is right.
+    /// Makes a value of this kind, and says whether it is right.
     fn is_right(self, alloc: Global) -> Result<bool, AllocError> {
         match self {
             Made::EchoReply => internet::answers(alloc),
@@ -26,7 +26,7 @@ impl Made {
         }
     }
 
-    /// What comes of making it.
+    /// The outcome of making a value of this kind.
     pub fn outcome(self, alloc: Global) -> Result<Outcome, AllocError> {
         if let Ok(right) = self.is_right(alloc) {
             return Ok(done(right));

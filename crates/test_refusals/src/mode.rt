@@ -15,7 +15,7 @@ pub enum Mode {
 }
 
 impl Mode {
-    /// Adds to the text what comes of the input.
+    /// Runs the mode over its input, and appends what it prints.
     fn run(self, alloc: Global, text: &mut Vec<u8>) -> Result<bool, RunFault> {
         match self {
             Mode::Dump => dump(alloc, &mut &*PACKET, text),
@@ -24,7 +24,7 @@ impl Mode {
         }
     }
 
-    /// The text that is to come of it.
+    /// The text that the mode should print.
     fn wanted(self) -> &'static [u8] {
         match self {
             Mode::Dump => REPORT,
@@ -41,7 +41,7 @@ impl Mode {
         }
     }
 
-    /// What comes of it, with room for all its text in the vector.
+    /// The outcome of the mode, with room for all its text in the vector.
     fn outcome_in(self, alloc: Global, text: &mut Vec<u8>) -> Outcome {
         let answer = self.run(alloc, text);
         if answer == Ok(false) {
@@ -56,7 +56,7 @@ impl Mode {
         )
     }
 
-    /// What comes of it.
+    /// The outcome of the mode.
     pub fn outcome(self, alloc: Global) -> Result<Outcome, AllocError> {
         let mut text = Vec::with_capacity(alloc, self.wanted().len())?;
         Ok(self.outcome_in(alloc, &mut text))

@@ -1,8 +1,8 @@
-//! What came of a call.
+//! The outcome of a function that may be refused memory.
 
 use std::alloc::AllocError;
 
-/// What came of a call that could be made.
+/// The outcome of a function that could be called.
 #[derive(Clone, Copy)]
 pub enum Outcome {
     Done,
@@ -10,7 +10,7 @@ pub enum Outcome {
     Broken,
 }
 
-/// Of a call that answered, rightly or not.
+/// The outcome of a function that came through, with the right result or not.
 pub fn done(right: bool) -> Outcome {
     if right {
         Outcome::Done
@@ -19,7 +19,8 @@ pub fn done(right: bool) -> Outcome {
     }
 }
 
-/// Of a call that answered want of memory: whether all stood as before, and whether the same call then answered rightly.
+/// The outcome of a function that was refused memory: whether all stood as before, and whether it returned the right result when it
+/// was called again.
 pub fn refused(as_before: bool, right: bool) -> Outcome {
     if as_before && right {
         Outcome::Refused

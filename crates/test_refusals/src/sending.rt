@@ -35,7 +35,7 @@ impl Sending {
         }
     }
 
-    /// What comes of it at this end.
+    /// The outcome of sending at this end.
     fn outcome_at(self, alloc: Global, end: &mut Endpoint) -> Result<Outcome, AllocError> {
         if let Ok(packets) = self.packets(alloc, end) {
             return Ok(done(packets == 1));
@@ -44,7 +44,7 @@ impl Sending {
         Ok(refused(self.stands(alloc, end)?, packets == 1))
     }
 
-    /// What comes of it at a server that may send one item, and has one to send.
+    /// The outcome of sending at a server that may send one item, and has one to send.
     pub fn outcome(self, alloc: Global) -> Result<Outcome, AllocError> {
         self.outcome_at(alloc, &mut sender(alloc)?)
     }

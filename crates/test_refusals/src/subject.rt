@@ -44,7 +44,7 @@ pub enum Subject {
 }
 
 impl Subject {
-    /// What comes of the call; an error is that of making what it is given.
+    /// The outcome of the function; an error is that of making its arguments.
     pub fn outcome(self, alloc: Global) -> Result<Outcome, AllocError> {
         match self {
             Subject::Written(written) => written.outcome(alloc),

@@ -20,7 +20,7 @@ fn record_shape(alloc: Global) -> Result<Shape, AllocError> {
     Ok(Shape::Fields(vec![in alloc; Shape::Choice(members)]?))
 }
 
-/// What comes of reading all the words as one value.
+/// The outcome of reading all the words as one value.
 fn reads_whole(alloc: Global, shape: &Shape, words: &[u16]) -> Outcome {
     if shape.check().is_err() {
         return Outcome::Broken;
@@ -46,7 +46,7 @@ pub fn reads_a_record(alloc: Global) -> Result<Outcome, AllocError> {
     Ok(reads_whole(alloc, &shape, &RECORD))
 }
 
-/// What comes of reading the count 65,535 with no word behind it: no room is made ahead of the words, so there is nothing to refuse.
+/// The outcome of reading the count 65,535 with no word behind it: no room is made ahead of the words, so there is nothing to refuse.
 fn reads_a_count(alloc: Global, shape: &Shape) -> Outcome {
     if shape.check().is_err() {
         return Outcome::Broken;
@@ -85,7 +85,7 @@ fn pieces(alloc: Global) -> Result<[Vec<u8>; 2], AllocError> {
     Ok([front, back])
 }
 
-/// What comes of reading all the words of the pieces as one value.
+/// The outcome of reading all the words of the pieces as one value.
 fn reads_all_pieces(alloc: Global, shape: &Shape, pieces: &[Vec<u8>]) -> Outcome {
     if shape.check().is_err() {
         return Outcome::Broken;
@@ -107,7 +107,7 @@ pub fn reads_pieces(alloc: Global) -> Result<Outcome, AllocError> {
     Ok(reads_all_pieces(alloc, &shape, &pieces))
 }
 
-/// What comes of writing the value behind the one word of the vector.
+/// The outcome of writing the value behind the one word of the vector.
 fn writes_behind(alloc: Global, value: &Value, out: &mut Vec<u16>) -> Outcome {
     if !fits(&Shape::LongCardinal, value) {
         return Outcome::Broken;

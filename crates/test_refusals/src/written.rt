@@ -10,7 +10,7 @@ use xns_spp::write_header;
 #[derive(Clone, Copy)]
 pub enum Written {
     Packet,
-    /// The same packet, whose data lie in two places.
+    /// A packet whose data lie in two places.
     Parts,
     Echo,
     Error,
@@ -79,7 +79,7 @@ impl Written {
         }
     }
 
-    /// What comes of writing it behind the one byte of the vector.
+    /// The outcome of writing behind the one byte of the vector.
     fn outcome_in(self, alloc: Global, out: &mut Vec<u8>) -> Outcome {
         if self.write(alloc, out).is_ok() {
             return done(self.stands_in(out));
@@ -89,7 +89,7 @@ impl Written {
         refused(stood, again && self.stands_in(out))
     }
 
-    /// What comes of writing it.
+    /// The outcome of writing.
     pub fn outcome(self, alloc: Global) -> Result<Outcome, AllocError> {
         let mut out = vec![in alloc; BEFORE]?;
         Ok(self.outcome_in(alloc, &mut out))

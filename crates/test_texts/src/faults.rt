@@ -11,7 +11,7 @@ use xns_lines::RunFault;
 struct Alike {
     first: usize,
     last: usize,
-    /// So many bytes were written before.
+    /// How many bytes were written before the reads.
     written: usize,
 }
 
@@ -52,7 +52,7 @@ fn show_each_read(
     Ok(())
 }
 
-/// What comes of the input in pieces of at most `most` bytes, with a read failing.
+/// The outcome for the input in pieces of at most `most` bytes, with a read failing.
 fn read_failing(alloc: Global, mode: Mode, input: &[u8], most: usize, fails_at: usize) -> Outcome {
     let mut reader = FailingReader {
         rest: input,
@@ -147,7 +147,7 @@ fn count_right(alloc: Global, mode: Mode, input: &[u8], whole: &Outcome) -> usiz
     right
 }
 
-/// What comes of the input, with each write failing once so many bytes are written.
+/// The outcome for the input, with each write failing once so many bytes are written.
 fn write_failing(alloc: Global, mode: Mode, input: &[u8], most: usize) -> Outcome {
     let mut writer = FailingWriter {
         written: Vec::new(alloc),

@@ -17,7 +17,7 @@ pub fn show(rt: &HostRuntime) -> Result<(), anyhow::Error> {
     show_pieces(rt)
 }
 
-/// What comes of so many of one sign.
+/// The outcome for an input of one sign, this many times.
 fn show_many(rt: &HostRuntime, count: usize, sign: u8, name: &str) -> Result<(), anyhow::Error> {
     let input = vec![in rt.alloc(); sign; count]?;
     println!(rt; "{count} {name}:")?;

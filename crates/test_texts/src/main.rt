@@ -27,7 +27,7 @@ fn main(rt: HostRuntime) -> Result<(), anyhow::Error> {
     Ok(())
 }
 
-/// What comes of a line.
+/// Does what a line says, and prints the outcome.
 fn show(rt: &HostRuntime, line: &str) -> Result<(), anyhow::Error> {
     let (first, rest) = line.split_once(' ').unwrap_or((line, ""));
     match first {

@@ -44,7 +44,7 @@ impl Mode {
         }
     }
 
-    /// What comes of the input where all that is made of it is written.
+    /// The outcome for the input, where no write fails.
     pub fn outcome<R: Read>(self, alloc: Global, reader: &mut R) -> Outcome {
         let mut text = Vec::new(alloc);
         let answer = self.run(alloc, reader, &mut text);
