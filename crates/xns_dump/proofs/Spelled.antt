@@ -13,7 +13,7 @@ said_same : (line bytes : List ℕ) → decode_of (digits_of line) ≡ Ok bytes 
 unfolding said_by
 said_same line bytes e = ap bytes_or_fault e
 
--- so do lines and packets
+-- lines and packets with the same bytes have the same text
 pub same_text : (n : ℕ) (earlier : List DataPacket) (lines : List (List ℕ)) (packets : List NumberedPacket) → SpellFrom n lines packets
     → packets_text_from earlier packets ≡ text_from n earlier lines
 same_text n earlier [] [] h = refl

@@ -13,12 +13,11 @@ use xns_captures::{FileFault, print_packets};
 use xns_lines::laws::nothing_is_printed_at_first;
 use xns_lines::{MOST_LINES, RunFault, print_lines};
 
-/// Reads lines of hex and prints what each says. The answer is whether a line was refused.
+/// Reads lines of hex and prints what each says. The result says whether a line was refused.
 ///
-/// Byte 10 ends a line, and so does the end of the input after a byte; lines count from 1. One byte 13 at a line's end,
-/// and each space and tab, are dropped; the rest are hex digits of either case. They spell an internet packet
-/// (XSIS 028112, Internet Datagram Protocol, Packet Format), or they are refused in one line that says why. Bytes behind
-/// the packet are left unread.
+/// Lines and their limits are those of [`xns_lines::take_lines`]. One byte 13 at a line's end, and each space and tab, are dropped; the
+/// rest are hex digits of either case. They spell an internet packet (XSIS 028112, Internet Datagram Protocol, Packet Format), or
+/// they are refused in one line that says why. Bytes behind the packet are left unread.
 ///
 /// A packet prints two to four lines: its header's fields, then what its packet type makes of its body. That is one line
 /// for Echo, Error, Packet Exchange, a body that is refused, and the data of any other type; for a sequenced packet its
@@ -26,14 +25,11 @@ use xns_lines::{MOST_LINES, RunFault, print_lines};
 /// any.
 ///
 /// # Errors
-/// `Read` where a read fails, for whatever reason; `Write` where a write fails or takes no byte; `LineTooLong` where a
-/// line has over 4,096 bytes, its byte 13 among them and its byte 10 not; `TooManyLines` where there are over 65,536
-/// lines; `NoMemory` where a growth is refused. Of the limits' faults the one that comes first in the input is
-/// answered. The text of all lines before the fault is written first, but for a write that fails.
+/// Those of [`xns_lines::print_lines`], with at most [`MOST_LINES`] lines. The text of all lines before the fault is written first, but
+/// for a write that fails.
 ///
-/// It holds one piece of 65,536 bytes of the input, one line of at most 4,096 bytes, room for the digits of the longest line,
-/// for their values and for the bytes that they spell, the words of a message, the text that isn't written yet, which is less than
-/// 65,536 bytes and the text of one line, and the number of the last item of each flow. A line begins at most one flow.
+/// In memory are what `print_lines` holds, room for the digits of the longest line, for their values and for the bytes that they
+/// spell, the words of a message, and the number of the last item of each flow. A line begins at most one flow.
 pub fn dump<R: Read, W: Write>(
     alloc: Global,
     reader: &mut R,
@@ -57,7 +53,7 @@ pub fn dump<R: Read, W: Write>(
 }
 
 /// Reads a capture and prints what each internet packet in its frames says, as `dump` does of lines, with the number of the
-/// frame in place of the line's. The answer is whether a packet was refused.
+/// frame in place of the line's. The result says whether a packet was refused.
 pub fn dump_capture<R: Read, W: Write>(
     alloc: Global,
     reader: &mut R,

@@ -3,6 +3,7 @@ ghost use Rattle.std.specs.List.{list_any};
 ghost use Rattle.xns_dump.specs.Dump.Capture.{is_packet_refused, items_among, packet_end_count, packets_text_with_end};
 ghost use Rattle.xns_dump.specs.Flows.Numbers.{NumbersStandFor};
 
+use crate::layers::packets::append_packet;
 use crate::printer::DumpPrinter;
 use std::alloc::AllocError;
 use xns_captures::{PacketPrinter, Stamp};
@@ -26,9 +27,13 @@ impl PacketPrinter for DumpPrinter {
         stamp: Stamp,
         packet: &[u8],
     ) -> Result<(), AllocError> {
-        let said = self
-            .appender
-            .report_packet(&mut page.text, stamp.number, packet, &self.numbers)?;
+        let said = append_packet(
+            self.appender.alloc,
+            &mut page.text,
+            stamp.number,
+            packet,
+            &self.numbers,
+        )?;
         self.numbers.note_item(said.item)?;
         page.is_refused |= said.is_refused;
         Ok(())

@@ -51,7 +51,7 @@ bytes_or_fault (Err error) = Said.no_bytes error
 unfoldable pub said_by : List ℕ → Said
 said_by line = bytes_or_fault (decode_of (digits_of line))
 
--- ---- what is made of it
+-- ---- the text of a line
 
 abbrev pub said_text : ℕ → (DataPacket → ℕ) → Said → List ℕ
 said_text n number (Said.no_bytes error) = hex_refusal n error

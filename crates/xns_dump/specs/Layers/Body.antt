@@ -52,9 +52,9 @@ body_of packet =
     else if packet.kind == 5 then header_or_fault (header_of packet.body)
     else BodyModel.other packet.body
 
--- ---- what is made of it
+-- ---- the text of a body
 
--- its lines, in a packet of line n, where `number` gives the numbers of items
+-- the lines of a body in a packet of line n, where `number` gives the numbers of items
 abbrev pub body_text : ℕ → (DataPacket → ℕ) → PacketModel → BodyModel → List ℕ
 body_text n number packet (BodyModel.echo v) = line_of n (echo_text v)
 body_text n number packet (BodyModel.error v) = line_of n (error_text v)

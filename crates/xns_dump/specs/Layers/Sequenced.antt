@@ -33,14 +33,14 @@ header_text f = codes " spp control " ++ connection_text f ++ sequence_text f
 unfoldable pub item_of : PacketModel → Header → Option DataPacket
 item_of packet f = if brings_item f then Some (flow_of packet f, f.sequence) else None
 
--- the number of its item (XSIS 028112, Sequenced Packet Protocol, Sequence Number)
+-- the number of an item (XSIS 028112, Sequenced Packet Protocol, Sequence Number)
 abbrev pub number_text : ℕ → List ℕ
 number_text number = codes " item " ++ decimal number
 
 abbrev pub item_line : ℕ → ℕ → List ℕ
 item_line n number = line_of n (number_text number)
 
--- its line, if there is an item
+-- the line of an item, if there is one
 abbrev pub item_text : ℕ → (DataPacket → ℕ) → Option DataPacket → List ℕ
 item_text n number None = []
 item_text n number (Some packet) = item_line n (number packet)
