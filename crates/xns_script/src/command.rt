@@ -6,7 +6,7 @@ use item_world::Event;
 pub enum Command {
     /// Nothing.
     Skip,
-    /// A call is to be made.
+    /// The caller makes a call.
     Call(Call),
     /// Something happens to the connection.
     Happen(Event),

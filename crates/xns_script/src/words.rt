@@ -14,7 +14,7 @@ use xns_spp::Bytes;
 /// The decimal of a number of 32 bits has at most so many digits.
 const MOST_DIGITS: usize = 10;
 
-/// The first word of a line, and what follows the space behind it, if there is one.
+/// The first word of a line, and what follows the space behind the word, if there is one.
 pub(crate) fn cut_word(line: &[u8]) -> (&[u8], Option<&[u8]>)
     ensures words { words_of_line line.now ≡ result.0.now ∷ words_after (option_map (λ rest. rest.now) result.1) }
     ensures shorter { IfSome result.1 (λ rest. length rest.now < length line.now) }

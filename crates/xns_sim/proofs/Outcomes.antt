@@ -12,7 +12,7 @@ outcome_lines-append k (s ∷ seen) last =
     ap (λ t. outcome_line k s ++ t) (outcome_lines-append (k + 1) seen last ∙ ap (λ n. outcome_lines (k + 1) seen ++ outcome_line n last) e)
     ∙ sym (append_assoc (outcome_line k s) (outcome_lines (k + 1) seen) (outcome_line (k + length (s ∷ seen)) last))
 
--- one more outcome is written
+-- where i outcomes are written and the next one follows, i + 1 outcomes are written
 pub outcome_more : (front before after : List ℕ) (seen : List Seen) (i : ℕ) (x : Seen) → i < length seen → x ≡ get_or seen i x
     → before ≡ front ++ outcome_lines 1 (map seen_model (take i seen)) → after ≡ before ++ outcome_line (i + 1) (seen_model x)
     → after ≡ front ++ outcome_lines 1 (map seen_model (take (i + 1) seen))

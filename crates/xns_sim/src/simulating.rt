@@ -12,20 +12,18 @@ use std::io::{Read, Write};
 use xns_lines::{MOST_LINES, RunFault, take_lines, write_whole};
 use xns_script::Script;
 
-/// Reads the lines of a script, plays its calls through its events, and prints what came of them. The answer is
-/// whether a line was refused.
+/// Reads the lines of a script, plays its calls through its events, and prints what came of them. The result
+/// says whether a line was refused.
 ///
-/// Byte 10 ends a line, and so does the end of the input after a byte; lines count from 1. One byte 13 at a line's end
-/// is dropped. `xns_script` says what a line can be. The calls are made in order, wherever their lines stand, by a
-/// caller whose network and server are those of `xns_world::play_calls`; the server's service is a new tally. Where a
-/// line is refused, the first of them is said alone and nothing is played.
+/// Lines and their limits are those of [`xns_lines::take_lines`]. One byte 13 at a line's end is dropped; `xns_script` says what a
+/// line can be. The calls are made in order, wherever their lines stand, by a caller whose network and server are those of
+/// `xns_world::play_calls`; the server's service is a new tally. Where a line is refused, the first of them is said alone and
+/// nothing is played.
 ///
 /// # Errors
-/// `Read` where a read fails, for whatever reason; `Write` where a write fails or takes no byte; `LineTooLong` where a
-/// line has over 4,096 bytes, its byte 13 among them and its byte 10 not; `TooManyLines` where there are over 65,536
-/// lines; `NoMemory` where a growth is refused. Of the limits' faults the one that comes first in the input is
-/// answered. Nothing is written before the whole input is read and the whole text made, so only a failed write leaves
-/// a prefix of the text.
+/// Those of [`take_lines`], with at most [`MOST_LINES`] lines; `Write` where a write fails or takes no byte; `NoMemory` where a growth
+/// is refused. Nothing is written before the whole input is read and the whole text made, so only a failed write leaves a prefix
+/// of the text.
 pub fn sim<R: Read, W: Write>(
     alloc: Global,
     reader: &mut R,
