@@ -9,18 +9,21 @@ use std::io::{self, Read};
 use xns_command::{DescriptionFault, description_status, print_description, take_description};
 use xns_lines::RunFault;
 
+/// What a description is read for.
+#[derive(Clone, Copy)]
+enum Purpose {
+    /// To name calls by its program.
+    Naming,
+    /// To print its program.
+    Printing,
+}
+
 /// Prints the programs that the files describe, in order, up to the first fault, and says in one line what that is.
 pub fn run_programs(rt: &HostRuntime, files: &[&str]) -> u8
     ensures { result ≤ 3 }
 {
     let mut programs = Vec::new(rt.alloc());
-    for path in files {
-        let answer = run_description(rt, *path, &mut programs);
-        if answer.is_err() {
-            return description_status(&answer);
-        }
-    }
-    description_status(&Ok(()))
+    description_status(&read_files(rt, files, Purpose::Printing, &mut programs))
 }
 
 /// Reads the programs that the files describe, in order, up to the first fault, and says in one line what that is.
@@ -29,23 +32,34 @@ pub fn read_programs(
     files: &[&str],
     programs: &mut Vec<Program>,
 ) -> Result<(), DescriptionFault> {
+    read_files(rt, files, Purpose::Naming, programs)
+}
+
+/// Reads the programs that the files describe, each behind those that were read before, up to the first fault.
+fn read_files(
+    rt: &HostRuntime,
+    files: &[&str],
+    purpose: Purpose,
+    programs: &mut Vec<Program>,
+) -> Result<(), DescriptionFault> {
     for path in files {
-        take_named(rt, *path, programs)?;
+        read_named(rt, *path, purpose, programs)?;
     }
     Ok(())
 }
 
-/// Reads the program that the file of that name describes, or standard input where it is `-`, behind those that were read before.
-fn take_named(
+/// Reads the program that the file of that name describes, or standard input where the name is `-`.
+fn read_named(
     rt: &HostRuntime,
     path: &str,
+    purpose: Purpose,
     programs: &mut Vec<Program>,
 ) -> Result<(), DescriptionFault> {
     if path == STANDARD_INPUT {
-        return take(rt, path, rt.reader(), programs);
+        return read(rt, path, rt.reader(), purpose, programs);
     }
     match File::open(rt, path) {
-        Ok(file) => take(rt, path, file, programs),
+        Ok(file) => read(rt, path, file, purpose, programs),
         Err(error) => {
             let _ = eprintln!(rt; "xns: {path}: {error}");
             Err(DescriptionFault::Run(RunFault::Read))
@@ -53,49 +67,20 @@ fn take_named(
     }
 }
 
-/// Reads the program that a file of that name describes, behind those that were read before.
-fn take<R: Read + Drop>(
+/// Reads the program that a file of that name describes, and says in one line what is wrong, if anything is.
+fn read<R: Read + Drop>(
     rt: &HostRuntime,
     path: &str,
     file: R,
-    programs: &mut Vec<Program>,
-) -> Result<(), DescriptionFault> {
-    let mut reader = WatchedReader::new(file);
-    let answer = take_description(rt.alloc(), &mut reader, programs);
-    if let Err(fault) = &answer {
-        explain_fault(rt, path, *fault, reader.error(), false);
-    }
-    answer
-}
-
-/// Prints the program that the file of that name describes, or standard input where it is `-`.
-fn run_description(
-    rt: &HostRuntime,
-    path: &str,
-    programs: &mut Vec<Program>,
-) -> Result<(), DescriptionFault> {
-    if path == STANDARD_INPUT {
-        return describe(rt, path, rt.reader(), programs);
-    }
-    match File::open(rt, path) {
-        Ok(file) => describe(rt, path, file, programs),
-        Err(error) => {
-            let _ = eprintln!(rt; "xns: {path}: {error}");
-            Err(DescriptionFault::Run(RunFault::Read))
-        }
-    }
-}
-
-/// Prints the program that a file of that name describes.
-fn describe<R: Read + Drop>(
-    rt: &HostRuntime,
-    path: &str,
-    file: R,
+    purpose: Purpose,
     programs: &mut Vec<Program>,
 ) -> Result<(), DescriptionFault> {
     let mut reader = WatchedReader::new(file);
     let mut writer = WatchedWriter::new(io::writer(rt));
-    let answer = print_description(rt.alloc(), &mut reader, &mut writer, programs);
+    let answer = match purpose {
+        Purpose::Naming => take_description(rt.alloc(), &mut reader, programs),
+        Purpose::Printing => print_description(rt.alloc(), &mut reader, &mut writer, programs),
+    };
     if let Err(fault) = &answer {
         explain_fault(rt, path, *fault, reader.error(), writer.is_closed());
     }

@@ -1,4 +1,4 @@
-//! A reader and a writer that remember what a fault came of.
+//! A reader and a writer that remember the cause of a fault.
 use std::io::{self, ErrorKind, Read, Write};
 use xns_captures::is_capture;
 

@@ -1,10 +1,12 @@
--- A file by its first bytes, and what stands where nothing more than these was read.
+-- A file by its first bytes, and where a mode stops if nothing more than these was read.
 use Rattle.std.proofs.Common.{◌≡◌, ◌∙◌, ap, sym, refl, arith, ℕ, ◌<◌, Bool, true, false, nat_lt, List, [], ◌∷◌, ◌++◌, length, append-nil, subst, Option, Some, None, Result, Ok, Err, inl}
 use Rattle.std.specs.Prelude.{IfErr, IfSome}
 use Rattle.std.proofs.lemmas.Bool.{le-ltb}
 use Rattle.std.specs.Fmt.{option_append}
 use Rattle.std.specs.Io.KnownBytes.{Appends, Consumes, IsAtEnd}
 use Rattle.xns_lines.specs.Lines.{split_at_newlines}
+use Rattle.xns_lines.specs.Printing as printing
+use Rattle.xns_lines.specs.Printing.{EndCount, TextWithEnd}
 use Rattle.xns_lines.specs.declared.fault.RunFault.TheVariants as run
 use Rattle.xns_captures.specs.Captures.{packets_of}
 use Rattle.xns_captures.specs.Parts.{is_capture}
@@ -57,47 +59,37 @@ module _ (programs : Programs) where
   stops_in_file times mode b old whole left before after (Ok refused) same stops = tt
   stops_in_file times mode b old whole left before after (Err fault) same stops = of_file times mode b old whole left before after fault same stops
 
--- ---- where no more can be read
+-- ---- nothing can be read behind the first bytes
 
 nothing_more : (held : Option (List ℕ)) → Appends held held []
 nothing_more None = tt
 nothing_more (Some bytes) = sym (append-nil bytes)
 
+nothing_printed : (most : ℕ) (text_of : TextWithEnd (List ℕ)) (end_count : EndCount (List ℕ)) (file : List ℕ) (held : Option (List ℕ)) → text_of [] 0 ≡ []
+    → printing.StopsIn most text_of end_count file (Some file) held held run.Read
+unfolding split_at_newlines
+nothing_printed most text_of end_count file held none = record {
+  read = [];
+  consumed = refl;
+  front = ([], nothing_more held, (text_of [] (end_count []), refl));
+  stops = record {
+    good = [];
+    next = [];
+    part = 0;
+    lines = refl;
+    within = record { short = refl; few = omega arith };
+    shown = refl;
+    few = omega arith;
+    place = inl refl;
+    is_left = subst (Appends held held) (sym none) (nothing_more held);
+  };
+}
+
 module _ (programs : Programs) where
   lines_at_first : (mode : Mode) (file : List ℕ) (held : Option (List ℕ)) → StopsIn programs mode file (Some file) held held run.Read
   unfolding split_at_newlines
-  lines_at_first Dump file held = record {
-    read = [];
-    consumed = refl;
-    front = ([], nothing_more held, ([], refl));
-    stops = record {
-      good = [];
-      next = [];
-      part = 0;
-      lines = refl;
-      within = record { short = refl; few = omega arith };
-      shown = refl;
-      few = omega arith;
-      place = inl refl;
-      is_left = nothing_more held;
-    };
-  }
-  lines_at_first Calls file held = record {
-    read = [];
-    consumed = refl;
-    front = ([], nothing_more held, ([], refl));
-    stops = record {
-      good = [];
-      next = [];
-      part = 0;
-      lines = refl;
-      within = record { short = refl; few = omega arith };
-      shown = refl;
-      few = omega arith;
-      place = inl refl;
-      is_left = nothing_more held;
-    };
-  }
+  lines_at_first Dump file held = nothing_printed _ _ _ file held refl
+  lines_at_first Calls file held = nothing_printed _ _ _ file held refl
   lines_at_first Sim file held = record {
     read = [];
     consumed = refl;

@@ -1,4 +1,4 @@
--- What the command of each mode prints and answers.
+-- What the command of each mode prints and returns.
 use Rattle.std.specs.Prelude.{Bool, List, ℕ, Option}
 use Rattle.xns_calls.specs.Calls as calls
 use Rattle.xns_calls.specs.Naming.{Programs}

@@ -27,14 +27,15 @@ IsUnread run.Read = Unit {0}
 IsUnread run.NoMemory = Unit {0}
 IsUnread _ = ⊥
 
-abbrev pub IsRefused : DescriptionFault → List ℕ → List Program → Type 0
-IsRefused (Wrong line column reason) text before = IsWrong line column reason text before
-IsRefused (Run fault) text before = IsUnread fault
+-- this fault is why the text, read behind these programs, is no program
+abbrev pub IsFaultOf : DescriptionFault → List ℕ → List Program → Type 0
+IsFaultOf (Wrong line column reason) text before = IsWrong line column reason text before
+IsFaultOf (Run fault) text before = IsUnread fault
 
 -- a text was read behind these programs
-abbrev pub IsRead : Result Program DescriptionFault → List ℕ → List Program → Type 0
-IsRead (Ok program) text before = IsProgram program text before
-IsRead (Err fault) text before = IsRefused fault text before
+abbrev pub IsDescribed : Result Program DescriptionFault → List ℕ → List Program → Type 0
+IsDescribed (Ok program) text before = IsProgram program text before
+IsDescribed (Err fault) text before = IsFaultOf fault text before
 
 -- the text is one program more, whose lines are so written
 abbrev pub IsTaken : List ℕ → List Program → List Program → (List ℕ → Type 0) → Type 0
@@ -42,19 +43,19 @@ IsTaken text before after writes =
     (program : Program) × IsProgram program text before × (after ≡ before ++ program ∷ []) × writes (program_text (resolved_model program))
 
 -- a text was read behind these programs, and its program was put behind them
-abbrev pub Takes : Result Unit DescriptionFault → List ℕ → List Program → List Program → Type 0
-Takes (Ok done) text before after = (program : Program) × IsProgram program text before × (after ≡ before ++ program ∷ [])
-Takes (Err fault) text before after = IsRefused fault text before × (after ≡ before)
+abbrev pub TakesDescription : Result Unit DescriptionFault → List ℕ → List Program → List Program → Type 0
+TakesDescription (Ok done) text before after = (program : Program) × IsProgram program text before × (after ≡ before ++ program ∷ [])
+TakesDescription (Err fault) text before after = IsFaultOf fault text before × (after ≡ before)
 
 -- after a fault nothing is written or taken, but where the write failed
-abbrev pub Stops : DescriptionFault → List ℕ → List Program → List Program → Option (List ℕ) → Option (List ℕ) → Type 0
-Stops (Run run.Write) text before after held written = IsTaken text before after (AppendsPart held written)
-Stops fault text before after held written = IsRefused fault text before × (after ≡ before) × (written ≡ held)
+abbrev pub StopsPrinting : DescriptionFault → List ℕ → List Program → List Program → Option (List ℕ) → Option (List ℕ) → Type 0
+StopsPrinting (Run run.Write) text before after held written = IsTaken text before after (AppendsPart held written)
+StopsPrinting fault text before after held written = IsFaultOf fault text before × (after ≡ before) × (written ≡ held)
 
 -- a text was read behind these programs, and its program's lines were written
 abbrev pub Prints : Result Unit DescriptionFault → List ℕ → List Program → List Program → Option (List ℕ) → Option (List ℕ) → Type 0
 Prints (Ok done) text before after held written = IsTaken text before after (Appends held written)
-Prints (Err fault) text before after held written = Stops fault text before after held written
+Prints (Err fault) text before after held written = StopsPrinting fault text before after held written
 
 -- the program's exit status
 abbrev pub status_of : Result Unit DescriptionFault → ℕ

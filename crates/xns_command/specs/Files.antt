@@ -1,4 +1,4 @@
--- What the command of each mode prints and answers of a file, which is a capture or has lines.
+-- What the command of each mode prints and returns of a file, which is a capture or has lines.
 use Rattle.std.specs.Prelude.{Bool, true, List, ℕ, Option}
 use Rattle.xns_calls.specs.Files as calls
 use Rattle.xns_calls.specs.Naming.{Programs}

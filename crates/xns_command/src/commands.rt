@@ -13,7 +13,7 @@ use xns_lines::RunFault;
 use xns_sim::sim;
 
 /// Runs the command of the mode, which reads the reader to its end, and writes to the writer. `calls` names calls by the
-/// programs, where some are given. The answer is whether a line was refused.
+/// programs, where some are given. The result says whether a line was refused.
 ///
 /// # Errors
 /// Those of the command: `dump`, `calls` or `sim`.

@@ -3,7 +3,7 @@ ghost use Rattle.std.specs.Prelude.{◌≡◌, ◌+◌, IfOk, IfSome, length};
 ghost use Rattle.courier_notation.specs.Lexing.{most_text};
 ghost use Rattle.courier_programs.specs.Meanings.{resolved_model};
 ghost use Rattle.call_texts.specs.Listing.{program_text};
-ghost use Rattle.xns_command.specs.Descriptions.{IsRead, Prints, Takes};
+ghost use Rattle.xns_command.specs.Descriptions.{IsDescribed, Prints, TakesDescription};
 
 use crate::description_fault::DescriptionFault;
 use crate::files::read_first;
@@ -16,7 +16,7 @@ use xns_lines::{RunFault, write_whole};
 
 /// The program that a text describes, behind those that were read before it.
 fn read_whole(alloc: Global, text: &[u8], before: &[Program]) -> Result<Program, DescriptionFault>
-    ensures { IsRead result text.now before.now }
+    ensures { IsDescribed result text.now before.now }
 {
     match read_text(alloc, text, before) {
         Ok(program) => Ok(program),
@@ -42,7 +42,7 @@ pub fn read_description<R: Read>(
     reader: &mut R,
     before: &[Program],
 ) -> Result<Program, DescriptionFault>
-    ensures { IfSome (R.remaining reader.old) (λ text. IsRead result text before.now) }
+    ensures { IfSome (R.remaining reader.old) (λ text. IsDescribed result text before.now) }
 {
     let mut room = vec![in alloc; 0u8; MOST_TEXT + 1]?;
     read_into(alloc, reader, &mut room, before)
@@ -56,7 +56,7 @@ fn read_into<R: Read>(
     before: &[Program],
 ) -> Result<Program, DescriptionFault>
     requires { length room.old ≡ most_text + 1 }
-    ensures { IfSome (R.remaining reader.old) (λ text. IsRead result text before.now) }
+    ensures { IfSome (R.remaining reader.old) (λ text. IsDescribed result text before.now) }
 {
     match read_first(reader, room) {
         Ok(count) => read_whole(alloc, &room[..count], before),
@@ -73,7 +73,7 @@ pub fn take_description<R: Read>(
     reader: &mut R,
     programs: &mut Vec<Program>,
 ) -> Result<(), DescriptionFault>
-    ensures { IfSome (R.remaining reader.old) (λ text. Takes result text programs.old.items programs.new.items) }
+    ensures { IfSome (R.remaining reader.old) (λ text. TakesDescription result text programs.old.items programs.new.items) }
 {
     let program = read_description(alloc, reader, programs)?;
     programs.push(program)?;

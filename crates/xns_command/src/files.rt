@@ -18,7 +18,7 @@ const FIRST: usize = 4;
 
 /// Runs the command of the mode over a file, which is a capture, known by its first bytes, or a file of lines; the script
 /// of `sim` has lines always. Of times only those of a capture are printed, by `calls`, which names calls by the programs,
-/// where some are given. The answer is whether something was refused.
+/// where some are given. The result says whether something was refused.
 ///
 /// # Errors
 /// Those of the command: `dump`, `calls` or `sim`, or `dump_capture` or `calls_capture`.

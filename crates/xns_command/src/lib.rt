@@ -16,4 +16,4 @@ pub use descriptions::{print_description, read_description, take_description};
 pub use files::perform_file;
 pub use mode::Mode;
 pub use refusal::Refusal;
-pub use status::{answer_status, description_status, file_status, refusal_status};
+pub use status::{answer_status, description_status, refusal_status};

@@ -4,8 +4,6 @@ ghost use Rattle.xns_command.specs.Descriptions.{status_of};
 
 use crate::description_fault::DescriptionFault;
 use crate::refusal::Refusal;
-use xns_captures::FileFault;
-use xns_lines::RunFault;
 
 /// All is fine, or help was asked for.
 const FINE: u8 = 0;
@@ -16,9 +14,9 @@ const WRONG_WORDS: u8 = 2;
 /// Reading or writing failed, a limit was passed, or there was no memory.
 const FAULT: u8 = 3;
 
-/// The program's exit status for an answer: 0 where all was fine, 1 where a line was refused, 3 after a fault. It is
-/// never 2, which is for a wrong command line.
-pub fn answer_status(answer: &Result<bool, RunFault>) -> u8
+/// The program's exit status for what a mode returned: 0 where all was fine, 1 where something was refused, 3 after a fault,
+/// whatever it was. No mode ends with 2, which is for a wrong command line.
+pub fn answer_status<E>(answer: &Result<bool, E>) -> u8
     ensures fine { answer.now ≡ Ok false → result ≡ 0 }
     ensures refused { answer.now ≡ Ok true → result ≡ 1 }
     ensures fault { MatchResult answer.now (λ _. result ≢ 3) (λ _. result ≡ 3) }
@@ -31,21 +29,7 @@ pub fn answer_status(answer: &Result<bool, RunFault>) -> u8
     }
 }
 
-/// The program's exit status for an answer about a file, by the same rule.
-pub fn file_status(answer: &Result<bool, FileFault>) -> u8
-    ensures fine { answer.now ≡ Ok false → result ≡ 0 }
-    ensures refused { answer.now ≡ Ok true → result ≡ 1 }
-    ensures fault { MatchResult answer.now (λ _. result ≢ 3) (λ _. result ≡ 3) }
-    ensures never { result ≢ 2 }
-{
-    match answer {
-        Ok(false) => FINE,
-        Ok(true) => LINE_REFUSED,
-        Err(_) => FAULT,
-    }
-}
-
-/// The program's exit status for an answer about descriptions of programs: 0 where all was fine, 2 where a description is
+/// The program's exit status for what reading descriptions of programs returned: 0 where all was fine, 2 where a description is
 /// wrong, 3 after another fault.
 pub fn description_status(answer: &Result<(), DescriptionFault>) -> u8
     ensures { result ≡ status_of answer.now }

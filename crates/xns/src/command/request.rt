@@ -8,11 +8,11 @@ pub enum Request<'a> {
     /// To run a mode.
     Run {
         mode: Mode,
-        /// The name of the file that it reads, if one is named; `-` stands for standard input.
+        /// The name of the file that the mode reads, if one is named; `-` stands for standard input.
         file: Option<&'a str>,
-        /// Which times it prints of a capture.
+        /// Which times of a capture the mode prints.
         times: Times,
-        /// The names of the files that describe the programs by which it names calls, in order; `-` stands for standard input.
+        /// The names of the files that describe the programs by which calls are named, in order; `-` stands for standard input.
         descriptions: Vec<&'a str>,
     },
     /// To print the programs that files describe.

@@ -5,10 +5,10 @@ use Rattle.courier_programs.specs.declared.program.Program.{Program}
 use Rattle.courier_programs.specs.Meanings.{resolved_model}
 use Rattle.call_texts.specs.Listing.{program_text}
 use Rattle.xns_lines.specs.Faults.{AppendsPart}
-use Rattle.xns_command.specs.Descriptions.{IsProgram, IsRead, IsTaken}
+use Rattle.xns_command.specs.Descriptions.{IsProgram, IsDescribed, IsTaken}
 use Rattle.xns_command.proofs.descriptions.print_description.Goals as goal
 
-taken : (old : Option (List ℕ)) (program : Program) (seen before after : List Program) (writes : List ℕ → Type 0) → seen ≡ before → IfSome old (λ text. IsRead (Ok program) text seen)
+taken : (old : Option (List ℕ)) (program : Program) (seen before after : List Program) (writes : List ℕ → Type 0) → seen ≡ before → IfSome old (λ text. IsDescribed (Ok program) text seen)
     → after ≡ before ++ program ∷ [] → writes (program_text (resolved_model program)) → IfSome old (λ text. IsTaken text before after writes)
 taken None program seen before after writes same is grown written = tt
 taken (Some text) program seen before after writes same is grown written = (program, subst (λ xs. IsProgram program text xs) same is, grown, written)

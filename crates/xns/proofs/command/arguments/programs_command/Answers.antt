@@ -1,15 +1,12 @@
-use Rattle.std.proofs.Common.{◌≡◌, ◌∙◌, ap, ap₂, rules, Option, Some, None, Result, Ok, Err, codes, false, true}
-use Rattle.std.specs.Prelude.{IfOk, IsSomeAnd}
+use Rattle.std.proofs.Common.{◌≡◌, ◌∙◌, ap, ap₂, rules, Option, Some, None, codes, false, true}
+use Rattle.std.specs.Prelude.{IsSomeAnd}
 use Rattle.clap.specs.Lexer.{usize_max}
 use Rattle.clap.specs.Words.{Rule, app_of, new_app, new_rule, rule_of, with_rule}
 use Rattle.clap.specs.declared.builder.arg.Arg.{Arg}
 use Rattle.clap.specs.declared.builder.range.ValueRange.{ValueRange}
 use Rattle.xns.specs.Command.Arguments.{files_rule}
+use Rattle.xns.proofs.Locals.{if_ok}
 use Rattle.xns.proofs.command.arguments.programs_command.Goals as goal
-
-if_ok : {T E : Type 0} (P Q : T → Type 0) (r : Result T E) → IfOk r P → ((x : T) → P x → Q x) → IfOk r Q
-if_ok P Q (Ok x) h f = f x h
-if_ok P Q (Err e) h f = tt
 
 given : (o : Option ValueRange) → IsSomeAnd o (λ r. r ≡ record { start_inclusive = 1; end_inclusive = usize_max }) → o ≡ Some (record { start_inclusive = 1; end_inclusive = usize_max })
 given (Some r) h = ap Some h
