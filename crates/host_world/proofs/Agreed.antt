@@ -5,14 +5,14 @@ use Rattle.courier_sessions.specs.declared.program.Program.{Program}
 use Rattle.item_world.specs.declared.side.Side.TheVariants.{A, B}
 use Rattle.xns_connection.specs.Living.{Deeds}
 use Rattle.xns_host.specs.declared.host.Host.{Host}
-use Rattle.host_world.specs.Following.{EachFollowed, Follows, HostsStandFor, MayTake, StandsOn, stays, forgotten, stands, forgot}
+use Rattle.host_world.specs.Following.{EachFollowed, IsFollowedTo, HostsStandFor, MayTake, StandsOn, stays, forgotten, stands, forgot}
 use Rattle.host_world.specs.Meeting.{Meeting, Party}
 use Rattle.host_world.specs.declared.station.Station.{Station}
 
 pub caller_on : (h j k : Host) (here there : ℕ) (a b : Station) (programs : List Program) (m : Meeting) (taken : Option (List ℕ)) (did : ℕ → Deeds → Deeds) (gave : ℕ → List (List ℕ))
     → HostsStandFor h k here there a b programs m → EachFollowed (MayTake taken) did gave h j → MayTake taken m A → StandsOn m A (did here) (gave here) (HostsStandFor j k here there a b programs)
 caller_on h j k here there a b programs m taken did gave s each z = by (each here s.calls.guest s.calls.there a b programs m A s.meets s.calls.same z) where
-  by : Follows a b programs m A (did here) (gave here) (slice_get j.guests.items here) → StandsOn m A (did here) (gave here) (HostsStandFor j k here there a b programs)
+  by : IsFollowedTo a b programs m A (did here) (gave here) (slice_get j.guests.items here) → StandsOn m A (did here) (gave here) (HostsStandFor j k here there a b programs)
   by (stays g is l) = stands l.next (record {
     station = s.station;
     peer = s.peer;
@@ -25,7 +25,7 @@ caller_on h j k here there a b programs m taken did gave s each z = by (each her
 pub called_on : (h j k : Host) (here there : ℕ) (a b : Station) (programs : List Program) (m : Meeting) (taken : Option (List ℕ)) (did : ℕ → Deeds → Deeds) (gave : ℕ → List (List ℕ))
     → HostsStandFor h k here there a b programs m → EachFollowed (MayTake taken) did gave k j → MayTake taken m B → StandsOn m B (did there) (gave there) (HostsStandFor h j here there a b programs)
 called_on h j k here there a b programs m taken did gave s each z = by (each there s.called.guest s.called.there a b programs m B s.meets s.called.same z) where
-  by : Follows a b programs m B (did there) (gave there) (slice_get j.guests.items there) → StandsOn m B (did there) (gave there) (HostsStandFor h j here there a b programs)
+  by : IsFollowedTo a b programs m B (did there) (gave there) (slice_get j.guests.items there) → StandsOn m B (did there) (gave there) (HostsStandFor h j here there a b programs)
   by (stays g is l) = stands l.next (record {
     station = s.station;
     peer = s.peer;

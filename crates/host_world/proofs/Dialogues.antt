@@ -218,7 +218,7 @@ gone xs ys v p = by (is_freeing s.step) where
         inr (subst (λ (y : Happening). Happened y (λ z. is_news z || is_going z) xs) c.1 c.2))
   ]
 
--- ---- nothing is told behind that
+-- ---- nothing is told behind the close
 
 told_on : {d : Dialogue} {x : Happening} {w : View} → Move (held d) x w → d.told ≡ true → (is_going x ≡ true) ⊎ ((e : Dialogue) × (w ≡ held e) × (e.told ≡ true))
 told_on (calling d c ours even unasked unanswered) t = inr (record d { calls = d.calls ++ call_message (transaction_of (length d.calls + 1)) c ∷ [] }, refl, t)

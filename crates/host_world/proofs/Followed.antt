@@ -32,9 +32,9 @@ use Rattle.xns_host.specs.Strays.{StrayQueue}
 use Rattle.xns_host.specs.declared.register.Register.{Register}
 use Rattle.xns_agenda.specs.Clock.{time_at}
 use Rattle.xns_agenda.specs.Waiting.{due_time}
-use Rattle.host_world.specs.Following.{MayTake, EachFollowed, Follows, HasDone, HasGiven, IsFollowed, MayBeForgotten, deed_of, did_at, gave_at, gave_none}
+use Rattle.host_world.specs.Following.{MayTake, EachFollowed, IsFollowedTo, ProgramHasDone, HasGiven, IsFollowed, MayBeForgotten, deed_of, did_at, gave_at, gave_none}
 use Rattle.host_world.specs.Following as following
-use Rattle.host_world.specs.Guests.{GoesOn, packets_in}
+use Rattle.host_world.specs.Guests.{LeadsOn, packets_in}
 use Rattle.host_world.specs.Meeting.{Meeting, at}
 use Rattle.host_world.specs.Pairing.{no_more, one_message_more}
 use Rattle.host_world.specs.Seen.{number_of}
@@ -77,7 +77,7 @@ went_goes now deed (Some (Some f)) (Some None) g w e = absurd w
 went_goes now deed (Some (Some f)) (Some (Some k)) g w e = (k, refl, subst (λ (x : Guest). GuestStep now deed x k) (one_guest f g e) w)
 
 turn_followed : (now number : ℕ) (deed : deeds.Deed) (did : Deeds → Deeds) (h j : Host) → Turn now number deed (Ok tt) h j
-    → ((g k : Guest) → slice_get h.guests.items number ≡ Some (Some g) → GuestStep (time_at h.clock now) deed g k → GoesOn g k did [])
+    → ((g k : Guest) → slice_get h.guests.items number ≡ Some (Some g) → GuestStep (time_at h.clock now) deed g k → LeadsOn g k did [])
     → EachFollowed (MayTake None) (did_at number did) gave_none h j
 turn_followed now number deed did h j t each =
     did_there (MayTake None) number did h j (λ k other. subst (Still (slice_get h.guests.items k)) (sym (t.apart.others k other)) (still (slice_get h.guests.items k)))
@@ -94,15 +94,15 @@ message_deed number (messages.Return transaction words) = refl
 message_deed number (messages.Abort transaction error words) = refl
 
 event_goes : (law : AStepKeepsItsPromises) (now number : ℕ) (g h : Guest) (event : Event) (o : Option Message) → GuestTells now g h → waiting_message g.connection.conversation.side ≡ o
-    → event_by number o (if g.connection.told then None else g.connection.closed) ≡ Some event → GoesOn g h (deed_of event) []
+    → event_by number o (if g.connection.told then None else g.connection.closed) ≡ Some event → LeadsOn g h (deed_of event) []
 event_goes law now number g h event (Some m) t is e =
     let same : event_of number m ≡ event = cc in
-    subst (λ (d : Deeds → Deeds). GoesOn g h d []) (sym (message_deed number m) ∙ ap deed_of same) (hands now m g h law t is)
+    subst (λ (d : Deeds → Deeds). LeadsOn g h d []) (sym (message_deed number m) ∙ ap deed_of same) (hands now m g h law t is)
 event_goes law now number g h event None t is e =
     let w = why_by number g.connection.told g.connection.closed event e in
-    subst (λ (x : Event). GoesOn g h (deed_of x) []) w.3 (tells now g h t is)
+    subst (λ (x : Event). LeadsOn g h (deed_of x) []) w.3 (tells now g h t is)
 
-became_goes : (p : Places) (number : ℕ) (g h : Guest) (did : Deeds → Deeds) → slice_get p.guests number ≡ Some (Some g) → GoesOn g h did [] → Goes did [] g (slice_get (became p number h).guests number)
+became_goes : (p : Places) (number : ℕ) (g h : Guest) (did : Deeds → Deeds) → slice_get p.guests number ≡ Some (Some g) → LeadsOn g h did [] → Goes did [] g (slice_get (became p number h).guests number)
 became_goes p number g h did was on a b programs m side meets here = by (may_go h.connection) refl where
   there : slice_get (seated p number h).guests number ≡ Some (Some h)
   there = at_place p.guests number (Some h) (slice_get_within p.guests number (Some g) was)
@@ -177,7 +177,7 @@ connect_followed now way socket peer number h j c =
 
 -- ---- all that the program does
 
-pub done_followed : (law : AStepKeepsItsPromises) (h j : Host) (did : ℕ → Deeds → Deeds) → HasDone h j did → EachFollowed (MayTake None) did gave_none h j
+pub done_followed : (law : AStepKeepsItsPromises) (h j : Host) (did : ℕ → Deeds → Deeds) → ProgramHasDone h j did → EachFollowed (MayTake None) did gave_none h j
 done_followed law h j did (following.called now number c t) = turn_followed now number (deeds.made c) _ h j t (λ g k e s. calls (time_at h.clock now) c g k law s)
 done_followed law h j did (following.answered now number n kind words f there asked t) =
     turn_followed now number (deeds.gave kind words) _ h j t

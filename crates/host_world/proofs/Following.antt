@@ -14,9 +14,9 @@ use Rattle.xns_host.specs.Went.{GuestGives}
 use Rattle.xns_host.specs.declared.guest.Guest.{Guest}
 use Rattle.xns_host.specs.declared.host_fault.HostFault.{HostFault}
 use Rattle.xns_host.specs.declared.outgoing.Outgoing.{Outgoing}
-use Rattle.host_world.specs.Following.{MayTake, EachFollowed, Follows, HasDone, HasGiven, IsFollowed, MayBeForgotten, deed_of, did_at, gave_at, gave_none}
+use Rattle.host_world.specs.Following.{MayTake, EachFollowed, IsFollowedTo, ProgramHasDone, HasGiven, IsFollowed, MayBeForgotten, deed_of, did_at, gave_at, gave_none}
 use Rattle.host_world.specs.Following as following
-use Rattle.host_world.specs.Guests.{GoesOn, LeadsTo, packets_in}
+use Rattle.host_world.specs.Guests.{LeadsOn, LeadsTo, packets_in}
 use Rattle.host_world.specs.Meeting.{Meeting, at}
 use Rattle.host_world.specs.Meets.{Meets}
 use Rattle.host_world.specs.Pairing.{no_more}
@@ -37,12 +37,12 @@ abbrev pub Goes : (did : Deeds → Deeds) (gave : List (List ℕ)) (g : Guest) (
 Goes did gave g place = (a b : Station) (programs : List Program) (m : Meeting) (side : Side) → Meets a b programs m → (at m side).conversation ≡ g.connection.conversation
     → Led a b programs m side did gave place
 
--- who was there went on by itself, and nobody came
+-- a guest that was there went on by itself, and no guest came
 pub record Still (old new : Option (Option Guest)) : Type 0 where
   pub none : old ≡ Some None → new ≡ Some None
   pub goes : (g : Guest) → old ≡ Some (Some g) → Goes no_more [] g new
 
-pub at_once : (g : Guest) → GoesOn g g no_more []
+pub at_once : (g : Guest) → LeadsOn g g no_more []
 at_once g a b programs m side meets here = record { next = m; meets = meets; same = here; does = stays_so m side }
 
 joined : {a b : Station} {programs : List Program} {m : Meeting} {side : Side} {g h : Guest} {did : Deeds → Deeds} {gave : List (List ℕ)}
@@ -109,7 +109,7 @@ set_still gs number old new is one k = by (same_or_other k number) where
       (subst (Still (Some old)) (sym (at_place gs number new (slice_get_within gs number old is))) one))
   by (inr other) = subst (Still (slice_get gs k)) (sym (beside gs number k new other)) (still (slice_get gs k))
 
-guest_still : (g h : Guest) → GoesOn g h no_more [] → Still (Some (Some g)) (Some (Some h))
+guest_still : (g h : Guest) → LeadsOn g h no_more [] → Still (Some (Some g)) (Some (Some h))
 guest_still g h on = record {
   none = λ e. absurd (cc);
   goes = λ k e a b programs m side meets here. led h (on a b programs m side meets (here ∙ ap (λ (x : Guest). x.connection.conversation) (sym (one_guest g k e))));
@@ -122,7 +122,7 @@ forgotten_still g may = record {
       left g (at_once g a b programs m side meets (here ∙ ap (λ (x : Guest). x.connection.conversation) (sym (one_guest g k e)))) may;
 }
 
-pub turns_still : (P : Guest → Guest → Type 0) (number : ℕ) (p r : Places) → ((g h : Guest) → P g h → GoesOn g h no_more []) → Turns P number p r → EachStill p.guests r.guests
+pub turns_still : (P : Guest → Guest → Type 0) (number : ℕ) (p r : Places) → ((g h : Guest) → P g h → LeadsOn g h no_more []) → Turns P number p r → EachStill p.guests r.guests
 turns_still P number p r each t =
     subst (EachStill p.guests) (sym (ap (λ (q : Places). q.guests) t.is)) (set_still p.guests number (Some t.guest) (Some t.next) t.was (guest_still t.guest t.next (each t.guest t.next t.turn)))
 
@@ -147,7 +147,7 @@ all_act now p (Acts.another {q = q} {r = r} number before first act) = each_then
 pub no_packet : (law : AStepKeepsItsPromises) (now number : ℕ) (result : Result (Option Outgoing) HostFault) (p r : Places) → packets_in result ≡ [] → Turns (GuestGives now result) number (packet_passed p number) r
     → EachStill p.guests r.guests
 no_packet law now number result p r none t =
-    turns_still (GuestGives now result) number (packet_passed p number) r (λ g h s. subst (GoesOn g h no_more) none (gives now result g h law s)) t
+    turns_still (GuestGives now result) number (packet_passed p number) r (λ g h s. subst (LeadsOn g h no_more) none (gives now result g h law s)) t
 
 pub gives_none : (law : AStepKeepsItsPromises) (now : ℕ) (p : Places) {r : Places} → GivesNone now p r → EachStill p.guests r.guests
 gives_none law now p GivesNone.nobody = all_still p.guests
@@ -163,10 +163,10 @@ pub in_vain : (now : ℕ) (p : Places) {r : Places} → AsksInVain now p r → E
 in_vain now p AsksInVain.nobody = all_still p.guests
 in_vain now p (AsksInVain.another {q = q} {r = r} number before first asked) = each_then p.guests q.guests r.guests (in_vain now p before) (asked_none now number q asked)
 
--- ---- as it is told
+-- ---- what becomes of a guest in the words of the law
 
 pub follows : {a b : Station} {programs : List Program} {m : Meeting} {side : Side} {did : Deeds → Deeds} {gave : List (List ℕ)} {place : Option (Option Guest)}
-    → Led a b programs m side did gave place → Follows a b programs m side did gave place
+    → Led a b programs m side did gave place → IsFollowedTo a b programs m side did gave place
 follows (led h l) = following.stays h refl l
 follows (left h l may) = following.forgotten h l may
 

@@ -102,7 +102,7 @@ next_by x None y older = subst (λ (l : List (List ℕ)). GivesBy x.state l (new
 next_gives : (x : Giving) → GivesBy x.state x.packets (next_of x)
 next_gives x = next_by x (older x).0 (older x).1 (older_is x)
 
--- ---- where memory was refused none is given
+-- ---- where memory was refused no packet is given
 
 dry : (x : Giving) (o : Option (List ℕ)) (y : Giving) → Older x o y → o ≡ None → IsDry x.state y × (x.packets ≡ [])
 dry x (Some p) y older is = absurd (cc)
@@ -122,12 +122,12 @@ short_gives x (at_word none) =
       is = ap (λ (l : List (List ℕ)). l ++ flush_answer s) (sym d.0.made) ∙ ap (λ (l : List (List ℕ)). l ++ (made_on d.0.path ++ flush_answer s)) (sym d.1);
     }
 
--- nor by a dead connection
+-- a dead connection gives nothing; another one gives what it is to give next
 unless_gives : (dead : Bool) (x : Giving) → GivesBy x.state x.packets (next_unless dead x)
 unless_gives true x = record { path = start; quiet = record { accepted = refl; handed = refl; taken = refl }; is = sym (append-nil x.packets) }
 unless_gives false x = next_gives x
 
--- ---- a conversation gives it
+-- ---- the packet that a conversation gives
 
 gives_by : (c d : Conversation) (owed now_owed : Owed) (h : Story) (p : Option (List ℕ)) (y : Option (List ℕ) × Giving) → Tells c h → d.side ≡ c.side → d.closing ≡ c.closing
     → GivesBy h.state c.packets.items y → p ≡ y.0 → IsGiving d now_owed y.1

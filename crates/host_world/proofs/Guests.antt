@@ -28,7 +28,7 @@ use Rattle.xns_host.specs.declared.guest.Guest.{Guest}
 use Rattle.xns_host.specs.declared.host_fault.HostFault.{HostFault}
 use Rattle.xns_host.specs.declared.outgoing.Outgoing.{Outgoing}
 use Rattle.xns_connection.specs.declared.why.Why.TheVariants.{NotServed}
-use Rattle.host_world.specs.Guests.{GoesOn, HearsOn, LeadsTo, packets_in}
+use Rattle.host_world.specs.Guests.{LeadsOn, HearsOn, LeadsTo, packets_in}
 use Rattle.host_world.specs.Meeting.{Meeting, at}
 use Rattle.host_world.specs.Meets.{Meets}
 use Rattle.host_world.specs.Pairing.{no_more, one_answer_more, one_call_more, one_message_more}
@@ -59,18 +59,18 @@ stays h = record { programs = refl; path = start; made = refl; handed = refl; ta
 
 -- ---- the program's part
 
-pub calls : (now : ℕ) (c : RawCall) (g h : Guest) → AStepKeepsItsPromises → GuestStep now (deeds.made c) g h → GoesOn g h (one_call_more c) []
+pub calls : (now : ℕ) (c : RawCall) (g h : Guest) → AStepKeepsItsPromises → GuestStep now (deeds.made c) g h → LeadsOn g h (one_call_more c) []
 calls now c g h law s a b programs m side meets here =
     leads h (acts_so g.connection.conversation h.connection.conversation (λ k. record k { made = k.made ++ c ∷ [] }) (one_call_more c) s.step.packets (λ k l. calling c)
     (λ k t. (law now (deeds.made c) g.connection h.connection s.step).story k t) a b programs m side meets here)
 
-pub closes : (now : ℕ) (g h : Guest) → AStepKeepsItsPromises → GuestStep now deeds.asked g h → GoesOn g h no_more []
+pub closes : (now : ℕ) (g h : Guest) → AStepKeepsItsPromises → GuestStep now deeds.asked g h → LeadsOn g h no_more []
 closes now g h law s a b programs m side meets here =
     leads h (acts_so g.connection.conversation h.connection.conversation (λ k. k) no_more s.step.packets (λ k l. idling)
     (λ k t. (law now deeds.asked g.connection h.connection s.step).story k t) a b programs m side meets here)
 
 pub answers : (now : ℕ) (kind : Answer) (k : ℕ) (words : List ℕ) (g h : Guest) → AStepKeepsItsPromises → GuestStep now (deeds.gave kind words) g h → asked_of g.connection.conversation.side ≡ Some k
-    → GoesOn g h (one_answer_more (answer_message kind k words)) []
+    → LeadsOn g h (one_answer_more (answer_message kind k words)) []
 answers now kind k words g h law s asked a b programs m side meets here =
     leads h (acts_so g.connection.conversation h.connection.conversation (λ n. record n { answers = n.answers ++ answer_message kind k words ∷ [] }) (one_answer_more (answer_message kind k words)) s.step.packets
     (λ n l. answering kind k words asked)
@@ -98,7 +98,7 @@ packets_by now c d (none_waits none alike) = ap (λ (k : Connection). k.conversa
 packets_by now c d (calmly waits calm same) = ap (λ (p : Parts). p.conversation.packets) same
 packets_by now c d (moving_on waits busy step) = step.packets
 
-pub hands : (now : ℕ) (m : Message) (g h : Guest) → AStepKeepsItsPromises → GuestTells now g h → waiting_message g.connection.conversation.side ≡ Some m → GoesOn g h (one_message_more m) []
+pub hands : (now : ℕ) (m : Message) (g h : Guest) → AStepKeepsItsPromises → GuestTells now g h → waiting_message g.connection.conversation.side ≡ Some m → LeadsOn g h (one_message_more m) []
 hands now m g h law t is a b programs x side meets here =
     let c = g.connection in
     let some = some_waits (waiting_message c.conversation.side) m is in
@@ -108,7 +108,7 @@ hands now m g h law t is a b programs x side meets here =
     (λ k l. handing m is)
     (λ k told_it. by_hands now c h.connection m k law is told_it hand) a b programs x side meets here)
 
-pub tells : (now : ℕ) (g h : Guest) → GuestTells now g h → waiting_message g.connection.conversation.side ≡ None → GoesOn g h no_more []
+pub tells : (now : ℕ) (g h : Guest) → GuestTells now g h → waiting_message g.connection.conversation.side ≡ None → LeadsOn g h no_more []
 tells now g h t is a b programs m side meets here =
     let same : h.connection.conversation ≡ g.connection.conversation = ap (λ (k : Connection). k.conversation) (t.closed is) in
     leads h (acts_so g.connection.conversation h.connection.conversation (λ k. k) no_more (ap (λ (k : Conversation). k.packets) same) (λ k l. idling)
@@ -130,7 +130,7 @@ acts_by c d now Ask is = let same = ap (λ (p : Parts). p.conversation) is in (a
 acts_by c d now GiveUp is = let same = ap (λ (p : Parts). p.conversation) is in (ap (λ (k : Conversation). k.packets) same, λ h t. given_up_on c.conversation d.conversation h t same)
 acts_by c d now Forget is = let same = ap (λ (p : Parts). p.conversation) is in (ap (λ (k : Conversation). k.packets) same, λ h t. acted_on c.conversation d.conversation h t same)
 
-pub acts : (now : ℕ) (g h : Guest) → GuestActs now g h → GoesOn g h no_more []
+pub acts : (now : ℕ) (g h : Guest) → GuestActs now g h → LeadsOn g h no_more []
 acts now g h s a b programs m side meets here =
     let on = acts_by g.connection h.connection now (act_at g.connection.wait now) s.parts in
     leads h (acts_so g.connection.conversation h.connection.conversation (λ k. k) no_more on.0 (λ k l. idling) on.1 a b programs m side meets here)
@@ -141,7 +141,7 @@ unserved_by : (b : Bool) (c d : Connection) (now : ℕ)
 unserved_by true c d now is = let same = ap (λ (p : Parts). p.conversation) is in (ap (λ (k : Conversation). k.packets) same, λ h t. acted_on c.conversation d.conversation h t same)
 unserved_by false c d now is = let same = ap (λ (p : Parts). p.conversation) is in (ap (λ (k : Conversation). k.packets) same, λ h t. given_up_on c.conversation d.conversation h t same)
 
-pub not_served : (now : ℕ) (g h : Guest) → GuestUnserved now g h → GoesOn g h no_more []
+pub not_served : (now : ℕ) (g h : Guest) → GuestUnserved now g h → LeadsOn g h no_more []
 not_served now g h s a b programs m side meets here =
     let k = (at m side).story in
     let t = subst (λ (c : Conversation). Tells c k) here (told meets side) in
@@ -163,7 +163,7 @@ packets_given way true (Ok None) = refl
 packets_given way false (Ok None) = refl
 packets_given way left (Err e) = refl
 
-pub gives : (now : ℕ) (result : Result (Option Outgoing) HostFault) (g h : Guest) → AStepKeepsItsPromises → GuestGives now result g h → GoesOn g h no_more (packets_in result)
+pub gives : (now : ℕ) (result : Result (Option Outgoing) HostFault) (g h : Guest) → AStepKeepsItsPromises → GuestGives now result g h → LeadsOn g h no_more (packets_in result)
 gives now result g h law s a b programs m side meets here =
     let n = s.gave in
     let mid = n.mid in

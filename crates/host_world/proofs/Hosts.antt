@@ -21,7 +21,7 @@ use Rattle.xns_host.specs.declared.host.Host.{Host}
 use Rattle.xns_host.specs.declared.host_fault.HostFault.{HostFault}
 use Rattle.xns_host.specs.declared.outgoing.Outgoing.{Outgoing}
 use Rattle.host_world.specs.Dialogue.{Dialogue, new_dialogue, View, free, held, Happening, abandons, connects, opens, abandoning, connecting, opening}
-use Rattle.host_world.specs.Seen.{HasHistory, IsSaid, IsSeen, Lives, Quiet, abandons_none, begins, finds_no_room, gives_out, goes_on, has_abandoned, has_connected, has_said, is_refused, moves, news_of, number_of, of_answer, of_call, of_close, said_at, serves, takes_in, tells_nothing, was_told}
+use Rattle.host_world.specs.Seen.{NumberHasHistory, IsSaid, IsSeen, HasLived, Quiet, abandons_none, begins, finds_no_room, gives_out, goes_on, has_abandoned, has_connected, has_said, is_refused, moves, news_of, number_of, of_answer, of_call, of_close, said_at, serves, takes_in, tells_nothing, was_told}
 use Rattle.host_world.proofs.Shown.{Passes, Shows, ShowsIn, after_answer, after_call, after_close, first_said, first_unseen, hearing, stays, unserving}
 use Rattle.host_world.proofs.Numbers.{passes_then, One, AtEach, Silent, silent, silent_if, then_silent, one_changed, unsaid, of_guest, set_changed, turned, all_act, next_packet, next_event, no_event, connected_shows, opened_shows, taking}
 
@@ -123,7 +123,7 @@ says_more : (said : ℕ → List Happening) (number : ℕ) (x : Happening) (old 
 says_more said number x old new p step k =
     subst (λ (xs : List Happening). Passes xs free (slice_get new k)) (more_said said number x k) (passes_then (said k) (One number (x ∷ []) k) free (slice_get old k) (slice_get new k) (p k) (step k))
 
-lives : {h : Host} {said : ℕ → List Happening} → Lives h said → (k : ℕ) → Passes (said k) free (slice_get h.guests.items k)
+lives : {h : Host} {said : ℕ → List Happening} → HasLived h said → (k : ℕ) → Passes (said k) free (slice_get h.guests.items k)
 lives {h} (begins network host settings secret new) k =
     subst (λ (gs : List (Option Guest)). Passes [] free (slice_get gs k)) (sym new.nobody) (stays free (slice_get (replicate settings.connections None) k) (free_at_first settings.connections k))
 lives (has_connected {h = h} {j = j} {said = said} before now way socket peer number c) k =
@@ -146,7 +146,7 @@ seen (held d) None s = absurd s
 seen (held d) (Some None) s = absurd s
 seen (held d) (Some (Some g)) s = record { ours = s.ours; closed = s.closed; told = s.told }
 
-pub has_history : (h : Host) (said : ℕ → List Happening) → Lives h said → (k : ℕ) → HasHistory (slice_get h.guests.items k) (said k)
+pub has_history : (h : Host) (said : ℕ → List Happening) → HasLived h said → (k : ℕ) → NumberHasHistory (slice_get h.guests.items k) (said k)
 has_history h said l k =
     let p = lives l k in
     record { view = p.view; seen = seen p.view (slice_get h.guests.items k) p.shows; happened = p.events; course = p.course; is = p.is }

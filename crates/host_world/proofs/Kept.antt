@@ -29,8 +29,8 @@ use Rattle.xns_connection.specs.Telling.{Tells}
 use Rattle.xns_connection.specs.declared.conversation.Conversation.{Conversation}
 use Rattle.xns_connection.specs.declared.side.Side.{Side as Kind}
 use Rattle.xns_connection.specs.declared.side.Side.TheVariants.{Calls, Answers}
-use Rattle.host_world.specs.Meeting.{Meeting, at, new_meeting, led, Next, went_on, IsMade}
-use Rattle.host_world.specs.Meets.{heard, Meets, opens, acts, gives, arrives, strays, IsMet}
+use Rattle.host_world.specs.Meeting.{Meeting, at, new_meeting, led, Next, went_on, HasMade}
+use Rattle.host_world.specs.Meets.{heard_story, Meets, opens, acts, gives, arrives, strays, IsMet}
 use Rattle.host_world.specs.Pairing.{MayCome, WasMade, made as comes}
 use Rattle.host_world.specs.Station.{IsStation, calling_end, called_end}
 use Rattle.host_world.specs.declared.station.Station.{Station}
@@ -49,17 +49,17 @@ pub record StoryLaws : Type 0 where
 abbrev Sent : Type 0
 Sent = List (Side × List ℕ)
 
-still_made : (w v : World) (side : Side) (b : List ℕ) → Begins (packets_of w) (packets_of v) → IsMade w side b → IsMade v side b
+still_made : (w v : World) (side : Side) (b : List ℕ) → Begins (packets_of w) (packets_of v) → HasMade w side b → HasMade v side b
 still_made w v side b more made = (made.0, in_both (packets_of w) (packets_of v) made.0 (side, b) more made.1)
 
-all_still : (w v : World) (side : Side) (bs : List (List ℕ)) → Begins (packets_of w) (packets_of v) → All (IsMade w side) bs → All (IsMade v side) bs
-all_still w v side bs more all = All-weaker (IsMade w side) (IsMade v side) (λ b made. still_made w v side b more made) bs all
+all_still : (w v : World) (side : Side) (bs : List (List ℕ)) → Begins (packets_of w) (packets_of v) → All (HasMade w side) bs → All (HasMade v side) bs
+all_still w v side bs more all = All-weaker (HasMade w side) (HasMade v side) (λ b made. still_made w v side b more made) bs all
 
-all_made : (w : World) (base : Sent) (side : Side) (bs : List (List ℕ)) → base ++ map (by side) bs ≡ packets_of w → All (IsMade w side) bs
-all_made w base side [] e = All-nil (IsMade w side)
+all_made : (w : World) (base : Sent) (side : Side) (bs : List (List ℕ)) → base ++ map (by side) bs ≡ packets_of w → All (HasMade w side) bs
+all_made w base side [] e = All-nil (HasMade w side)
 all_made w base side (b ∷ bs) e =
     let more : (base ++ (side, b) ∷ []) ++ map (by side) bs ≡ packets_of w = append_assoc base ((side, b) ∷ []) (map (by side) bs) ∙ e in
-    All-cons (IsMade w side) b bs (length base, last_of base (side, b) (packets_of w) (map (by side) bs, more)) (all_made w (base ++ (side, b) ∷ []) side bs more)
+    All-cons (HasMade w side) b bs (length base, last_of base (side, b) (packets_of w) (map (by side) bs, more)) (all_made w (base ++ (side, b) ∷ []) side bs more)
 
 -- the mark that a packet was delivered changes neither its sender nor its bytes
 set_same : (bag : List Emitted) (k : ℕ) (x : Emitted) → slice_get bag k ≡ Some x → map sender_and_bytes (slice_set bag k (record x { delivered = true })) ≡ map sender_and_bytes bag
@@ -77,7 +77,7 @@ pub record Keeps (a b : Station) (programs : List Program) (m : Meeting) : Type 
   pub told : (side : Side) → IsToldAt a b programs side (at m side).conversation (at m side).deeds (at m side).story
   pub ends : (side : Side) → end_of m.world side ≡ (at m side).story.state
   pub holds : Holds m.world
-  pub made : (side : Side) → All (IsMade m.world side) ((at m side).given ++ (at m side).conversation.packets.items)
+  pub made : (side : Side) → All (HasMade m.world side) ((at m side).given ++ (at m side).conversation.packets.items)
 
 -- a connection goes on
 record Goes (a b : Station) (programs : List Program) (m : Meeting) (u : World) (side : Side) {base : Story} (n : Next base) (l : Deeds) (given : List (List ℕ)) : Type 0 where
@@ -86,7 +86,7 @@ record Goes (a b : Station) (programs : List Program) (m : Meeting) (u : World) 
   pub there : end_of u (other side) ≡ end_of m.world (other side)
   pub holds : Holds u
   pub bag : Begins (packets_of m.world) (packets_of u)
-  pub made : All (IsMade (led u side n.on.path) side) (given ++ n.conversation.packets.items)
+  pub made : All (HasMade (led u side n.on.path) side) (given ++ n.conversation.packets.items)
 
 more_bag : (w u : World) (side : Side) {base : Story} (n : Next base) → end_of u side ≡ base.state → Begins (packets_of w) (packets_of u) → Begins (packets_of w) (packets_of (led u side n.on.path))
 more_bag w u side n e b = (
@@ -100,7 +100,7 @@ went laws keeps {a} {b} {programs} m u A n l given k g = record {
   told = λ side. elim side as (λ s. IsToldAt a b programs s (at (went_on m u A n l given) s).conversation (at (went_on m u A n l given) s).deeds (at (went_on m u A n l given) s).story) [ A ↦ g.told | B ↦ k.told B ];
   ends = λ side. elim side as (λ s. end_of (led u A n.on.path) s ≡ (at (went_on m u A n l given) s).story.state) [ A ↦ led_end u A n.on.path g.here | B ↦ led_other u A n.on.path ∙ g.there ∙ k.ends B ];
   holds = led_holds laws keeps u A n.on.path g.here (are_items n.story.state n.tells.stands.fits) g.holds;
-  made = λ side. elim side as (λ s. All (IsMade (led u A n.on.path) s) ((at (went_on m u A n l given) s).given ++ (at (went_on m u A n l given) s).conversation.packets.items)) [
+  made = λ side. elim side as (λ s. All (HasMade (led u A n.on.path) s) ((at (went_on m u A n l given) s).given ++ (at (went_on m u A n l given) s).conversation.packets.items)) [
     | A ↦ g.made
     | B ↦ all_still m.world (led u A n.on.path) B (m.b.given ++ m.b.conversation.packets.items) (more_bag m.world u A n g.here g.bag) (k.made B)
   ];
@@ -109,7 +109,7 @@ went laws keeps {a} {b} {programs} m u B n l given k g = record {
   told = λ side. elim side as (λ s. IsToldAt a b programs s (at (went_on m u B n l given) s).conversation (at (went_on m u B n l given) s).deeds (at (went_on m u B n l given) s).story) [ A ↦ k.told A | B ↦ g.told ];
   ends = λ side. elim side as (λ s. end_of (led u B n.on.path) s ≡ (at (went_on m u B n l given) s).story.state) [ A ↦ led_other u B n.on.path ∙ g.there ∙ k.ends A | B ↦ led_end u B n.on.path g.here ];
   holds = led_holds laws keeps u B n.on.path g.here (are_items n.story.state n.tells.stands.fits) g.holds;
-  made = λ side. elim side as (λ s. All (IsMade (led u B n.on.path) s) ((at (went_on m u B n l given) s).given ++ (at (went_on m u B n l given) s).conversation.packets.items)) [
+  made = λ side. elim side as (λ s. All (HasMade (led u B n.on.path) s) ((at (went_on m u B n l given) s).given ++ (at (went_on m u B n l given) s).conversation.packets.items)) [
     | A ↦ all_still m.world (led u B n.on.path) A (m.a.given ++ m.a.conversation.packets.items) (more_bag m.world u B n g.here g.bag) (k.made A)
     | B ↦ g.made
   ];
@@ -138,11 +138,11 @@ hear_told laws a b programs B c d l h m bytes told tells on = laws.hears (Some p
 
 -- the packets that wait are the same
 waits_on : {a b : Station} {programs : List Program} (m : Meeting) (u : World) (side : Side) {base : Story} (n : Next base) → Keeps a b programs m → end_of u side ≡ base.state → Begins (packets_of m.world) (packets_of u) → n.conversation.packets ≡ (at m side).conversation.packets
-    → All (IsMade (led u side n.on.path) side) ((at m side).given ++ n.conversation.packets.items)
+    → All (HasMade (led u side n.on.path) side) ((at m side).given ++ n.conversation.packets.items)
 waits_on m u side n k e b same =
     let old = (at m side).conversation in
     let items : n.conversation.packets.items ≡ old.packets.items = cc in
-    subst (λ (bs : List (List ℕ)). All (IsMade (led u side n.on.path) side) ((at m side).given ++ bs)) (sym items)
+    subst (λ (bs : List (List ℕ)). All (HasMade (led u side n.on.path) side) ((at m side).given ++ bs)) (sym items)
     (all_still m.world (led u side n.on.path) side ((at m side).given ++ old.packets.items) (more_bag m.world u side n e b) (k.made side))
 
 itself : (w : World) → Begins (packets_of w) (packets_of w)
@@ -175,8 +175,8 @@ gives_keeps laws keeps stories {a} {b} {programs} m side packet n k out =
       there = refl;
       holds = k.holds;
       bag = itself m.world;
-      made = subst (All (IsMade v side)) is
-          (All-append (IsMade v side) (p.given ++ old) (made_on n.on.path) (all_still m.world v side (p.given ++ old) (more_bag m.world m.world side n (k.ends side) (itself m.world)) (k.made side))
+      made = subst (All (HasMade v side)) is
+          (All-append (HasMade v side) (p.given ++ old) (made_on n.on.path) (all_still m.world v side (p.given ++ old) (more_bag m.world m.world side n (k.ends side) (itself m.world)) (k.made side))
           (all_made v (packets_of m.world) side (made_on n.on.path) (sym (led_bag m.world side n.on.path (k.ends side)))));
     })
 
@@ -184,7 +184,7 @@ pub same_marked : (w : World) (k : ℕ) (x : Emitted) (side : Side) → end_of (
 same_marked w k x A = refl
 same_marked w k x B = refl
 
-arrives_keeps : EndLaws → EachStepKeepsTheOrder → StoryLaws → {a b : Station} {programs : List Program} (m : Meeting) (j : ℕ) (x : Emitted) → slice_get m.world.bag j ≡ Some x → has_passed m.world x ≡ false → (n : Next (heard (at m (other x.side)) x.bytes))
+arrives_keeps : EndLaws → EachStepKeepsTheOrder → StoryLaws → {a b : Station} {programs : List Program} (m : Meeting) (j : ℕ) (x : Emitted) → slice_get m.world.bag j ≡ Some x → has_passed m.world x ≡ false → (n : Next (heard_story (at m (other x.side)) x.bytes))
     → Keeps a b programs m → n.conversation.packets ≡ (at m (other x.side)).conversation.packets → Keeps a b programs (went_on m (answered m.world j x) (other x.side) n (at m (other x.side)).deeds (at m (other x.side)).given)
 arrives_keeps laws keeps stories {a} {b} {programs} m j x is lives n k same =
     let w : World = m.world in
@@ -206,7 +206,7 @@ arrives_keeps laws keeps stories {a} {b} {programs} m j x is lives n k same =
       made = waits_on m u side n k here bag same;
     })
 
-strays_keeps : EndLaws → EachStepKeepsTheOrder → StoryLaws → {a b : Station} {programs : List Program} (m : Meeting) (side : Side) (bytes : List ℕ) → is_ours (at m side).story.state bytes ≡ false → (n : Next (heard (at m side) bytes))
+strays_keeps : EndLaws → EachStepKeepsTheOrder → StoryLaws → {a b : Station} {programs : List Program} (m : Meeting) (side : Side) (bytes : List ℕ) → is_ours (at m side).story.state bytes ≡ false → (n : Next (heard_story (at m side) bytes))
     → Keeps a b programs m → n.conversation.packets ≡ (at m side).conversation.packets → Keeps a b programs (went_on m m.world side n (at m side).deeds (at m side).given)
 strays_keeps laws keeps stories {a} {b} {programs} m side bytes foreign n k same =
     let p = at m side in
@@ -253,9 +253,9 @@ opens_keeps laws stories a b programs c d here there calls answers none empty =
       told = λ side. elim side as (λ s. IsToldAt a b programs s (at m s).conversation (at m s).deeds (at m s).story) [ A ↦ stories.opens None (calling_end a b) c calls | B ↦ stories.opens (Some programs) (called_end b a) d answers ];
       ends = λ side. elim side as (λ s. end_of m.world s ≡ (at m s).story.state) [ A ↦ refl | B ↦ refl ];
       holds = new_holds laws a b here there;
-      made = λ side. elim side as (λ s. All (IsMade m.world s) ((at m s).given ++ (at m s).conversation.packets.items)) [
-        | A ↦ subst (All (IsMade m.world A)) (sym none) (All-nil (IsMade m.world A))
-        | B ↦ subst (All (IsMade m.world B)) (sym empty) (All-nil (IsMade m.world B))
+      made = λ side. elim side as (λ s. All (HasMade m.world s) ((at m s).given ++ (at m s).conversation.packets.items)) [
+        | A ↦ subst (All (HasMade m.world A)) (sym none) (All-nil (HasMade m.world A))
+        | B ↦ subst (All (HasMade m.world B)) (sym empty) (All-nil (HasMade m.world B))
       ];
     }
 
@@ -266,7 +266,7 @@ kept laws keeps stories a b programs here there (gives {m = m} before side packe
 kept laws keeps stories a b programs here there (arrives {m = m} before k x is lives n same) = arrives_keeps laws keeps stories m k x is lives n (kept laws keeps stories a b programs here there before) same
 kept laws keeps stories a b programs here there (strays {m = m} before side bytes foreign n same) = strays_keeps laws keeps stories m side bytes foreign n (kept laws keeps stories a b programs here there before) same
 
--- ---- what it comes to
+-- ---- the items that an end handed up
 
 abbrev handed_of : State → List Item
 handed_of s = take s.handed s.taken
@@ -289,12 +289,12 @@ is_met laws keeps stories a b programs m here there meets =
           (subst (λ (g : Story). ArePeers calls.0.story g) (sym answers.1) (subst (λ (h : Story). ArePeers h m.b.story) (sym calls.1) peers));
       given = λ side.
           let p = at m side in
-          subst (All (IsMade m.world side)) (take-append_seam p.given p.conversation.packets.items) (All-take (IsMade m.world side) (length p.given) (p.given ++ p.conversation.packets.items) (k.made side));
+          subst (All (HasMade m.world side)) (take-append_seam p.given p.conversation.packets.items) (All-take (HasMade m.world side) (length p.given) (p.given ++ p.conversation.packets.items) (k.made side));
     }
 
 -- ---- a packet that was given may come
 
-made_there : (w : World) (side : Side) (bytes : List ℕ) → IsMade w side bytes → (k : ℕ) × (x : Emitted) × (slice_get w.bag k ≡ Some x) × (sender_and_bytes x ≡ (side, bytes))
+made_there : (w : World) (side : Side) (bytes : List ℕ) → HasMade w side bytes → (k : ℕ) × (x : Emitted) × (slice_get w.bag k ≡ Some x) × (sender_and_bytes x ≡ (side, bytes))
 made_there w side bytes made = there (slice_get w.bag made.0) refl (sym (slice_get-map sender_and_bytes w.bag made.0) ∙ made.1) where
   there : (o : Option Emitted) → slice_get w.bag made.0 ≡ o → option_map sender_and_bytes o ≡ Some (side, bytes) → (k : ℕ) × (x : Emitted) × (slice_get w.bag k ≡ Some x) × (sender_and_bytes x ≡ (side, bytes))
   there None is e = absurd (cc)
@@ -311,7 +311,7 @@ pub given_may_come : EndLaws → EachStepKeepsTheOrder → StoryLaws → (a b : 
 given_may_come laws keeps stories a b programs m side bytes here there meets few given =
     let k : Keeps a b programs m = kept laws keeps stories a b programs here there meets in
     let met : IsMet programs m = is_met laws keeps stories a b programs m here there meets in
-    let x = made_there m.world side bytes (All-contains (IsMade m.world side) (at m side).given bytes (met.given side) given) in
+    let x = made_there m.world side bytes (All-contains (HasMade m.world side) (at m side).given bytes (met.given side) given) in
     comes x.0 x.1 x.2 (not_passed m.world x.1 (λ s. subst (λ (e : State). length e.taken ≤ lifetime) (sym (k.ends s)) (few s)))
     (ap (λ (y : Side × List ℕ). other y.0) x.3) (ap (λ (y : Side × List ℕ). y.1) x.3)
 
@@ -328,5 +328,5 @@ pub was_made : EndLaws → EachStepKeepsTheOrder → StoryLaws → (a b : Statio
     → Contains (at m side).given bytes → WasMade m side bytes
 was_made laws keeps stories a b programs m side bytes here there meets given =
     let met : IsMet programs m = is_met laws keeps stories a b programs m here there meets in
-    let x = made_there m.world side bytes (All-contains (IsMade m.world side) (at m side).given bytes (met.given side) given) in
+    let x = made_there m.world side bytes (All-contains (HasMade m.world side) (at m side).given bytes (met.given side) given) in
     record { place = x.0; packet = x.1; there = x.2; is = x.3; comes = λ n kept lives. comes_there side bytes x.0 x.1 n x.3 (kept.each x.0 x.1 x.2) lives }

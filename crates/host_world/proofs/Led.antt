@@ -52,7 +52,7 @@ moved_bag w side s bs =
     let at : Moment = moment s (end_of w (other side)) in
     map-append sender_and_bytes w.bag (map (emitted side at) bs) ∙ ap (λ (l : List (Side × List ℕ)). packets_of w ++ l) (sent_by side at bs)
 
--- ---- all of them
+-- ---- the world after all steps of an end
 
 pub led_end : (w : World) (side : Side) {s v : State} (p : Runs s v) → end_of w side ≡ s → end_of (led w side p) side ≡ v
 led_end w side start e = e

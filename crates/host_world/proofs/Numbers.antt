@@ -148,7 +148,7 @@ goes_from : (v : View) (g : Guest) → ((d : Dialogue) → Shows d g → MayGo d
 goes_from free g may shows = absurd shows
 goes_from (held d) g may shows = first_unseen (held d) free goes [] (Some None) (freeing d (may d shows)) refl (stays free (Some None) tt)
 
--- who became so, and is forgotten where it may be
+-- the guest at this number became another, which is forgotten where it may be
 became_so : (p : Places) (number : ℕ) (g h : Guest) (xs : List Happening) → slice_get p.guests number ≡ Some (Some g) → ((d : Dialogue) → Shows d g → Passes xs (held d) (Some (Some h)))
     → AtEach (One number xs) p.guests (became p number h).guests
 became_so p number g h xs was each = by (may_go h.connection) refl where

@@ -33,8 +33,8 @@ use Rattle.xns_connection.specs.declared.refusal.Refusal.TheVariants.{Closing}
 use Rattle.xns_connection.specs.declared.side.Side.{Side as Kind}
 use Rattle.xns_connection.specs.declared.side.Side.TheVariants.{Calls, Answers}
 use Rattle.host_world.specs.Meeting.{Meeting, at, Next, led, went_on}
-use Rattle.host_world.specs.Meets.{heard, Meets, opens, acts, gives, arrives, strays}
-use Rattle.host_world.specs.Pairing.{AreKept, connection_at, with_connection, Does, Steps, TakesIn, MayCome, made, foreign, no_more, one_call_more, one_message_more, one_answer_more}
+use Rattle.host_world.specs.Meets.{heard_story, Meets, opens, acts, gives, arrives, strays}
+use Rattle.host_world.specs.Pairing.{AreKept, connection_at, with_connection, DoesAt, Steps, StepsByBytes, MayCome, made, foreign, no_more, one_call_more, one_message_more, one_answer_more}
 use Rattle.host_world.specs.declared.pair.Pair.{Pair}
 use Rattle.host_world.specs.declared.station.Station.{Station}
 use Rattle.host_world.proofs.Led.{kept_itself, kept_marked, kept_moved, kept_then, led_kept}
@@ -65,18 +65,18 @@ pub record Onward (a b : Station) (programs : List Program) (m : Meeting) (side 
   pub next : Meeting
   pub meets : Meets a b programs next
   pub conversation : (at next side).conversation ≡ d
-  pub does : Does m next side did gave
+  pub does : DoesAt m next side did gave
 
 went_there : (m : Meeting) (u : World) (side : Side) {base : Story} (n : Next base) (l : Deeds) (given : List (List ℕ)) → (at (went_on m u side n l given) side).conversation ≡ n.conversation
 went_there m u A n l given = refl
 went_there m u B n l given = refl
 
-went_does : (m : Meeting) (u : World) (side : Side) {base : Story} (n : Next base) (did : Deeds → Deeds) (more : List (List ℕ)) → AreKept m.world.bag u.bag → Does m (went_on m u side n (did (at m side).deeds) ((at m side).given ++ more)) side did more
+went_does : (m : Meeting) (u : World) (side : Side) {base : Story} (n : Next base) (did : Deeds → Deeds) (more : List (List ℕ)) → AreKept m.world.bag u.bag → DoesAt m (went_on m u side n (did (at m side).deeds) ((at m side).given ++ more)) side did more
 went_does m u A n did more kept = record { deeds = refl; given = refl; other = refl; kept = kept_then m.world.bag u.bag (led u A n.on.path).bag kept (led_kept u A n.on.path) }
 went_does m u B n did more kept = record { deeds = refl; given = refl; other = refl; kept = kept_then m.world.bag u.bag (led u B n.on.path).bag kept (led_kept u B n.on.path) }
 
-went_idly : (m : Meeting) (u : World) (side : Side) {base : Story} (n : Next base) (did : Deeds → Deeds) → AreKept m.world.bag u.bag → Does m (went_on m u side n (did (at m side).deeds) (at m side).given) side did []
-went_idly m u side n did kept = subst (λ (given : List (List ℕ)). Does m (went_on m u side n (did (at m side).deeds) given) side did []) (append-nil (at m side).given) (went_does m u side n did [] kept)
+went_idly : (m : Meeting) (u : World) (side : Side) {base : Story} (n : Next base) (did : Deeds → Deeds) → AreKept m.world.bag u.bag → DoesAt m (went_on m u side n (did (at m side).deeds) (at m side).given) side did []
+went_idly m u side n did kept = subst (λ (given : List (List ℕ)). DoesAt m (went_on m u side n (did (at m side).deeds) given) side did []) (append-nil (at m side).given) (went_does m u side n did [] kept)
 
 pub acts_on : {a b : Station} {programs : List Program} (m : Meeting) → Meets a b programs m → (side : Side) (base : Story) (did : Deeds → Deeds) (d : Conversation) → Acts (at m side).conversation (at m side).story (at m side).deeds base (did (at m side).deeds)
     → d.packets ≡ (at m side).conversation.packets → (n : Story) → Tells d n → GoesOn base n → Onward a b programs m side d did []
@@ -111,7 +111,7 @@ pub hears_on : {a b : Station} {programs : List Program} (m : Meeting) → Meets
     → Onward a b programs m side d no_more []
 hears_on m meets side bytes d hears same (foreign strange) =
     let on = hears.on (at m side).story (told meets side) in
-    let next : Next (heard (at m side) bytes) = record { conversation = d; story = on.0; tells = on.1; on = on.2 } in
+    let next : Next (heard_story (at m side) bytes) = record { conversation = d; story = on.0; tells = on.1; on = on.2 } in
     record {
       next = went_on m m.world side next (at m side).deeds (at m side).given;
       meets = strays meets side bytes strange next same;
@@ -123,7 +123,7 @@ hears_on {a} {b} {programs} m meets side bytes d hears same (made k x here_it_is
   there hears same =
       let on = subst (λ (bs : List ℕ). Hears (at m (other x.side)).conversation d bs) (sym alike) hears in
       let goes = on.on (at m (other x.side)).story (told meets (other x.side)) in
-      let next : Next (heard (at m (other x.side)) x.bytes) = record { conversation = d; story = goes.0; tells = goes.1; on = goes.2 } in
+      let next : Next (heard_story (at m (other x.side)) x.bytes) = record { conversation = d; story = goes.0; tells = goes.1; on = goes.2 } in
       record {
         next = went_on m (answered m.world k x) (other x.side) next (at m (other x.side)).deeds (at m (other x.side)).given;
         meets = arrives meets k x here_it_is lives next same;
@@ -190,7 +190,7 @@ pair_gives p c d side packet is moves = steps p c d side no_more (option_to_list
     let one = acts_on m meets side (at m side).story no_more moves.0 idling (subst (λ (k : Conversation). moves.0.packets ≡ k.packets) (sym here) moves.2) on.0 on.1 on.2 in
     then_on one (gives_on one.next one.meets side packet d.conversation (subst (λ (k : Conversation). Gives k d.conversation packet) (sym one.conversation) moves.3)))
 
-pub pair_hears : (p : Pair) (c d : Connection) (side : Side) (bytes : List ℕ) → c ≡ connection_at p side → d.conversation.packets ≡ c.conversation.packets → Hears c.conversation d.conversation bytes → TakesIn p (with_connection p side d) side bytes
+pub pair_hears : (p : Pair) (c d : Connection) (side : Side) (bytes : List ℕ) → c ≡ connection_at p side → d.conversation.packets ≡ c.conversation.packets → Hears c.conversation d.conversation bytes → StepsByBytes p (with_connection p side d) side bytes
 pair_hears p c d side bytes is same hears = record {
   on = λ a b programs m stands comes.
       let here = stands.same side ∙ ap (λ (k : Connection). k.conversation) (sym is) in
@@ -200,10 +200,10 @@ pair_hears p c d side bytes is same hears = record {
 }
 
 -- where nothing is done, a meeting is as it was
-pub stays_so : (m : Meeting) (side : Side) → Does m m side no_more []
+pub stays_so : (m : Meeting) (side : Side) → DoesAt m m side no_more []
 stays_so m side = record { deeds = refl; given = sym (append-nil (at m side).given); other = refl; kept = kept_itself m.world.bag }
 
--- ---- what each call's clauses make of that
+-- ---- what the clauses of each function of a pair make of a step
 
 -- what is there is what was put there
 pub put : (p : Pair) (side : Side) (d : Connection) → connection_at (with_connection p side d) side ≡ d
@@ -313,7 +313,7 @@ heard_there law now bytes c d step = let k = law now (deeds.heard bytes) c d ste
 
 pub pair_takes_in : {E : Type 0} → AStepKeepsItsPromises → (p : Pair) (c d : Connection) (side : Side) (now : ℕ) (bytes : List ℕ) (packet : SppPacketModel) (r : Result (Unit {0}) E)
     → c ≡ connection_at p side → spp_packet_of bytes ≡ Ok packet → OnOk r ((b : List ℕ) → spp_packet_of b ≡ Ok packet → Step now (deeds.heard b) c d)
-    → OnOk r (TakesIn p (with_connection p side d) side bytes)
+    → OnOk r (StepsByBytes p (with_connection p side d) side bytes)
 pair_takes_in law p c d side now bytes packet (Ok u) is reads step =
     pair_hears p c d side bytes is (step bytes reads).packets (heard_there law now bytes c d (step bytes reads))
 pair_takes_in law p c d side now bytes packet (Err e) is reads step = tt

@@ -93,7 +93,7 @@ first_unseen v u x said place move e p = record {
   is = kept false x p.events e ∙ p.is;
 }
 
--- ---- it may have been closed besides
+-- ---- a connection that may have been closed besides
 
 -- what a dialogue shows of a connection, but for why it is closed: the connection may be closed where the dialogue is not
 pub record Nearly (d : Dialogue) (g : Guest) : Type 0 where
@@ -168,7 +168,7 @@ pub by_itself : (d : Dialogue) (g h : Guest) → Shows d g → h.opener ≡ g.op
     → Changes g.connection.conversation.side g.connection.conversation.closing.wanted g.connection h.connection → Passes [] (held d) (Some (Some h))
 by_itself d g h s opener heard c = settled d h (nearly_by d g h d.asked g.connection.conversation.closing.wanted s opener heard c s.asked)
 
--- ---- the program closes it
+-- ---- the program closes a connection
 
 pub after_close : (now : ℕ) (d : Dialogue) (g h : Guest) → Shows d g → GuestStep now deeds.asked g h → Passes (asks ∷ []) (held d) (Some (Some h))
 after_close now d g h s step =

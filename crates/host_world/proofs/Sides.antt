@@ -172,7 +172,7 @@ talk_kept cs rs = record {
   stops = λ t n is h. subst (HasCalls cs rs) (sym is) (record { number = h.number; waits = h.waits; has = h.has; even = h.even });
 }
 
--- ---- one that is called
+-- ---- the side that is called
 
 server_fed : (a b c d : Bool) (r : Result Answering SessionFault) (n : Answering)
     → (if a then Err Stopped else if b then Err Busy else if c then Err Attention else if d then Err TooLong else heard r) ≡ Ok n

@@ -213,7 +213,7 @@ pub acts : (now : ℕ) (c e : Connection) (s : State) → StandsFor c.conversati
     → Changes c.conversation.side c.conversation.closing.wanted c e
 acts now c e s stands is = acts_by c e now (act_at c.wait now) s stands refl is
 
--- ---- nobody hears it there
+-- ---- nobody hears the packet at its target
 
 unserved_by : (b : Bool) (c e : Connection) (now : ℕ) (s : State) → StandsFor c.conversation.endpoint s → (c.closed ≢ None → b ≡ true)
     → parts_of e ≡ (if b then parts_of c else record (parts_of c) { conversation = given_up c.conversation; closed = Some NotServed; wait = lingering c.wait now })

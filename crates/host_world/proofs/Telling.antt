@@ -48,7 +48,7 @@ tells_so c d h v t stands side closing q =
           (subst (λ (l : List Item). Knows c.closing (drop (length h.fed) l)) (sym up) t.knows);
     }
 
--- ---- it is given up
+-- ---- a peer is given up
 
 deaf_drains : (s e r : Bool) → (s || (e || (r || true))) ≡ true
 deaf_drains true e r = refl

@@ -23,7 +23,7 @@ use Rattle.xns_host.specs.declared.outgoing.Outgoing.{Outgoing}
 use Rattle.host_world.specs.Guests.{LeadsTo, packets_in}
 use Rattle.host_world.specs.Meeting.{Meeting, at}
 use Rattle.host_world.specs.Meets.{Meets}
-use Rattle.host_world.specs.Pairing.{Does, MayCome, no_more, one_answer_more, one_call_more, one_message_more}
+use Rattle.host_world.specs.Pairing.{DoesAt, MayCome, no_more, one_answer_more, one_call_more, one_message_more}
 use Rattle.host_world.specs.Seen.{number_of}
 use Rattle.host_world.specs.Station.{IsStation}
 use Rattle.host_world.specs.declared.station.Station.{Station}
@@ -34,15 +34,15 @@ MayBeForgotten h = (h.connection.told ≡ true) ⊎ ((is_some h.opener ≡ true)
 
 -- steps of the meeting led on, in which the program at this side did so and the connection gave these packets, to the connection in this
 -- place; or to one that was forgotten
-pub data Follows (a b : Station) (programs : List Program) (m : Meeting) (side : Side) (did : Deeds → Deeds) (gave : List (List ℕ))
+pub data IsFollowedTo (a b : Station) (programs : List Program) (m : Meeting) (side : Side) (did : Deeds → Deeds) (gave : List (List ℕ))
     (place : Option (Option Guest)) : Type 0 where
-  stays : (h : Guest) → place ≡ Some (Some h) → LeadsTo a b programs m side h did gave → Follows a b programs m side did gave place
-  forgotten : (h : Guest) → LeadsTo a b programs m side h did gave → MayBeForgotten h → Follows a b programs m side did gave place
+  stays : (h : Guest) → place ≡ Some (Some h) → LeadsTo a b programs m side h did gave → IsFollowedTo a b programs m side did gave place
+  forgotten : (h : Guest) → LeadsTo a b programs m side h did gave → MayBeForgotten h → IsFollowedTo a b programs m side did gave place
 
 -- the connection that was in a place is followed, whatever meeting it is in, where what was done may be done to that meeting
 abbrev pub IsFollowed : (may : Meeting → Side → Type 0) (did : Deeds → Deeds) (gave : List (List ℕ)) (old new : Option (Option Guest)) → Type 0
 IsFollowed may did gave old new = (g : Guest) → old ≡ Some (Some g) → (a b : Station) (programs : List Program) (m : Meeting) (side : Side)
-    → Meets a b programs m → (at m side).conversation ≡ g.connection.conversation → may m side → Follows a b programs m side did gave new
+    → Meets a b programs m → (at m side).conversation ≡ g.connection.conversation → may m side → IsFollowedTo a b programs m side did gave new
 
 -- at each number of a host the connection is followed
 abbrev pub EachFollowed : (may : Meeting → Side → Type 0) (did : ℕ → Deeds → Deeds) (gave : ℕ → List (List ℕ)) (h j : Host) → Type 0
@@ -70,22 +70,22 @@ deed_of (events.Answer number answer m) = one_message_more m
 deed_of (events.Closed number why) = no_more
 
 -- what the program does by a call of its host, by number
-pub data HasDone (h j : Host) : (ℕ → Deeds → Deeds) → Type 0 where
-  called : (now number : ℕ) (c : RawCall) → Turn now number (deeds.made c) (Ok tt) h j → HasDone h j (did_at number (one_call_more c))
+pub data ProgramHasDone (h j : Host) : (ℕ → Deeds → Deeds) → Type 0 where
+  called : (now number : ℕ) (c : RawCall) → Turn now number (deeds.made c) (Ok tt) h j → ProgramHasDone h j (did_at number (one_call_more c))
   answered : (now number k : ℕ) (kind : Answer) (words : List ℕ) (g : Guest) → slice_get h.guests.items number ≡ Some (Some g)
       → asked_of g.connection.conversation.side ≡ Some k → Turn now number (deeds.gave kind words) (Ok tt) h j
-      → HasDone h j (did_at number (one_answer_more (answer_message kind k words)))
-  closed : (now number : ℕ) → Turn now number deeds.asked (Ok tt) h j → HasDone h j (did_at number no_more)
-  was_told : (event : Event) → TellsNext (Some event) h j → HasDone h j (did_at (number_of event) (deed_of event))
-  connected : (now way socket : ℕ) (peer : Address) (number : ℕ) → ConnectsTo now way socket peer (Ok number) h j → HasDone h j (λ k. no_more)
-  was_refused : (now number : ℕ) (deed : Deed) (fault : HostFault) → Turn now number deed (Err fault) h j → HasDone h j (λ k. no_more)
-  abandoned_none : (number : ℕ) (fault : HostFault) → Abandons number (Err fault) h j → HasDone h j (λ k. no_more)
+      → ProgramHasDone h j (did_at number (one_answer_more (answer_message kind k words)))
+  closed : (now number : ℕ) → Turn now number deeds.asked (Ok tt) h j → ProgramHasDone h j (did_at number no_more)
+  was_told : (event : Event) → TellsNext (Some event) h j → ProgramHasDone h j (did_at (number_of event) (deed_of event))
+  connected : (now way socket : ℕ) (peer : Address) (number : ℕ) → ConnectsTo now way socket peer (Ok number) h j → ProgramHasDone h j (λ k. no_more)
+  was_refused : (now number : ℕ) (deed : Deed) (fault : HostFault) → Turn now number deed (Err fault) h j → ProgramHasDone h j (λ k. no_more)
+  abandoned_none : (number : ℕ) (fault : HostFault) → Abandons number (Err fault) h j → ProgramHasDone h j (λ k. no_more)
   found_no_room : (now way socket : ℕ) (peer : Address) (fault : HostFault) → ConnectsTo now way socket peer (Err fault) h j
-      → HasDone h j (λ k. no_more)
-  was_told_nothing : TellsNext None h j → HasDone h j (λ k. no_more)
+      → ProgramHasDone h j (λ k. no_more)
+  was_told_nothing : TellsNext None h j → ProgramHasDone h j (λ k. no_more)
   served : (socket : ℕ) (programs : List Program) (result : Result (Unit {0}) HostFault) → ServesAt socket programs result h j
-      → HasDone h j (λ k. no_more)
-  moved : (network : ℕ) → MovesTo network h j → HasDone h j (λ k. no_more)
+      → ProgramHasDone h j (λ k. no_more)
+  moved : (network : ℕ) → MovesTo network h j → ProgramHasDone h j (λ k. no_more)
 
 -- a packet went out that the connection with this number gave, or none did that a connection gave
 pub data HasGiven (result : Result (Option Outgoing) HostFault) : (ℕ → List (List ℕ)) → Type 0 where
@@ -110,5 +110,5 @@ pub record HostsStandFor (h k : Host) (here there : ℕ) (a b : Station) (progra
 
 -- two hosts stand for a meeting to which what was done led; or the connection at this side was forgotten
 pub data StandsOn (m : Meeting) (side : Side) (did : Deeds → Deeds) (gave : List (List ℕ)) (Stands : Meeting → Type 0) : Type 0 where
-  stands : (n : Meeting) → Stands n → Does m n side did gave → StandsOn m side did gave Stands
+  stands : (n : Meeting) → Stands n → DoesAt m n side did gave → StandsOn m side did gave Stands
   forgot : (g : Guest) → MayBeForgotten g → StandsOn m side did gave Stands

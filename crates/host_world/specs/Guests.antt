@@ -8,7 +8,7 @@ use Rattle.xns_host.specs.declared.host_fault.HostFault.{HostFault}
 use Rattle.xns_host.specs.declared.outgoing.Outgoing.{Outgoing}
 use Rattle.host_world.specs.Meeting.{Meeting, at}
 use Rattle.host_world.specs.Meets.{Meets}
-use Rattle.host_world.specs.Pairing.{Does, MayCome}
+use Rattle.host_world.specs.Pairing.{DoesAt, MayCome}
 use Rattle.host_world.specs.declared.station.Station.{Station}
 
 -- steps led on from this meeting to one in which the connection at this side is this one; the program there did so meanwhile, and the
@@ -18,11 +18,11 @@ pub record LeadsTo (a b : Station) (programs : List Program) (m : Meeting) (side
   pub next : Meeting
   pub meets : Meets a b programs next
   pub same : (at next side).conversation ≡ h.connection.conversation
-  pub does : Does m next side did gave
+  pub does : DoesAt m next side did gave
 
 -- whatever meeting the one connection is in, steps lead on to one that the other is in
-abbrev pub GoesOn : (g h : Guest) (did : Deeds → Deeds) (gave : List (List ℕ)) → Type 0
-GoesOn g h did gave = (a b : Station) (programs : List Program) (m : Meeting) (side : Side) → Meets a b programs m
+abbrev pub LeadsOn : (g h : Guest) (did : Deeds → Deeds) (gave : List (List ℕ)) → Type 0
+LeadsOn g h did gave = (a b : Station) (programs : List Program) (m : Meeting) (side : Side) → Meets a b programs m
     → (at m side).conversation ≡ g.connection.conversation → LeadsTo a b programs m side h did gave
 
 -- whatever meeting the one connection is in, to which these bytes may come, steps lead on to one that the other is in

@@ -69,5 +69,5 @@ went_on m w side n l given =
     }
 
 -- bytes that this end made
-abbrev pub IsMade : World → Side → List ℕ → Type 0
-IsMade w side bytes = (k : ℕ) × (slice_get (packets_of w) k ≡ Some (side, bytes))
+abbrev pub HasMade : World → Side → List ℕ → Type 0
+HasMade w side bytes = (k : ℕ) × (slice_get (packets_of w) k ≡ Some (side, bytes))

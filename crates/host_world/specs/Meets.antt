@@ -14,13 +14,13 @@ use Rattle.xns_connection.specs.Living.{Deeds, ProgramsAgree}
 use Rattle.xns_connection.specs.Story.{Story, made_on, new_story}
 use Rattle.xns_connection.specs.Telling.{Tells}
 use Rattle.xns_connection.specs.declared.conversation.Conversation.{Conversation}
-use Rattle.host_world.specs.Meeting.{Party, Meeting, at, new_meeting, Next, went_on, IsMade}
+use Rattle.host_world.specs.Meeting.{Party, Meeting, at, new_meeting, Next, went_on, HasMade}
 use Rattle.host_world.specs.Station.{calling_end, called_end}
 use Rattle.host_world.specs.declared.station.Station.{Station}
 
 -- the story from where it is after these bytes came
-abbrev pub heard : Party → List ℕ → Story
-heard p bytes = record p.story { state = after_receive p.story.state bytes }
+abbrev pub heard_story : Party → List ℕ → Story
+heard_story p bytes = record p.story { state = after_receive p.story.state bytes }
 
 -- steps of two connections, in any order, led to this meeting; the one at a calls, and these programs can be called at b
 pub data Meets (a b : Station) (programs : List Program) : Meeting → Type 0 where
@@ -37,11 +37,11 @@ pub data Meets (a b : Station) (programs : List Program) : Meeting → Type 0 wh
   -- packet k, which lives, comes to the other connection. What that end answers at once is in the bag then. A connection sends a system
   -- packet of its own later instead: so the bag holds all that may come, and more.
   arrives : {m : Meeting} → Meets a b programs m → (k : ℕ) (x : Emitted) → slice_get m.world.bag k ≡ Some x → has_passed m.world x ≡ false
-      → (n : Next (heard (at m (other x.side)) x.bytes)) → n.conversation.packets ≡ (at m (other x.side)).conversation.packets
+      → (n : Next (heard_story (at m (other x.side)) x.bytes)) → n.conversation.packets ≡ (at m (other x.side)).conversation.packets
       → Meets a b programs (went_on m (answered m.world k x) (other x.side) n (at m (other x.side)).deeds (at m (other x.side)).given)
   -- bytes that are no packet of the connection come to it
   strays : {m : Meeting} → Meets a b programs m → (side : Side) → (bytes : List ℕ) → is_ours (at m side).story.state bytes ≡ false
-      → (n : Next (heard (at m side) bytes)) → n.conversation.packets ≡ (at m side).conversation.packets
+      → (n : Next (heard_story (at m side) bytes)) → n.conversation.packets ≡ (at m side).conversation.packets
       → Meets a b programs (went_on m m.world side n (at m side).deeds (at m side).given)
 
 -- what a meeting comes to
@@ -51,4 +51,4 @@ pub record IsMet (programs : List Program) (m : Meeting) : Type 0 where
   -- the programs agree
   pub agree : ProgramsAgree programs m.a.deeds m.b.deeds
   -- each packet that a connection gave was made by its end, so it is one of those that may come while they live
-  pub given : (side : Side) → All (IsMade m.world side) (at m side).given
+  pub given : (side : Side) → All (HasMade m.world side) (at m side).given

@@ -64,7 +64,7 @@ pub record PairStandsFor (p : Pair) (a b : Station) (programs : List Program) (m
 
 -- between two meetings the program at this side did so, and the connection there gave these packets; the other side stayed as it was, and
 -- each packet that was made is kept
-pub record Does (m n : Meeting) (side : Side) (did : Deeds → Deeds) (gave : List (List ℕ)) : Type 0 where
+pub record DoesAt (m n : Meeting) (side : Side) (did : Deeds → Deeds) (gave : List (List ℕ)) : Type 0 where
   pub deeds : (at n side).deeds ≡ did (at m side).deeds
   pub given : (at n side).given ≡ (at m side).given ++ gave
   pub other : at n (other side) ≡ at m (other side)
@@ -73,7 +73,7 @@ pub record Does (m n : Meeting) (side : Side) (did : Deeds → Deeds) (gave : Li
 -- whatever meeting the pair stood for, it stands for one to which that led; the connection at the other side stayed as it was
 pub record Steps (old new : Pair) (side : Side) (did : Deeds → Deeds) (gave : List (List ℕ)) : Type 0 where
   pub on : (a b : Station) (programs : List Program) (m : Meeting) → PairStandsFor old a b programs m
-      → (n : Meeting) × PairStandsFor new a b programs n × Does m n side did gave
+      → (n : Meeting) × PairStandsFor new a b programs n × DoesAt m n side did gave
   pub beside : connection_at new (other side) ≡ connection_at old (other side)
 
 -- bytes that may come to this side: a packet that the other end made, while it lives, or no packet of the connection
@@ -93,7 +93,7 @@ pub record WasMade (m : Meeting) (side : Side) (bytes : List ℕ) : Type 0 where
 
 -- whatever meeting the pair stood for, to which these bytes may come, it stands for one to which they came: the program did nothing, and no
 -- packet was given; the other side stayed as it was
-pub record TakesIn (old new : Pair) (side : Side) (bytes : List ℕ) : Type 0 where
+pub record StepsByBytes (old new : Pair) (side : Side) (bytes : List ℕ) : Type 0 where
   pub on : (a b : Station) (programs : List Program) (m : Meeting) → PairStandsFor old a b programs m → MayCome m side bytes
-      → (n : Meeting) × PairStandsFor new a b programs n × Does m n side no_more []
+      → (n : Meeting) × PairStandsFor new a b programs n × DoesAt m n side no_more []
   pub beside : connection_at new (other side) ≡ connection_at old (other side)

@@ -54,23 +54,23 @@ abbrev pub said_at : (said : ℕ → List Happening) (number : ℕ) → Happenin
 said_at said number x k = if k == number then said k ++ x ∷ [] else said k
 
 -- calls of a host, in any order, led from a new one to this one, and this was said meanwhile at each number
-pub data Lives : Host → (ℕ → List Happening) → Type 0 where
+pub data HasLived : Host → (ℕ → List Happening) → Type 0 where
   begins : {h : Host} (network : ℕ) (host : List ℕ) (settings : Settings) (secret : List ℕ) → IsNewHost network host settings secret h
-      → Lives h (λ k. [])
-  has_connected : {h j : Host} {said : ℕ → List Happening} → Lives h said → (now way socket : ℕ) (peer : Address) (number : ℕ)
-      → ConnectsTo now way socket peer (Ok number) h j → Lives j (said_at said number connects)
-  has_said : {h j : Host} {said : ℕ → List Happening} → Lives h said → (now number : ℕ) (deed : Deed) (x : Happening) → IsSaid deed x
-      → Turn now number deed (Ok tt) h j → Lives j (said_at said number x)
-  has_abandoned : {h j : Host} {said : ℕ → List Happening} → Lives h said → (number : ℕ) → Abandons number (Ok tt) h j
-      → Lives j (said_at said number abandons)
-  was_told : {h j : Host} {said : ℕ → List Happening} → Lives h said → (event : Event) → TellsNext (Some event) h j
-      → Lives j (said_at said (number_of event) (news_of event))
-  goes_on : {h j : Host} {said : ℕ → List Happening} → Lives h said → Quiet h j → Lives j said
+      → HasLived h (λ k. [])
+  has_connected : {h j : Host} {said : ℕ → List Happening} → HasLived h said → (now way socket : ℕ) (peer : Address) (number : ℕ)
+      → ConnectsTo now way socket peer (Ok number) h j → HasLived j (said_at said number connects)
+  has_said : {h j : Host} {said : ℕ → List Happening} → HasLived h said → (now number : ℕ) (deed : Deed) (x : Happening) → IsSaid deed x
+      → Turn now number deed (Ok tt) h j → HasLived j (said_at said number x)
+  has_abandoned : {h j : Host} {said : ℕ → List Happening} → HasLived h said → (number : ℕ) → Abandons number (Ok tt) h j
+      → HasLived j (said_at said number abandons)
+  was_told : {h j : Host} {said : ℕ → List Happening} → HasLived h said → (event : Event) → TellsNext (Some event) h j
+      → HasLived j (said_at said (number_of event) (news_of event))
+  goes_on : {h j : Host} {said : ℕ → List Happening} → HasLived h said → Quiet h j → HasLived j said
 
 -- ---- what the program sees
 
 -- the connection is such: who opened it, why it is closed, and whether the program was told that
-pub record IsOf (d : Dialogue) (g : Guest) : Type 0 where
+pub record IsSeenAs (d : Dialogue) (g : Guest) : Type 0 where
   pub ours : is_none g.opener ≡ d.ours
   pub closed : g.connection.closed ≡ d.closed
   pub told : g.connection.told ≡ d.told
@@ -82,10 +82,10 @@ IsSeen free (Some None) = Unit {0}
 IsSeen free (Some (Some g)) = ⊥
 IsSeen (held d) None = ⊥
 IsSeen (held d) (Some None) = ⊥
-IsSeen (held d) (Some (Some g)) = IsOf d g
+IsSeen (held d) (Some (Some g)) = IsSeenAs d g
 
 -- the number has a history from where it was free to where it is now, in which this was said
-pub record HasHistory (place : Option (Option Guest)) (said : List Happening) : Type 0 where
+pub record NumberHasHistory (place : Option (Option Guest)) (said : List Happening) : Type 0 where
   pub view : View
   pub seen : IsSeen view place
   pub happened : List Happening

@@ -12,13 +12,13 @@ ghost use Rattle.item_world.specs.declared.side.Side.{Side};
 ghost use Rattle.item_world.specs.declared.side.Side.TheVariants.{A, B};
 ghost use Rattle.host_world.specs.Dialogue.{Course, Dialogue, Happened, Happening, IsInOrder, IsOpening, IsUnheard, View, WasTold};
 ghost use Rattle.host_world.specs.Dialogue.{closes, free, goes, held, is_going, is_news, tells};
-ghost use Rattle.host_world.specs.Following.{EachFollowed, HasDone, HasGiven, HostsStandFor, IsFollowed, MayTake, StandsOn, gave_none};
+ghost use Rattle.host_world.specs.Following.{EachFollowed, ProgramHasDone, HasGiven, HostsStandFor, IsFollowed, MayTake, StandsOn, gave_none};
 ghost use Rattle.host_world.specs.Going.{CanFinish};
-ghost use Rattle.host_world.specs.Guests.{GoesOn, HearsOn, packets_in};
+ghost use Rattle.host_world.specs.Guests.{LeadsOn, HearsOn, packets_in};
 ghost use Rattle.host_world.specs.Meeting.{Meeting, at};
 ghost use Rattle.host_world.specs.Meets.{Meets, IsMet};
 ghost use Rattle.host_world.specs.Pairing.{MayCome, WasMade, no_more, one_answer_more, one_call_more, one_message_more};
-ghost use Rattle.host_world.specs.Seen.{HasHistory, Lives};
+ghost use Rattle.host_world.specs.Seen.{NumberHasHistory, HasLived};
 ghost use Rattle.host_world.specs.Station.{IsStation};
 ghost use Rattle.host_world.specs.declared.station.Station.{Station};
 ghost use Rattle.xns_connection.specs.Deeds as deeds;
@@ -78,18 +78,18 @@ pub fn a_given_packet_may_come_while_it_lives()
 /// (`calls`), an answer (`answers`), a close, a message that is handed (`hands`) or the reason that is told (`tells`), what is due (`acts`), an
 /// Error packet about its opening (`not_served`), a packet that is given, or none (`gives`), and bytes that come to it and may come (`hears`).
 pub fn what_a_host_does_is_a_step_of_the_meeting()
-    ensures calls { (now : ℕ) (c : RawCall) (g h : Guest) → GuestStep now (deeds.made c) g h → GoesOn g h (one_call_more c) [] }
+    ensures calls { (now : ℕ) (c : RawCall) (g h : Guest) → GuestStep now (deeds.made c) g h → LeadsOn g h (one_call_more c) [] }
     ensures answers { (now : ℕ) (kind : Answer) (k : ℕ) (words : List ℕ) (g h : Guest) → GuestStep now (deeds.gave kind words) g h
-        → asked_of g.connection.conversation.side ≡ Some k → GoesOn g h (one_answer_more (answer_message kind k words)) [] }
-    ensures closes { (now : ℕ) (g h : Guest) → GuestStep now deeds.asked g h → GoesOn g h no_more [] }
+        → asked_of g.connection.conversation.side ≡ Some k → LeadsOn g h (one_answer_more (answer_message kind k words)) [] }
+    ensures closes { (now : ℕ) (g h : Guest) → GuestStep now deeds.asked g h → LeadsOn g h no_more [] }
     ensures hands { (now : ℕ) (m : Message) (g h : Guest) → GuestTells now g h → waiting_message g.connection.conversation.side ≡ Some m
-        → GoesOn g h (one_message_more m) [] }
+        → LeadsOn g h (one_message_more m) [] }
     ensures tells { (now : ℕ) (g h : Guest) → GuestTells now g h → waiting_message g.connection.conversation.side ≡ None
-        → GoesOn g h no_more [] }
-    ensures acts { (now : ℕ) (g h : Guest) → GuestActs now g h → GoesOn g h no_more [] }
-    ensures not_served { (now : ℕ) (g h : Guest) → GuestUnserved now g h → GoesOn g h no_more [] }
+        → LeadsOn g h no_more [] }
+    ensures acts { (now : ℕ) (g h : Guest) → GuestActs now g h → LeadsOn g h no_more [] }
+    ensures not_served { (now : ℕ) (g h : Guest) → GuestUnserved now g h → LeadsOn g h no_more [] }
     ensures gives { (now : ℕ) (result : Result (Option Outgoing) HostFault) (g h : Guest) → GuestGives now result g h
-        → GoesOn g h no_more (packets_in result) }
+        → LeadsOn g h no_more (packets_in result) }
     ensures hears { (now : ℕ) (bytes : List ℕ) (confirming : Bool) (g h : Guest) → GuestHears now bytes confirming g h
         → HearsOn g h no_more bytes }
 {
@@ -101,7 +101,7 @@ pub fn what_a_host_does_is_a_step_of_the_meeting()
 /// number the connection is led on by steps of the meeting until it is forgotten. Where the program abandons one, each other one stays
 /// (`abandons`).
 pub fn a_host_goes_on_with_its_meetings()
-    ensures done { (h j : Host) (did : ℕ → Deeds → Deeds) → HasDone h j did → EachFollowed (MayTake None) did gave_none h j }
+    ensures done { (h j : Host) (did : ℕ → Deeds → Deeds) → ProgramHasDone h j did → EachFollowed (MayTake None) did gave_none h j }
     ensures abandons { (number : ℕ) (h j : Host) → Abandons number (Ok tt) h j → (k : ℕ) → k ≢ number
         → IsFollowed (MayTake None) no_more [] (slice_get h.guests.items k) (slice_get j.guests.items k) }
     ensures gives { (now : ℕ) (result : Result (Option Outgoing) HostFault) (h j : Host) → GivesOut now result h j
@@ -168,5 +168,5 @@ pub fn a_number_keeps_its_order()
 /// was told at the number is what is said in that history, which leads from the free number to what the number is now. So what
 /// [`a_number_keeps_its_order`] says of histories holds of what a program sees.
 pub fn each_number_of_a_host_has_a_history()
-    ensures { (h : Host) (said : ℕ → List Happening) → Lives h said → (k : ℕ) → HasHistory (slice_get h.guests.items k) (said k) }
+    ensures { (h : Host) (said : ℕ → List Happening) → HasLived h said → (k : ℕ) → NumberHasHistory (slice_get h.guests.items k) (said k) }
 {}

@@ -22,7 +22,7 @@ ghost use Rattle.xns_agenda.specs.Waiting.{HearsAt, StepsAt, act_at};
 ghost use Rattle.host_world.specs.Meeting.{Meeting, new_meeting};
 ghost use Rattle.host_world.specs.declared.station.Station.{Station};
 ghost use Rattle.host_world.specs.Meets.{IsMet};
-ghost use Rattle.host_world.specs.Pairing.{connection_at, LendsConnection, PairStandsFor, Steps, TakesIn};
+ghost use Rattle.host_world.specs.Pairing.{connection_at, LendsConnection, PairStandsFor, Steps, StepsByBytes};
 ghost use Rattle.host_world.specs.Pairing.{no_more, one_call_more, one_message_more, one_answer_more};
 
 use crate::laws::two_connections_over_a_network_agree;
@@ -213,7 +213,7 @@ impl Pair {
         side: Side,
         bytes: &[u8],
     ) -> Result<(), AllocError>
-        ensures takes_in { OnOk result (TakesIn self.old self.new side bytes.now) }
+        ensures takes_in { OnOk result (StepsByBytes self.old self.new side bytes.now) }
         ensures hears { OnOk result ((p : SppPacketModel) → spp_packet_of bytes.now ≡ Ok p
             → Hears (connection_at self.old side).conversation (connection_at self.new side).conversation bytes.now) }
         ensures waits { OnOk result ((p : SppPacketModel) → spp_packet_of bytes.now ≡ Ok p
