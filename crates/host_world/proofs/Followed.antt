@@ -35,7 +35,7 @@ use Rattle.xns_agenda.specs.Waiting.{due_time}
 use Rattle.host_world.specs.Following.{MayTake, EachFollowed, IsFollowedTo, ProgramHasDone, HasGiven, IsFollowed, MayBeForgotten, deed_of, did_at, gave_at, gave_none}
 use Rattle.host_world.specs.Following as following
 use Rattle.host_world.specs.Guests.{LeadsOn, packets_in}
-use Rattle.host_world.specs.Meeting.{Meeting, at}
+use Rattle.host_world.specs.Meeting.{Meeting}
 use Rattle.host_world.specs.Pairing.{no_more, one_message_more}
 use Rattle.host_world.specs.Seen.{number_of}
 use Rattle.host_world.proofs.Guests.{answers, calls, closes, gives, hands, hears_it, not_served, tells}

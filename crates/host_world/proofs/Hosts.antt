@@ -7,8 +7,7 @@ use Rattle.xns_agenda.specs.Clock.{time_at}
 use Rattle.xns_host.specs.Coming.{Comes, Opens}
 use Rattle.xns_host.specs.Coming as coming
 use Rattle.xns_host.specs.Hosting.{confirms}
-use Rattle.xns_host.specs.Places.{Acts, ActsAt, AsksEvent, AsksInVain, GivesNone, NextEvent, NextPacket, Places, Turns, became, event_passed, packet_passed, places_with, seated, taken_by, vacated, vacated_if}
-use Rattle.xns_host.specs.Places as places
+use Rattle.xns_host.specs.Places.{Places, Turns, taken_by, vacated}
 use Rattle.xns_host.specs.Turn.{Abandons, ConnectsTo, GivesOut, TellsNext, Turn, places_of, whole_of}
 use Rattle.xns_host.specs.Went.{GuestHears, GuestStep, GuestUnserved, Went}
 use Rattle.xns_host.specs.Whole.{Whole}
