@@ -17,7 +17,7 @@ one_more bytes h =
     ap (λ (n : ℕ). cut_items n bytes) (count_more (length bytes) h)
     ∙ ap (λ (n : ℕ). message_item false (take 534 bytes) ∷ cut_items ((n - 1) / 534) (drop 534 bytes)) (simp length-drop)
 
-the_last : (bytes : List ℕ) → length bytes ≤ 534 → cut_bytes bytes ≡ message_item true bytes ∷ []
+pub the_last : (bytes : List ℕ) → length bytes ≤ 534 → cut_bytes bytes ≡ message_item true bytes ∷ []
 unfolding cut_bytes cut_items
 the_last bytes h = ap (λ (n : ℕ). cut_items n bytes) (count_last (length bytes) h)
 

@@ -6,7 +6,9 @@ use Rattle.courier_messages.specs.declared.fault.MessageFault.{MessageFault}
 use Rattle.courier_messages.specs.declared.fault.MessageFault.TheVariants.{UnknownKind}
 use Rattle.courier_messages.specs.declared.message.Message.{Message}
 use Rattle.courier_messages.specs.declared.message.Message.TheVariants as messages
-use Rattle.courier_messages.specs.Head.{heads_in}
+use Rattle.courier_messages.specs.declared.head.Head.{Head}
+use Rattle.courier_messages.specs.declared.head.Head.TheVariants as heads
+use Rattle.courier_messages.specs.Head.{ReadsHead, heads_in, with_words}
 use Rattle.courier_messages.specs.Inside.{IsSkipped}
 use Rattle.courier_messages.specs.Message.{call_in, reject_in, abort_in, message_in, message_of, unless_long}
 use Rattle.courier_messages.proofs.Heads.{dropped_length, even_message, short_message, skipped_within}
@@ -105,3 +107,19 @@ short_front skipped n kept more a b c d e f skips is odd size few ha hb hc hd he
     let words : n / 2 ≡ length ws = ap (λ (i : ℕ). i / 2) same ∙ sym (half bytes) in
     ap (λ (l : List ℕ). heads_in (message_in l)) ((λ i. take (n / 2) (ha i ∷ hb i ∷ hc i ∷ hd i ∷ he i ∷ hf i ∷ [])) ∙ front_taken ws (n / 2) words few)
     ∙ sym (even_head bytes (λ o. odd (ap (λ (i : ℕ). i % 2) same ∙ o)) (omega (arith, count)))
+
+-- read where the bytes lie
+
+head_is : (head : Head) (rest : List ℕ) → heads_in (Ok (with_words head rest)) ≡ Ok head
+head_is (heads.Call t p v q) rest = refl
+head_is (heads.Reject t r) rest = refl
+head_is (heads.Return t) rest = refl
+head_is (heads.Abort t e) rest = refl
+
+pub head_at : (r : Result Head MessageFault) (bytes rest : List ℕ) → (length bytes % 2 ≡ 1 → ⊥) → length bytes ≤ 131072 → ReadsHead r rest (message_in (words_of bytes)) → r ≡ heads_in (message_of bytes)
+head_at (Ok head) bytes rest odd size h = sym (even_head bytes odd size ∙ ap heads_in h ∙ head_is head rest)
+head_at (Err e) bytes rest odd size h = sym (even_head bytes odd size ∙ ap heads_in h)
+
+pub alone : (kept more : List ℕ) → length kept ≡ 0 → kept ++ more ≡ more
+alone [] more h = refl
+alone (x ∷ kept) more h = absurd (omega (arith, h))

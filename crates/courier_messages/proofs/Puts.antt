@@ -1,10 +1,12 @@
 -- Words put behind bytes, two bytes each.
-use Rattle.std.proofs.Common.{◌≡◌, ◌∙◌, refl, ℕ, ◌*◌, List, [], ◌∷◌, ◌++◌, length, append_assoc}
+use Rattle.std.proofs.Common.{◌≡◌, ◌∙◌, ap, refl, ℕ, ◌+◌, ◌*◌, ◌≤◌, List, [], ◌∷◌, ◌++◌, length, append_assoc, length-append, true, arith}
 use Rattle.courier_messages.specs.declared.head.Head.{Head}
 use Rattle.courier_messages.specs.declared.head.Head.TheVariants as heads
 use Rattle.courier_types.specs.Source.{bytes_of}
 use Rattle.courier_messages.specs.Message.{message_bytes}
 use Rattle.courier_messages.specs.Head.{with_words, head_words, head_size}
+use Rattle.courier_messages.specs.Cutting.{message_item, cut_bytes}
+use Rattle.courier_messages.proofs.Cuts.{bytes_length, the_last}
 
 pub word_put : (old : List ℕ) (high low : ℕ) (more : List ℕ) → ((old ++ high ∷ []) ++ low ∷ []) ++ more ≡ old ++ (high ∷ low ∷ more)
 word_put old high low more = append_assoc (old ++ high ∷ []) (low ∷ []) more ∙ append_assoc old (high ∷ []) (low ∷ more)
@@ -21,3 +23,10 @@ head_bytes (heads.Call t p v q) = refl
 head_bytes (heads.Reject t r) = refl
 head_bytes (heads.Return t) = refl
 head_bytes (heads.Abort t e) = refl
+
+-- a message that one item holds
+pub whole_cut : (head : Head) (words : List ℕ) → 2 * (head_size head + length words) ≤ 534 → cut_bytes (message_bytes (with_words head words)) ≡ message_item true (message_bytes (with_words head words)) ∷ []
+whole_cut head words h =
+    let front = bytes_of (head_words head) in
+    let count = ap (length {A = ℕ}) (message_is_its_parts head words) ∙ length-append front (bytes_of words) in
+    the_last (message_bytes (with_words head words)) (omega (arith, count, head_bytes head, bytes_length words, h))

@@ -1,10 +1,13 @@
 //! Messages on their way out.
-ghost use Rattle.std.specs.Prelude.{◌≡◌, ◌++◌, ◌∷◌, ◌≤◌, ◌+◌, ◌*◌, [], length, IfOk, OnOk, OnErr, Ok};
+ghost use Rattle.std.specs.Prelude.{◌≡◌, ◌++◌, ◌∷◌, ◌≤◌, ◌+◌, ◌*◌, [], length, true, IfOk, OnOk, OnErr, Ok};
 ghost use Rattle.xns_spp.specs.Packet.{most_body};
 ghost use Rattle.courier_types.specs.Source.{bytes_of};
 ghost use Rattle.courier_messages.specs.Bounds.{bytes_in};
 ghost use Rattle.courier_messages.specs.Cutting.{message_item, cut_bytes, versions_item};
+ghost use Rattle.courier_messages.specs.Head.{head_size, with_words};
+ghost use Rattle.courier_messages.specs.Message.{message_bytes};
 
+use crate::head::Head;
 use crate::incoming::VERSION;
 use crate::writing::put_words;
 use std::alloc::{AllocError, Global};
@@ -68,6 +71,52 @@ pub fn put_out(alloc: Global, words: &[u16], out: &mut VecDeque<Item>) -> Result
         return out.append(&mut items);
     }
     let item = make_item(alloc, true, words)?;
+    out.push_back(item)?;
+    Ok(())
+}
+
+/// The bytes of a message with this head and these words.
+#[tactic(auto, using(crate::proofs::Puts::message_is_its_parts, crate::proofs::Puts::head_bytes, crate::proofs::Cuts::bytes_length))]
+#[inline(always)]
+fn whole_bytes(alloc: Global, head: Head, words: &[u16]) -> Result<Vec<u8>, AllocError>
+    requires { 2 * (head_size head + length words.now) ≤ most_body }
+    ensures { IfOk result (λ v. v.items ≡ message_bytes (with_words head words.now)) }
+{
+    let mut bytes = Vec::with_capacity(alloc, 2 * (head.size() + words.len()))?;
+    head.put(&mut bytes);
+    put_words(words, &mut bytes);
+    Ok(bytes)
+}
+
+/// The item of a message with this head and these words, which one item holds.
+#[inline(always)]
+fn whole_item(alloc: Global, head: Head, words: &[u16]) -> Result<Item, AllocError>
+    requires { 2 * (head_size head + length words.now) ≤ most_body }
+    ensures { IfOk result (λ x. x ≡ message_item true (message_bytes (with_words head words.now))) }
+{
+    let body = whole_bytes(alloc, head, words)?;
+    Ok(Item {
+        stream: 0,
+        attention: false,
+        last: true,
+        body: Bytes::new(body),
+    })
+}
+
+/// Puts the item of a message with this head and these words, which one item holds, behind those that are out. The only error is want of
+/// memory, after which `out` holds what it held.
+#[tactic(auto, using(crate::proofs::Puts::whole_cut))]
+pub fn put_whole(
+    alloc: Global,
+    head: Head,
+    words: &[u16],
+    out: &mut VecDeque<Item>,
+) -> Result<(), AllocError>
+    requires { 2 * (head_size head + length words.now) ≤ most_body }
+    ensures ok { OnOk result (out.new.items ≡ out.old.items ++ cut_bytes (message_bytes (with_words head words.now))) }
+    ensures err { OnErr result (out.new.items ≡ out.old.items) }
+{
+    let item = whole_item(alloc, head, words)?;
     out.push_back(item)?;
     Ok(())
 }

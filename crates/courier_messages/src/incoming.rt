@@ -261,6 +261,33 @@ fn head_behind(pieces: &Pieces, skipped: usize, body: &[u8]) -> Result<Head, Mes
     head_of(&front)
 }
 
+/// What a message begins with whose bytes these are.
+#[tactic(auto, unfolding(crate::specs::Message::message_of))]
+fn head_alone(bytes: &[u8]) -> Result<Head, MessageFault>
+    requires { length bytes.now ≤ most_bytes }
+    ensures { result ≡ heads_in (message_of bytes.now) }
+{
+    if bytes.len() % 2 == 1 {
+        return Err(MessageFault::OddLength);
+    }
+    let mut words = PieceWords::of_bytes(bytes);
+    read_head(&mut words)
+}
+
+/// What a message begins with whose bytes are kept, and come, behind those that are skipped. Where none are kept, they are read where they
+/// lie.
+#[tactic(auto, using(crate::proofs::Fronts::alone, crate::proofs::Heads::dropped_length))]
+fn head_in(pieces: &Pieces, skipped: usize, body: &[u8]) -> Result<Head, MessageFault>
+    requires skipped { IsSkipped skipped (pieces.now ++ body.now) }
+    requires size { length pieces.now + length body.now ≤ most_bytes + skipped }
+    ensures { result ≡ heads_in (message_of (drop skipped (pieces.now ++ body.now))) }
+{
+    if pieces.len() == 0 {
+        return head_alone(&body[skipped..]);
+    }
+    head_behind(pieces, skipped, body)
+}
+
 /// Where one is behind more bytes, and how much is to be skipped; or what is wrong with them.
 #[tactic(auto, using(crate::proofs::Ranges::fresh_bytes, crate::proofs::Ranges::no_more_bytes))]
 fn behind(
@@ -315,7 +342,7 @@ fn look_at_mark(
     match stage {
         Stage::Opening => Err(SessionFault::BadVersions),
         Stage::Fresh => Ok(None),
-        Stage::Inside => match head_behind(pieces, skipped, body) {
+        Stage::Inside => match head_in(pieces, skipped, body) {
             Ok(head) => Ok(Some(head)),
             Err(fault) => Err(SessionFault::BadMessage(fault)),
         },

@@ -17,7 +17,7 @@ mod whole_message;
 mod words;
 mod writing;
 
-pub use cutting::{cut, put_out, versions};
+pub use cutting::{cut, put_out, put_whole, versions};
 pub use fault::{MessageFault, MessageRefusal, SessionFault};
 pub use head::Head;
 pub use incoming::{Incoming, VERSION};

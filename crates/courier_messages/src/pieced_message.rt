@@ -12,9 +12,9 @@ ghost use Rattle.courier_messages.specs.Whole.{whole};
 
 use crate::head::Head;
 use crate::pieces::Pieces;
-use crate::reading::{put_front, words_left};
+use crate::reading::words_left;
 use crate::words::Words;
-use courier_types::{PieceWords, ReadRefusal, Shape, Value, WordSource, read_pieces};
+use courier_types::{PieceWords, ReadRefusal, Shape, Value, read_pieces};
 use std::alloc::{AllocError, Global};
 use std::marker::Model;
 
@@ -73,7 +73,7 @@ impl PiecedMessage {
         let _count = self.pieces.len();
         let mut words = PieceWords::new(self.pieces.as_slice());
         words.skip(self.skipped);
-        put_front(&mut words, buffer);
+        words.put_words(buffer);
     }
 
     /// How many words the message has of its own.

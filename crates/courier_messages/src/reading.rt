@@ -1,5 +1,5 @@
 //! Reading messages, from words wherever they lie.
-ghost use Rattle.std.specs.Prelude.{◌≡◌, ◌<◌, ◌≤◌, ◌∷◌, ◌++◌, drop, length, IfOk, OnErr, MatchResult, Ok, Err};
+ghost use Rattle.std.specs.Prelude.{◌≡◌, ◌<◌, ◌∷◌, length, IfOk, OnErr, MatchResult, Ok, Err};
 ghost use Rattle.courier_types.specs.Pieces.{words_of};
 ghost use Rattle.courier_messages.specs.Head.{ReadsHead, heads_in};
 ghost use Rattle.courier_messages.specs.Message.{message_in, call_in, reject_in, abort_in, message_of, SpellsMessage};
@@ -126,18 +126,6 @@ pub fn words_left<S: WordSource>(alloc: Global, source: &mut S) -> Result<Words,
         words.push_reserved(word);
     }
     Ok(Words::new(words))
-}
-
-/// Puts the words that are left to the front of a buffer that has room for them.
-pub fn put_front<S: WordSource>(source: &mut S, buffer: &mut [u16])
-    requires { length (S.words_left source.old) ≤ length buffer.old }
-    ensures { buffer.new ≡ S.words_left source.old ++ drop (length (S.words_left source.old)) buffer.old }
-{
-    let mut at = 0;
-    while let Some(word) = source.next_word() {
-        buffer[at] = word;
-        at += 1;
-    }
 }
 
 #[tactic(auto, unfolding(crate::specs::Message::message_of))]

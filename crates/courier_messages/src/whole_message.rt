@@ -5,7 +5,7 @@ ghost use Rattle.courier_messages.specs.Message.{message_of};
 ghost use Rattle.courier_messages.specs.Phases.{good};
 
 use crate::head::Head;
-use crate::reading::{MOST_BYTES, put_front, read_head};
+use crate::reading::{MOST_BYTES, read_head};
 use courier_types::{PieceWords, WordSource};
 use std::marker::Model;
 
@@ -65,7 +65,7 @@ impl<'a> WholeMessage<'a> {
         requires { length (words_in self) ≤ length buffer.old }
         ensures { buffer.new ≡ words_in self.entry ++ drop (length (words_in self.entry)) buffer.old }
     {
-        let WholeMessage { mut words, .. } = self;
-        put_front(&mut words, buffer);
+        let WholeMessage { words, .. } = self;
+        words.put_words(buffer);
     }
 }

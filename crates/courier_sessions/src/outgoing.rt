@@ -7,13 +7,16 @@ ghost use Rattle.courier_messages.specs.Message.{message_words};
 ghost use Rattle.courier_messages.specs.Text.{item_of};
 ghost use Rattle.courier_messages.specs.declared.head.Head.TheVariants.{Call};
 
-use courier_messages::{Head, MOST_BYTES, put_out};
+use courier_messages::{Head, MOST_BYTES, put_out, put_whole};
 use std::alloc::{AllocError, Global};
 use std::collections::VecDeque;
-use xns_spp::{Bytes, Item};
+use xns_spp::{Bytes, Item, MOST_BODY};
 
 /// The most bytes that an item may have: the versions and the longest message.
 pub const MOST_ITEM: usize = 4 + MOST_BYTES;
+
+/// How many words an item holds at most.
+const WORDS_AN_ITEM: usize = MOST_BODY / 2;
 
 /// An item of datastream 0 or another, which is no attention item, whose bytes are copied. It is refused memory only where there are some.
 pub fn copied_item(alloc: Global, stream: u8, last: bool, body: &[u8]) -> Result<Item, AllocError>
@@ -81,6 +84,9 @@ pub fn put_message(
     ensures put { result ≡ Ok tt → out.new.items ≡ out.old.items ++ cut (with_words head words.now) }
     ensures unchanged { OnErr result (out.new.items ≡ out.old.items) }
 {
+    if head.size() + words.len() <= WORDS_AN_ITEM {
+        return put_whole(alloc, head, words, out);
+    }
     let all = whole_words(alloc, head, words)?;
     put_out(alloc, all.as_slice(), out)
 }

@@ -1,5 +1,5 @@
 -- Bytes that are taken a run at a time.
-use Rattle.std.proofs.Common.{◌≡◌, ◌∙◌, ap, sym, subst, refl, ℕ, zero, suc, ◌+◌, ◌-◌, ◌*◌, ◌/◌, ◌%◌, ◌<◌, ◌≤◌, List, [], ◌∷◌, ◌++◌, length, drop, take, Result, Ok, Err, OnErr, is_ok, if◌then◌else◌, get_or, take_all, length-append, append_assoc, arith, Vec, Global, ◌^◌}
+use Rattle.std.proofs.Common.{◌≡◌, ◌∙◌, ap, sym, subst, refl, ℕ, zero, suc, ◌+◌, ◌-◌, ◌*◌, ◌/◌, ◌%◌, ◌<◌, ◌≤◌, List, [], ◌∷◌, ◌++◌, length, drop, take, Result, Ok, Err, OnErr, is_ok, if◌then◌else◌, get_or, take_all, length-append, append_assoc, append-nil, take-append-drop, arith, Vec, Global, ◌^◌}
 use Rattle.std.proofs.lemmas.List.{drop-append-le}
 use Rattle.courier_types.specs.declared.read_fault.Reason.TheVariants.{Truncated}
 use Rattle.courier_types.specs.Reading.{◌>>=◌, front_bytes}
@@ -45,6 +45,14 @@ pieces_next (x ∷ xs) p n e =
     let count : length xs ≤ length (x ∷ xs) - 1 = omega arith in
     let rest : take (length (x ∷ xs) - 1) xs ≡ xs = take_all (length (x ∷ xs) - 1) xs count in
     ap (λ (v : Vec ℕ Global). v.items ++ joined xs) (sym e) ∙ ap (λ (l : List (Vec ℕ Global)). p.items ++ joined l) (sym rest)
+
+-- all words are put
+pub put_all : (buffer old source words : List ℕ) (at : ℕ) → take at buffer ++ source ≡ words → source ≡ [] → at + length source ≡ length words → drop (length words) buffer ≡ drop (length words) old → buffer ≡ words ++ drop (length words) old
+put_all buffer old source words at so_far none count behind =
+    let nothing : length source ≡ 0 = ap (length {A = ℕ}) none in
+    let all : at ≡ length words = omega (arith, count, nothing) in
+    let front : take at buffer ≡ words = sym (append-nil (take at buffer)) ∙ ap (λ (l : List ℕ). take at buffer ++ l) (sym none) ∙ so_far in
+    sym (take-append-drop at buffer) ∙ ap (λ (l : List ℕ). l ++ drop at buffer) front ∙ ap (λ (n : ℕ). words ++ drop n buffer) all ∙ ap (λ (l : List ℕ). words ++ l) behind
 
 -- words and their bytes
 
