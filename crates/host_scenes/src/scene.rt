@@ -48,7 +48,7 @@ impl Scene {
         ..Scene::CALM
     };
 
-    pub const ALL: [Scene; 12] = [
+    pub const ALL: [Scene; 14] = [
         Scene::CALM,
         Scene {
             name: "the same, window 1",
@@ -111,6 +111,17 @@ impl Scene {
             clients: 1,
             restart: Restart::SameIdentifier,
             ..Scene::CALM
+        },
+        Scene {
+            name: "5 clients of 40 calls, 1 or 2 ms away, 1 in 10 lost, 1 in 20 repeated and corrupted",
+            delay: 2,
+            ..Scene::ROUGH
+        },
+        Scene {
+            name: "the same, 1 in 3 lost",
+            delay: 2,
+            lost: 33,
+            ..Scene::ROUGH
         },
     ];
 }

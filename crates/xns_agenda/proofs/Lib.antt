@@ -4,6 +4,7 @@ mod Free
 mod Later
 mod Measures
 mod Putting
+mod Repeats
 mod Silent
 mod Tree
 mod Turning

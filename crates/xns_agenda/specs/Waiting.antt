@@ -1,6 +1,6 @@
 -- When a connection says something again, asks its peer for a word, and is given up. Times are in milliseconds.
 use Rattle.std.specs.Prelude.{◌≡◌, ℕ, ◌+◌, ◌-◌, ◌*◌, ◌^◌, ◌<◌, ◌≤◌, Bool, true, false, ◌==◌, nat_le, min, if◌then◌else◌, Option, Some, None, IfSome}
-use Rattle.xns_agenda.specs.Measuring.{IsBounded, begun_timing, borne, first_wait, learnt}
+use Rattle.xns_agenda.specs.Measuring.{IsBounded, begun_timing, borne, first_wait, is_late, learnt}
 use Rattle.xns_agenda.specs.declared.act.Act.{Act}
 use Rattle.xns_agenda.specs.declared.act.Act.TheVariants.{Nothing, Again, Ask, GiveUp, Forget}
 use Rattle.xns_agenda.specs.declared.due.Due.{Due}
@@ -83,19 +83,35 @@ after_step w false now = idling w w.due
 
 -- ---- after a word of the peer, which acknowledges more or opens the connection, or does not
 
+-- half of the first wait is over, and nothing went out again
+abbrev pub overdue_by : Waiting → Due → (now : ℕ) → Bool
+overdue_by w Never now = false
+overdue_by w (AgainAt t) now = is_late w.timing (first_wait w.measure w.pace) now
+overdue_by w (AskAt t) now = false
+overdue_by w (ForgetAt t) now = false
+
+abbrev pub is_overdue : Waiting → (now : ℕ) → Bool
+is_overdue w now = overdue_by w w.due now
+
+-- what waits for the peer goes out again before its time, and the first wait begins anew
+abbrev pub resent : Waiting → ℕ → Waiting
+resent w now = record (begun AgainAt (rested w) now) { timing = Resent now }
+
 -- how long the peer took is learnt
 abbrev pub taught : Waiting → ℕ → Waiting
 taught w now = record w { measure = learnt w.measure w.pace w.timing now; timing = Over }
 
-abbrev pub after_heard : Waiting → Due → Bool → ℕ → Waiting
-after_heard w Never more now = rested w
-after_heard w (AgainAt t) true now = rested (taught w now)
-after_heard w (AgainAt t) false now = w
-after_heard w (AskAt t) more now = rested w
-after_heard w (ForgetAt t) more now = w
+abbrev pub after_heard : Waiting → Due → (more again : Bool) → ℕ → Waiting
+after_heard w Never more again now = rested w
+after_heard w (AgainAt t) true again now = rested (taught w now)
+after_heard w (AgainAt t) false true now = resent w now
+after_heard w (AgainAt t) false false now = w
+after_heard w (AskAt t) more again now = rested w
+after_heard w (ForgetAt t) more again now = w
 
-abbrev pub after_word : Waiting → Bool → ℕ → Waiting
-after_word w more now = after_heard (record w { misses = 0; heard_at = now }) w.due more now
+-- where it does not, it may be that something goes out again for it
+abbrev pub after_word : Waiting → (more again : Bool) → ℕ → Waiting
+after_word w more again now = after_heard (record w { misses = 0; heard_at = now }) w.due more again now
 
 -- ---- when a wait is over
 
@@ -150,7 +166,7 @@ pub data StepsAt (now : ℕ) (w : Waiting) : Waiting → Type 0 where
 -- the same, where a word of the peer may have come first
 pub data HearsAt (now : ℕ) (w v : Waiting) : Type 0 where
   no_word : StepsAt now w v → HearsAt now w v
-  word : (more : Bool) → StepsAt now (after_word w more now) v → HearsAt now w v
+  word : (more again : Bool) → StepsAt now (after_word w more again now) v → HearsAt now w v
 
 -- ---- a silent peer
 
@@ -167,3 +183,13 @@ pub data Silence (w : Waiting) : ℕ → Waiting → Type 0 where
   here : Silence w 0 w
   steps : {n : ℕ} {v : Waiting} → Silence w n v → (waits : Bool) (now : ℕ) → Silence w n (after_step v waits now)
   sends : {n : ℕ} {v : Waiting} → Silence w n v → (now : ℕ) → is_sent (act_at v now) ≡ true → Silence w (n + 1) (after_act v now)
+
+-- ---- two peers that repeat what they said
+
+-- from one moment to another something waits for the peer, which acknowledges no more, and so often something goes out again for a word of it
+pub data Unheard (w : Waiting) : ℕ → Waiting → Type 0 where
+  here : Unheard w 0 w
+  steps : {n : ℕ} {v : Waiting} → Unheard w n v → (now : ℕ) → Unheard w n (after_step v true now)
+  acts : {n : ℕ} {v : Waiting} → Unheard w n v → (now : ℕ) → Unheard w n (after_act v now)
+  hears : {n : ℕ} {v : Waiting} → Unheard w n v → (now : ℕ) → Unheard w n (after_word v false false now)
+  resends : {n : ℕ} {v : Waiting} → Unheard w n v → (now : ℕ) → is_overdue v now ≡ true → Unheard w (n + 1) (after_word v false true now)

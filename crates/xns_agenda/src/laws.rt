@@ -7,7 +7,7 @@ ghost use Rattle.xns_agenda.specs.declared.measure.TheConstants.Measure.{NONE};
 ghost use Rattle.xns_agenda.specs.declared.pace.Pace.{Pace};
 ghost use Rattle.xns_agenda.specs.declared.smoothed.Smoothed.{Smoothed};
 ghost use Rattle.xns_agenda.specs.declared.clock.Clock.{Clock};
-ghost use Rattle.xns_agenda.specs.Waiting.{Waiting, Silence, last_time, act_at, after_act, later, next_length};
+ghost use Rattle.xns_agenda.specs.Waiting.{Unheard, Waiting, Silence, last_time, act_at, after_act, later, next_length};
 ghost use Rattle.xns_agenda.specs.declared.act.Act.TheVariants.{Again};
 ghost use Rattle.xns_agenda.specs.declared.due.Due.TheVariants.{AgainAt};
 
@@ -16,6 +16,12 @@ ghost use Rattle.xns_agenda.specs.declared.due.Due.TheVariants.{AgainAt};
 pub fn a_silent_peer_is_given_up()
     ensures { (w v : Waiting) (n : ℕ) → w.misses ≤ borne w.measure w.pace → Silence w n v
         → (w.misses + n ≡ v.misses) × (w.misses + n ≤ borne w.measure w.pace) }
+{}
+
+/// Two hosts do not talk for ever by what they repeat: while something waits for the peer, and it acknowledges no more, at most one packet
+/// goes out again for a word of it.
+pub fn a_repeat_is_answered_once()
+    ensures { (w v : Waiting) (n : ℕ) → Unheard w n v → n ≤ 1 }
 {}
 
 /// When something goes out again, the wait that begins is as long as the one before had said, and the next one is twice as long,

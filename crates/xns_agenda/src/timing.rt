@@ -1,5 +1,5 @@
 ghost use Rattle.std.specs.Prelude.{◌≡◌};
-ghost use Rattle.xns_agenda.specs.Measuring.{begun_timing, is_vain};
+ghost use Rattle.xns_agenda.specs.Measuring.{begun_timing, is_late, is_vain};
 
 /// What is timed of a wait for the peer. Times are in milliseconds.
 #[derive(Clone, Copy, Debug, PartialEq, Eq)]
@@ -30,5 +30,15 @@ impl Timing {
         ensures { result ≡ is_vain self }
     {
         matches!(self, Timing::Resent(_))
+    }
+
+    /// Whether half of such a wait is over since something began to wait for the peer, and nothing went out again.
+    pub fn is_late(self, wait: u32, now: u64) -> bool
+        ensures { result ≡ is_late self wait now }
+    {
+        match self {
+            Timing::Timed(since) => u64::from(wait - wait / 2) <= now.saturating_sub(since),
+            Timing::Ready | Timing::Resent(_) | Timing::Over => false,
+        }
     }
 }

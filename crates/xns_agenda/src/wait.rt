@@ -76,7 +76,7 @@ fn idle_due(pace: &Pace, heard_at: u64) -> Due
 }
 
 impl Wait {
-    ghost use Rattle.xns_agenda.specs.Waiting.{new_waiting, act_at, after_act, after_by, after_step, after_word, begun, missed, rested, lingering, taught};
+    ghost use Rattle.xns_agenda.specs.Waiting.{new_waiting, act_at, after_act, after_by, after_step, after_word, begun, is_overdue, missed, rested, resent, lingering, taught};
     ghost use Rattle.xns_agenda.specs.Waiting.{IsDueAfter, last_time, waiting_on, idling};
 
     /// The waits of a connection that is made at this time.
@@ -106,6 +106,18 @@ impl Wait {
         ensures { result ≡ is_vain self.now.timing }
     {
         self.timing.is_vain()
+    }
+
+    /// Whether half of the first wait is over since something began to wait for the peer, and nothing went out again.
+    pub fn is_overdue(&self, now: u64) -> bool
+        ensures { result ≡ is_overdue self.now now }
+    {
+        match self.due {
+            Due::AgainAt(_) => self
+                .timing
+                .is_late(self.measure.first_wait(&self.pace), now),
+            Due::Never | Due::AskAt(_) | Due::ForgetAt(_) => false,
+        }
     }
 
     /// When the last word of the peer came.
@@ -181,19 +193,30 @@ impl Wait {
         self.timing = Timing::Over;
     }
 
-    /// Takes in a word of the peer, where `more` says whether it acknowledges more, or opens the connection.
-    pub fn hear(&mut self, more: bool, now: u64)
-        ensures { self.new ≡ after_word self.old more now }
+    /// What waits for the peer goes out again before its time, and the first wait begins anew.
+    fn resend(&mut self, now: u64)
+        ensures { self.new ≡ resent self.old now }
+    {
+        self.rest();
+        self.begin(now);
+        self.timing = Timing::Resent(now);
+    }
+
+    /// Takes in a word of the peer, where `more` says whether it acknowledges more, or opens the connection, and `again` whether something
+    /// goes out again for it.
+    pub fn hear(&mut self, more: bool, again: bool, now: u64)
+        ensures { self.new ≡ after_word self.old more again now }
     {
         self.heard_at = now;
         self.misses = 0;
         match self.due {
             Due::ForgetAt(_) => {}
-            Due::AgainAt(_) if !more => {}
-            Due::AgainAt(_) => {
+            Due::AgainAt(_) if more => {
                 self.learn(now);
                 self.rest();
             }
+            Due::AgainAt(_) if again => self.resend(now),
+            Due::AgainAt(_) => {}
             Due::Never | Due::AskAt(_) => self.rest(),
         }
     }

@@ -41,21 +41,22 @@ step_open w v false now free is = ap (λ (u : Waiting). is_open_due u.due) is �
 
 -- ---- a word of the peer
 
-heard_by : (w : Waiting) (d : Due) (more : Bool) (now : ℕ) → w.due ≡ d → is_open_due d ≡ true → is_open_due (after_heard w d more now).due ≡ true
-heard_by w Never more now is free = refl
-heard_by w (AgainAt t) true now is free = refl
-heard_by w (AgainAt t) false now is free = ap is_open_due is
-heard_by w (AskAt t) more now is free = refl
-heard_by w (ForgetAt t) more now is free = absurd (cc)
+heard_by : (w : Waiting) (d : Due) (more again : Bool) (now : ℕ) → w.due ≡ d → is_open_due d ≡ true → is_open_due (after_heard w d more again now).due ≡ true
+heard_by w Never more again now is free = refl
+heard_by w (AgainAt t) true again now is free = refl
+heard_by w (AgainAt t) false true now is free = refl
+heard_by w (AgainAt t) false false now is free = ap is_open_due is
+heard_by w (AskAt t) more again now is free = refl
+heard_by w (ForgetAt t) more again now is free = absurd (cc)
 
-pub word_open : (w v : Waiting) (more : Bool) (now : ℕ) → v ≡ after_word w more now → is_open_due w.due ≡ true → is_open_due v.due ≡ true
-word_open w v more now is free = ap (λ (u : Waiting). is_open_due u.due) is ∙ heard_by (record w { misses = 0; heard_at = now }) w.due more now refl free
+pub word_open : (w v : Waiting) (more again : Bool) (now : ℕ) → v ≡ after_word w more again now → is_open_due w.due ≡ true → is_open_due v.due ≡ true
+word_open w v more again now is free = ap (λ (u : Waiting). is_open_due u.due) is ∙ heard_by (record w { misses = 0; heard_at = now }) w.due more again now refl free
 
-heard_shut : (w : Waiting) (d : Due) (more : Bool) (now : ℕ) → w.due ≡ d → is_closed_due d ≡ true → is_closed_due (after_heard w d more now).due ≡ true
-heard_shut w Never more now is shut = refl
-heard_shut w (AgainAt t) more now is shut = absurd (cc)
-heard_shut w (AskAt t) more now is shut = absurd (cc)
-heard_shut w (ForgetAt t) more now is shut = ap is_closed_due is
+heard_shut : (w : Waiting) (d : Due) (more again : Bool) (now : ℕ) → w.due ≡ d → is_closed_due d ≡ true → is_closed_due (after_heard w d more again now).due ≡ true
+heard_shut w Never more again now is shut = refl
+heard_shut w (AgainAt t) more again now is shut = absurd (cc)
+heard_shut w (AskAt t) more again now is shut = absurd (cc)
+heard_shut w (ForgetAt t) more again now is shut = ap is_closed_due is
 
-pub word_shut : (w v : Waiting) (more : Bool) (now : ℕ) → v ≡ after_word w more now → is_closed_due w.due ≡ true → is_closed_due v.due ≡ true
-word_shut w v more now is shut = ap (λ (u : Waiting). is_closed_due u.due) is ∙ heard_shut (record w { misses = 0; heard_at = now }) w.due more now refl shut
+pub word_shut : (w v : Waiting) (more again : Bool) (now : ℕ) → v ≡ after_word w more again now → is_closed_due w.due ≡ true → is_closed_due v.due ≡ true
+word_shut w v more again now is shut = ap (λ (u : Waiting). is_closed_due u.due) is ∙ heard_shut (record w { misses = 0; heard_at = now }) w.due more again now refl shut

@@ -117,7 +117,7 @@ module _ (below : Below) (under : Underneath) (law : ItemsAreAcceptedOrChangeNot
   abbrev first : State → Scene
   first s = done deed (scene t s)
 
-  abbrev moves : (s : State) → StandsFor t.endpoint s → Moved now (first s) step.moved new.conversation (owed_by deed old.owed old.wait s) new.owed old.closed new.closed (wait_by deed old.wait s now) new.wait
+  abbrev moves : (s : State) → StandsFor t.endpoint s → Moved now (first s) step.moved new.conversation (owed_by deed old.owed old.wait s now) new.owed old.closed new.closed (wait_by deed old.wait s now) new.wait
   moves s stands = step.on s stands
 
   -- the scene of the connection after the step
@@ -244,7 +244,7 @@ module _ (below : Below) (under : Underneath) (law : ItemsAreAcceptedOrChangeNot
       let more = done_waits under deed t s stands in
       let same = same_waiting v (last s stands).state there m.at.stands ∙ ap waiting_count (shut_state old.closed new.closed m.to) in
       let fewer : waiting_count m.to.state < waiting_count (first s).state = omega (arith, less, more, same) in
-      ap (λ o. o.word) m.owes ∙ or_more (owed_by deed old.owed old.wait s).word (nat_lt (waiting_count m.to.state) (waiting_count (first s).state)) (lt-ltb (waiting_count m.to.state) (waiting_count (first s).state) fewer)
+      ap (λ o. o.word) m.owes ∙ or_more (owed_by deed old.owed old.wait s now).word (nat_lt (waiting_count m.to.state) (waiting_count (first s).state)) (lt-ltb (waiting_count m.to.state) (waiting_count (first s).state) fewer)
 
   wanted : (s : State) → StandsFor t.endpoint s → new.conversation.closing.wanted ≡ wanted_by deed old.conversation.closing.wanted
   wanted s stands =

@@ -5,7 +5,6 @@ use Rattle.std.specs.Option.{is_some}
 use Rattle.std.proofs.Math.Logic.{∥∥₁_map}
 use Rattle.std.proofs.Props.{props}
 use Rattle.courier_sessions.specs.declared.feed_refusal.FeedRefusal.{FeedRefusal}
-use Rattle.xns_agenda.specs.Measuring.{is_vain}
 use Rattle.xns_agenda.specs.Waiting.{HearsAt, StepsAt, Waiting, close, still, act_at, after_act, after_by, after_step, after_word, lingering}
 use Rattle.xns_agenda.specs.declared.act.Act.{Act}
 use Rattle.xns_agenda.specs.declared.act.Act.TheVariants.{Nothing, Again, Ask, GiveUp, Forget}
@@ -15,7 +14,7 @@ use Rattle.xns_spp.specs.Sending.{tick_answer, waiting_count}
 use Rattle.xns_spp.specs.Telling.{unacknowledged_count}
 use Rattle.xns_spp.specs.declared.input.Input.{Input}
 use Rattle.xns_spp.specs.State.{State}
-use Rattle.xns_connection.specs.Connecting.{goes_again, is_again, is_closed_due, is_foreign, is_open_due, owed_after, owed_heard, wait_heard, why_after}
+use Rattle.xns_connection.specs.Connecting.{again_for, goes_again, is_again, is_closed_due, is_foreign, is_open_due, owed_after, owed_heard, wait_heard, why_after}
 use Rattle.xns_connection.specs.Moving.{HasHistory, IsAt, Scene, Settles, is_calm, scene}
 use Rattle.xns_connection.specs.Step.{May, MovesOwed, Step, WaitsBy, is_calm_then, parts_of}
 use Rattle.xns_connection.specs.Deeds.{Deed, Parts, acted, acted_by, given_up, heard, Moved, ClosesThen, GoesOnBy, closed_moved, done, given_up_by, is_starved, owed_by, owed_moved, shut, took, wait_by}
@@ -141,7 +140,7 @@ same_history e f same has = subst HasHistory (sym same) has
 
 -- something was done at a connection, but that bytes came, and then what could move moved
 pub step_by : (now : ℕ) (deed : Deed) (old new : Connection) (mid : Conversation) → mid.endpoint ≡ old.conversation.endpoint
-    → ((s : State) → scene mid s ≡ done deed (scene old.conversation s)) → ((s : State) → owed_by deed old.owed old.wait s ≡ old.owed)
+    → ((s : State) → scene mid s ≡ done deed (scene old.conversation s)) → ((s : State) → owed_by deed old.owed old.wait s now ≡ old.owed)
     → ((s : State) → wait_by deed old.wait s now ≡ old.wait)
     → GoesOnBy now mid new.conversation old.owed new.owed old.closed new.closed old.wait new.wait
     → May old.conversation deed → (StepsAt now old.wait new.wait → WaitsBy deed now old.wait new.wait) → mid.packets ≡ old.conversation.packets
@@ -152,7 +151,7 @@ step_by now deed old new mid end did owes waits_same goes may steps packets told
   steps = steps goes.steps;
   on = λ s stands.
       let first = goes.on s (subst (λ (e : Held). StandsFor e s) (sym end) stands) in
-      subst (λ (x : Scene). Moved now x goes.moved new.conversation (owed_by deed old.owed old.wait s) new.owed old.closed new.closed (wait_by deed old.wait s now) new.wait) (did s)
+      subst (λ (x : Scene). Moved now x goes.moved new.conversation (owed_by deed old.owed old.wait s now) new.owed old.closed new.closed (wait_by deed old.wait s now) new.wait) (did s)
       (subst (λ (o : Owed). Moved now (scene mid s) goes.moved new.conversation o new.owed old.closed new.closed (wait_by deed old.wait s now) new.wait) (sym (owes s))
       (subst (λ (w : Waiting). Moved now (scene mid s) goes.moved new.conversation old.owed new.owed old.closed new.closed w new.wait) (sym (waits_same s)) first));
   packets = goes.packets ∙ packets;
@@ -164,7 +163,7 @@ step_by now deed old new mid end did owes waits_same goes may steps packets told
 pub heard_by : (now : ℕ) (bytes : List ℕ) (old new : Connection) (mid : Conversation) (o : Owed) (w : Waiting)
     → ((s : State) → StandsFor old.conversation.endpoint s → StandsFor mid.endpoint (after_receive s bytes)) → mid.side ≡ old.conversation.side
     → mid.closing ≡ old.conversation.closing
-    → ((s : State) → StandsFor old.conversation.endpoint s → o ≡ owed_heard old.owed old.wait s bytes)
+    → ((s : State) → StandsFor old.conversation.endpoint s → o ≡ owed_heard old.owed old.wait s bytes now)
     → ((s : State) → StandsFor old.conversation.endpoint s → w ≡ wait_heard old.wait s bytes now)
     → GoesOnBy now mid new.conversation o new.owed old.closed new.closed w new.wait
     → (StepsAt now w new.wait → HearsAt now old.wait new.wait) → mid.packets ≡ old.conversation.packets → new.told ≡ old.told
@@ -178,7 +177,7 @@ heard_by now bytes old new mid o w stands_then side closing owes waits_then goes
       let first = goes.on v (stands_then s stands) in
       let x : Scene = record { side = old.conversation.side; closing = old.conversation.closing; state = v } in
       let here : IsAt mid x = record { stands = stands_then s stands; side = side; closing = closing } in
-      subst (λ (y : Scene). Moved now y goes.moved new.conversation (owed_heard old.owed old.wait s bytes) new.owed old.closed new.closed (wait_heard old.wait s bytes now) new.wait) (scene_at here)
+      subst (λ (y : Scene). Moved now y goes.moved new.conversation (owed_heard old.owed old.wait s bytes now) new.owed old.closed new.closed (wait_heard old.wait s bytes now) new.wait) (scene_at here)
       (subst (λ (u : Owed). Moved now (scene mid v) goes.moved new.conversation u new.owed old.closed new.closed (wait_heard old.wait s bytes now) new.wait) (owes s stands)
       (subst (λ (u : Waiting). Moved now (scene mid v) goes.moved new.conversation o new.owed old.closed new.closed u new.wait) (waits_then s stands) first));
   packets = goes.packets ∙ packets;
@@ -194,29 +193,32 @@ owed_both false o m n same next = next refl
 abbrev owed_so : Owed → (word again : Bool) → Owed
 owed_so o word again = record o { word = word; again = again }
 
-pub owed_is_heard : (o m : Owed) (w : Waiting) (s : State) (b : List ℕ) (i : Input) (more left : Bool) → i ≡ input_answer s b
+pub owed_is_heard : (o m : Owed) (w : Waiting) (s : State) (b : List ℕ) (i : Input) (more left : Bool) (now : ℕ) → i ≡ input_answer s b
     → more ≡ is_progress s (after_receive s b) → left ≡ nat_lt 0 (unacknowledged_count (after_receive s b)) → (is_foreign i.dropped ≡ true → m ≡ o)
-    → (is_foreign i.dropped ≡ false → m ≡ record o { word = o.word || i.owes_reply; again = o.again || (more && (is_vain w.timing && left)) })
-    → m ≡ owed_heard o w s b
-owed_is_heard o m w s b i more left is progress some same next =
+    → (is_foreign i.dropped ≡ false → m ≡ record o { word = o.word || i.owes_reply; again = o.again || again_for i.dropped more left w now })
+    → m ≡ owed_heard o w s b now
+owed_is_heard o m w s b i more left now is progress some same next =
     let drops : is_foreign i.dropped ≡ is_foreign (input_answer s b).dropped = ap (λ (x : Input). is_foreign x.dropped) is in
-    owed_both (is_foreign (input_answer s b).dropped) o m (owed_so o (o.word || (input_answer s b).owes_reply) (o.again || goes_again w s b))
+    owed_both (is_foreign (input_answer s b).dropped) o m (owed_so o (o.word || (input_answer s b).owes_reply) (o.again || goes_again w s b now))
     (λ yes. same (drops ∙ yes))
-    (λ z. next (drops ∙ z) ∙ ap (λ (x : Input). owed_so o (o.word || x.owes_reply) (o.again || (more && (is_vain w.timing && left)))) is
-    ∙ ap (λ (x : Bool). owed_so o (o.word || (input_answer s b).owes_reply) (o.again || (x && (is_vain w.timing && left)))) progress
-    ∙ ap (λ (x : Bool). owed_so o (o.word || (input_answer s b).owes_reply) (o.again || (is_progress s (after_receive s b) && (is_vain w.timing && x)))) some)
+    (λ z. next (drops ∙ z) ∙ ap (λ (x : Input). owed_so o (o.word || x.owes_reply) (o.again || again_for x.dropped more left w now)) is
+    ∙ ap (λ (x : Bool). owed_so o (o.word || (input_answer s b).owes_reply) (o.again || again_for (input_answer s b).dropped x left w now)) progress
+    ∙ ap (λ (x : Bool). owed_so o (o.word || (input_answer s b).owes_reply) (o.again || again_for (input_answer s b).dropped (is_progress s (after_receive s b)) x w now)) some)
 
 wait_both : (foreign : Bool) (w v x : Waiting) → (foreign ≡ true → v ≡ w) → (foreign ≡ false → v ≡ x) → v ≡ (if foreign then w else x)
 wait_both true w v x same after = same refl
 wait_both false w v x same after = after refl
 
-pub wait_is_heard : (w v : Waiting) (s : State) (b : List ℕ) (i : Input) (more : Bool) (now : ℕ) → i ≡ input_answer s b
-    → more ≡ is_progress s (after_receive s b) → (is_foreign i.dropped ≡ true → v ≡ w) → (is_foreign i.dropped ≡ false → v ≡ after_word w more now)
-    → v ≡ wait_heard w s b now
-wait_is_heard w v s b i more now is progress same after =
+pub wait_is_heard : (w v : Waiting) (s : State) (b : List ℕ) (i : Input) (more left : Bool) (now : ℕ) → i ≡ input_answer s b
+    → more ≡ is_progress s (after_receive s b) → left ≡ nat_lt 0 (unacknowledged_count (after_receive s b)) → (is_foreign i.dropped ≡ true → v ≡ w)
+    → (is_foreign i.dropped ≡ false → v ≡ after_word w more (again_for i.dropped more left w now) now) → v ≡ wait_heard w s b now
+wait_is_heard w v s b i more left now is progress some same after =
     let drops : is_foreign i.dropped ≡ is_foreign (input_answer s b).dropped = ap (λ (x : Input). is_foreign x.dropped) is in
-    wait_both (is_foreign (input_answer s b).dropped) w v (after_word w (is_progress s (after_receive s b)) now) (λ yes. same (drops ∙ yes))
-    (λ z. after (drops ∙ z) ∙ ap (λ (x : Bool). after_word w x now) progress)
+    wait_both (is_foreign (input_answer s b).dropped) w v (after_word w (is_progress s (after_receive s b)) (goes_again w s b now) now)
+    (λ yes. same (drops ∙ yes))
+    (λ z. after (drops ∙ z) ∙ ap (λ (x : Input). after_word w more (again_for x.dropped more left w now) now) is
+    ∙ ap (λ (x : Bool). after_word w x (again_for (input_answer s b).dropped x left w now) now) progress
+    ∙ ap (λ (x : Bool). after_word w (is_progress s (after_receive s b)) (again_for (input_answer s b).dropped (is_progress s (after_receive s b)) x w now) now) some)
 
 -- ---- what is due
 

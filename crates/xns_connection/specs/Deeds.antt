@@ -103,13 +103,13 @@ wanted_by (heard bytes) w = w
 
 -- ---- what is owed and waited for when it is done, before anything moves
 
-abbrev pub owed_by : Deed → Owed → Waiting → State → Owed
-owed_by nothing o w s = o
-owed_by asked o w s = o
-owed_by (made call) o w s = o
-owed_by (gave kind words) o w s = o
-owed_by took o w s = o
-owed_by (heard bytes) o w s = owed_heard o w s bytes
+abbrev pub owed_by : Deed → Owed → Waiting → State → (now : ℕ) → Owed
+owed_by nothing o w s now = o
+owed_by asked o w s now = o
+owed_by (made call) o w s now = o
+owed_by (gave kind words) o w s now = o
+owed_by took o w s now = o
+owed_by (heard bytes) o w s now = owed_heard o w s bytes now
 
 abbrev pub wait_by : Deed → Waiting → State → (now : ℕ) → Waiting
 wait_by nothing w s now = w

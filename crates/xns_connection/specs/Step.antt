@@ -57,7 +57,7 @@ WaitsBy (heard bytes) now w v = HearsAt now w v
 pub record Step (now : ℕ) (deed : Deed) (old new : Connection) : Type 0 where
   pub moved : Result (Unit {0}) FeedRefusal
   pub on : (s : State) → StandsFor old.conversation.endpoint s
-      → Moved now (done deed (scene old.conversation s)) moved new.conversation (owed_by deed old.owed old.wait s) new.owed
+      → Moved now (done deed (scene old.conversation s)) moved new.conversation (owed_by deed old.owed old.wait s now) new.owed
       old.closed new.closed (wait_by deed old.wait s now) new.wait
   pub may : May old.conversation deed
   pub steps : WaitsBy deed now old.wait new.wait

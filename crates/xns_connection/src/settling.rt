@@ -10,11 +10,10 @@ ghost use Rattle.xns_spp.specs.Sending.{tick_answer};
 ghost use Rattle.xns_spp.specs.State.{State};
 ghost use Rattle.xns_spp.specs.Telling.{unacknowledged_count};
 ghost use Rattle.xns_connection.specs.Closing.{drains};
-ghost use Rattle.xns_connection.specs.Connecting.{is_again, is_open_due, is_closed_due, why_after, owed_after, is_foreign};
+ghost use Rattle.xns_connection.specs.Connecting.{is_again, is_open_due, is_closed_due, why_after, owed_after, again_for, is_foreign, is_repeat};
 ghost use Rattle.xns_connection.specs.Moving.{HasHistory};
 ghost use Rattle.xns_connection.specs.Deeds.{ClosesThen, GoesOnBy, is_starved};
 ghost use Rattle.xns_connection.specs.Telling.{waits};
-ghost use Rattle.xns_agenda.specs.Measuring.{is_vain};
 ghost use Rattle.xns_agenda.specs.Waiting.{StepsAt, after_step, after_word};
 ghost use Rattle.xns_agenda.specs.declared.act.Act.TheVariants.{GiveUp};
 
@@ -126,14 +125,35 @@ pub fn is_progress(conversation: &Conversation, before: usize, was_open: bool) -
         || (conversation.endpoint.is_open() && !was_open)
 }
 
+/// Whether a packet was dropped because its item is there.
+fn is_repeat(dropped: Option<Dropped>) -> bool
+    ensures { result ≡ is_repeat dropped }
+{
+    matches!(dropped, Some(Dropped::Repeat))
+}
+
+/// Whether the first item goes out again for a packet, where `more` says whether the packet has more acknowledged, or opens the connection,
+/// and `left` whether an item is still not acknowledged: after a wait that was in vain, or for a repeat, where something is overdue.
+fn goes_again(dropped: Option<Dropped>, more: bool, left: bool, wait: &Wait, now: u64) -> bool
+    ensures { result ≡ again_for dropped more left wait.now now }
+{
+    let may = if more {
+        wait.was_vain()
+    } else {
+        is_repeat(dropped) && wait.is_overdue(now)
+    };
+    left && may
+}
+
 /// Notes a packet that came, where `more` says whether it has more acknowledged, or opens the connection, and `left` whether an item is
 /// still not acknowledged.
 pub fn note(input: Input, more: bool, left: bool, owed: &mut Owed, wait: &mut Wait, now: u64)
     ensures foreign { is_foreign input.dropped ≡ true → (wait.new ≡ wait.old) × (owed.new ≡ owed.old) }
-    ensures wait { is_foreign input.dropped ≡ false → wait.new ≡ after_word wait.old more now }
+    ensures wait { is_foreign input.dropped ≡ false
+        → wait.new ≡ after_word wait.old more (again_for input.dropped more left wait.old now) now }
     ensures owed { is_foreign input.dropped ≡ false → owed.new ≡ record owed.old {
       word = owed.old.word || input.owes_reply;
-      again = owed.old.again || (more && (is_vain wait.old.timing && left));
+      again = owed.old.again || again_for input.dropped more left wait.old now;
     } }
     ensures open_due { is_open_due wait.old.due ≡ true → is_open_due wait.new.due ≡ true }
     ensures closed_due { is_closed_due wait.old.due ≡ true → is_closed_due wait.new.due ≡ true }
@@ -141,9 +161,10 @@ pub fn note(input: Input, more: bool, left: bool, owed: &mut Owed, wait: &mut Wa
     if is_foreign(input.dropped) {
         return;
     }
+    let again = goes_again(input.dropped, more, left, wait, now);
     owed.word = owed.word || input.owes_reply;
-    owed.again = owed.again || (more && wait.was_vain() && left);
-    wait.hear(more, now);
+    owed.again = owed.again || again;
+    wait.hear(more, again, now);
 }
 
 /// What is owed after an act.
