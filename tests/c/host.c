@@ -32,7 +32,7 @@ static bool carry(struct xns_host *from, struct xns_host *to, uint64_t via) {
     size_t length;
     bool moved = false;
     while ((told = xns_host_next_packet(from, now, packet, sizeof packet, &length, &by)) != XNS_NOTHING) {
-        if (told == XNS_NO_MEMORY) CHECK(refuse_at > 0 && xns_host_wake(from) == 0);
+        if (told == XNS_NO_MEMORY) CHECK(refuse_at > 0 && (xns_host_wake(from) == 0 || xns_host_wake(from) > now)); /* it rests */
         else CHECK(told == XNS_OK && by == via);
         if (told == XNS_OK && to != NULL) CHECK(xns_host_receive(to, now, via == CLIENT_VIA ? SERVICE_VIA : CLIENT_VIA, packet, length) == XNS_OK);
         moved = true;

@@ -237,16 +237,16 @@ packet_given law now number packet p q r s t =
           (λ c d ps n v ms same. subst (Led c d ps n v no_more sent) (sym there) (led t.next (on c d ps n v ms same))) f at_it a b programs m side meets here))),
     )
 
-next_given : (law : AStepKeepsItsPromises) (now : ℕ) (p q : Places) {result : Result (Option Outgoing) HostFault} {r : Places} → EachStill p.guests q.guests → NextPacket now q result r → Given result p.guests r.guests
-next_given law now p q {result = result} {r = r} s (places.nothing before none) = none_given result p.guests r.guests (each_then p.guests q.guests r.guests s (gives_none law now q before))
-next_given law now p q s (places.gives {q = x} {r = r} {packet = packet} number before first asked) =
+next_given : (law : AStepKeepsItsPromises) (now wait : ℕ) (p q : Places) {result : Result (Option Outgoing) HostFault} {r : Places} → EachStill p.guests q.guests → NextPacket now wait q result r → Given result p.guests r.guests
+next_given law now wait p q {result = result} {r = r} s (places.nothing before none) = none_given result p.guests r.guests (each_then p.guests q.guests r.guests s (gives_none law now q before))
+next_given law now wait p q s (places.gives {q = x} {r = r} {packet = packet} number before first asked) =
     packet_given law now number packet p x r (each_then p.guests q.guests x.guests s (gives_none law now q before)) asked
-next_given law now p q s (places.starves {q = x} {r = r} number before first asked) =
+next_given law now wait p q s (places.starves {q = x} {r = r} number before first asked) =
     none_given (Err NoMemory) p.guests r.guests (each_then p.guests x.guests r.guests (each_then p.guests q.guests x.guests s (gives_none law now q before)) (no_packet law now number (Err NoMemory) x r refl asked))
 
 out_given : (law : AStepKeepsItsPromises) (now : ℕ) (result : Result (Option Outgoing) HostFault) (h j : Host) → GivesOut now result h j → (waiting : List Outgoing) → h.strays.waiting ≡ waiting
     → Given result h.guests.items j.guests.items
-out_given law now result h j g [] is = next_given law (time_at h.clock now) (places_of h) g.mid (all_act (time_at h.clock now) (places_of h) g.acts.one_by_one) (g.next is).0
+out_given law now result h j g [] is = next_given law (time_at h.clock now) h.settings.first_wait (places_of h) g.mid (all_act (time_at h.clock now) (places_of h) g.acts.one_by_one) (g.next is).0
 out_given law now result h j g (o ∷ os) is =
     none_given result h.guests.items j.guests.items (each_then h.guests.items g.mid.guests j.guests.items (all_act (time_at h.clock now) (places_of h) g.acts.one_by_one)
     (still_if g.mid.guests j.guests.items (ap (λ (p : Places). p.guests) (g.stray o os is).1)))

@@ -88,7 +88,7 @@ telling_next event h j t = next_event h.clock.latest (places_of h) event t.next
 giving : (now : ℕ) (result : Result (Option Outgoing) HostFault) (h j : Host) → GivesOut now result h j → (waiting : List Outgoing) → h.strays.waiting ≡ waiting → Silent h.guests.items j.guests.items
 giving now result h j g [] is =
     let n = (g.next is).0 in
-    then_silent (λ k. []) h.guests.items g.mid.guests j.guests.items (all_act (time_at h.clock now) (places_of h) g.acts.one_by_one) (next_packet (time_at h.clock now) g.mid n)
+    then_silent (λ k. []) h.guests.items g.mid.guests j.guests.items (all_act (time_at h.clock now) (places_of h) g.acts.one_by_one) (next_packet (time_at h.clock now) h.settings.first_wait g.mid n)
 giving now result h j g (o ∷ os) is =
     let s = g.stray o os is in
     then_silent (λ k. []) h.guests.items g.mid.guests j.guests.items (all_act (time_at h.clock now) (places_of h) g.acts.one_by_one)

@@ -186,11 +186,11 @@ gives_none now p GivesNone.nobody = silent p.guests
 gives_none now p (GivesNone.another {q = q} {r = r} number before first asked) =
     then_silent (λ k. []) p.guests q.guests r.guests (gives_none now p before) (asks_packet now number (Ok None) q r asked)
 
-pub next_packet : (now : ℕ) (p : Places) {result : Result (Option Outgoing) HostFault} {r : Places} → NextPacket now p result r → Silent p.guests r.guests
-next_packet now p (places.nothing before none) = gives_none now p before
-next_packet now p (places.gives {q = q} {r = r} {packet = packet} number before first asked) =
+pub next_packet : (now wait : ℕ) (p : Places) {result : Result (Option Outgoing) HostFault} {r : Places} → NextPacket now wait p result r → Silent p.guests r.guests
+next_packet now wait p (places.nothing before none) = gives_none now p before
+next_packet now wait p (places.gives {q = q} {r = r} {packet = packet} number before first asked) =
     then_silent (λ k. []) p.guests q.guests r.guests (gives_none now p before) (asks_packet now number (Ok (Some packet)) q r asked)
-next_packet now p (places.starves {q = q} {r = r} number before first asked) =
+next_packet now wait p (places.starves {q = q} {r = r} number before first asked) =
     then_silent (λ k. []) p.guests q.guests r.guests (gives_none now p before) (asks_packet now number (Err NoMemory) q r asked)
 
 -- ---- what the program is told

@@ -152,12 +152,12 @@ sooner_by true s u t test (inr h) = let l = leb-true s u test in omega (arith, l
 sooner_by false s u t test (inl h) = let l = leb-false s u test in omega (arith, l, h)
 sooner_by false s u t test (inr h) = h
 
-left_by : (a b : Time) (t : ℕ) → IsBy a t → IsBy (sooner a b) t
+pub left_by : (a b : Time) (t : ℕ) → IsBy a t → IsBy (sooner a b) t
 left_by None b t h = absurd h
 left_by (Some s) None t h = h
 left_by (Some s) (Some u) t h = sooner_by (nat_le s u) s u t refl (inl h)
 
-right_by : (a b : Time) (t : ℕ) → IsBy b t → IsBy (sooner a b) t
+pub right_by : (a b : Time) (t : ℕ) → IsBy b t → IsBy (sooner a b) t
 right_by None b t h = h
 right_by (Some s) None t h = absurd h
 right_by (Some s) (Some u) t h = sooner_by (nat_le s u) s u t refl (inr h)

@@ -1,6 +1,6 @@
 -- What is to be done next, of all connections.
 use Rattle.std.specs.Prelude.{◌≡◌, ℕ, true, false, List, length, Option, Some, None, slice_get, slice_set}
-use Rattle.xns_agenda.specs.Times.{HasEarliest, IsEarliest}
+use Rattle.xns_agenda.specs.Times.{HasEarliest, IsBy, IsEarliest}
 use Rattle.xns_agenda.specs.Turns.{HasNoTurn, Line, has_turn, with_turn}
 use Rattle.xns_agenda.specs.declared.facts.Facts.{Facts}
 use Rattle.xns_agenda.specs.declared.facts.TheConstants.Facts.{NONE}
@@ -8,7 +8,8 @@ use Rattle.xns_agenda.specs.declared.way.Way.{Way}
 use Rattle.xns_agenda.specs.declared.way.Way.TheVariants.{Lingers, Stranger, Nobody}
 
 -- by number: when something is due; who may have a packet that is to go out, and who may have something to tell; since when who
--- gives way lingers or is silent; and which numbers no connection has
+-- gives way lingers or is silent; and which numbers no connection has. Where memory was refused for a packet and nothing was noted since: when
+-- packets are asked for again
 pub record Plan : Type 0 where
   pub dues : List (Option ℕ)
   pub packets : Line
@@ -16,6 +17,7 @@ pub record Plan : Type 0 where
   pub closed : List (Option ℕ)
   pub strangers : List (Option ℕ)
   pub free : Line
+  pub short : Option ℕ
 
 -- it is for so many numbers
 pub record IsFor (a : Plan) (most : ℕ) : Type 0 where
@@ -34,6 +36,7 @@ noted a number f = record a {
   events = with_turn a.events number f.has_event;
   closed = slice_set a.closed number f.lingers_since;
   strangers = slice_set a.strangers number f.stranger_since;
+  short = None;
 }
 
 -- no connection has this number any longer
@@ -45,6 +48,7 @@ released a number = record {
   closed = slice_set a.closed number None;
   strangers = slice_set a.strangers number None;
   free = with_turn a.free number true;
+  short = None;
 }
 
 -- what is to be done of the connection with this number is not forgotten
@@ -60,19 +64,24 @@ pub record HasNobody (a : Plan) (number : ℕ) : Type 0 where
   pub event : has_turn a.events number ≡ false
   pub free : has_turn a.free number ≡ true
 
--- something is to be done at this time: at once where a packet may be there, or something to tell; else when something is due
-pub data IsWanted (packets events : Line) (dues : List (Option ℕ)) : ℕ → Type 0 where
-  packet_waits : (k : ℕ) → has_turn packets k ≡ true → IsWanted packets events dues 0
-  event_waits : (k : ℕ) → has_turn events k ≡ true → IsWanted packets events dues 0
-  is_due : (k t : ℕ) → slice_get dues k ≡ Some (Some t) → IsWanted packets events dues t
+-- when those are asked that have a turn to give a packet: at once, or where memory was refused, at this time
+abbrev pub asked_at : Option ℕ → ℕ
+asked_at None = 0
+asked_at (Some time) = time
 
--- the time that is told is 0 where a packet may be there, or something to tell, and else no later than each due; and something is to be
--- done then
-pub record IsWake (packets events : Line) (dues : List (Option ℕ)) (time : Option ℕ) : Type 0 where
-  pub packet : (k : ℕ) → has_turn packets k ≡ true → time ≡ Some 0
+-- something is to be done at this time: where a packet may be there, when packets are asked for; at once where there is something to tell;
+-- and when something is due
+pub data IsWanted (packets events : Line) (dues : List (Option ℕ)) (short : Option ℕ) : ℕ → Type 0 where
+  packet_waits : (k : ℕ) → has_turn packets k ≡ true → IsWanted packets events dues short (asked_at short)
+  event_waits : (k : ℕ) → has_turn events k ≡ true → IsWanted packets events dues short 0
+  is_due : (k t : ℕ) → slice_get dues k ≡ Some (Some t) → IsWanted packets events dues short t
+
+-- the time that is told is the first of these
+pub record IsWake (packets events : Line) (dues : List (Option ℕ)) (short time : Option ℕ) : Type 0 where
+  pub packet : (k : ℕ) → has_turn packets k ≡ true → IsBy time (asked_at short)
   pub event : (k : ℕ) → has_turn events k ≡ true → time ≡ Some 0
   pub due : HasEarliest dues time
-  pub wanted : (t : ℕ) → time ≡ Some t → IsWanted packets events dues t
+  pub wanted : (t : ℕ) → time ≡ Some t → IsWanted packets events dues short t
 
 -- who gives way to a new connection: who lingers longest; where nobody lingers, who is silent longest
 pub data GivesWay (closed strangers : List (Option ℕ)) : ℕ → Type 0 where

@@ -1,12 +1,13 @@
 //! What is to be done next, of all connections.
 
 ghost use Rattle.std.specs.Prelude.{◌≡◌, ◌<◌, ℕ, length, true, false, IfOk, IfSome, Some, None, slice_get};
-ghost use Rattle.xns_agenda.specs.Agenda.{GetsNumber, GivesWay, HasNobody, HasNoNumber, IsFor, IsWake, noted, released};
+ghost use Rattle.xns_agenda.specs.Agenda.{GetsNumber, GivesWay, HasNobody, HasNoNumber, IsFor, IsWake, asked_at, noted, released};
 ghost use Rattle.xns_agenda.specs.Times.{HasEarliest, HasNoneBy, IsFirstBy};
 ghost use Rattle.xns_agenda.specs.Turns.{HasNoTurn, IsFirst, has_turn, with_turn};
 
 use crate::facts::Facts;
 use crate::places::Places;
+use crate::time_tree::sooner;
 use crate::times::Times;
 use crate::turns::Turns;
 use std::alloc::{AllocError, Global};
@@ -25,6 +26,8 @@ pub struct Agenda {
     places: Places,
     /// The numbers that no connection has.
     free: Turns,
+    /// Where memory was refused for the last packet that was asked for, and nothing was noted since: when packets are asked for again.
+    short: Option<u64>,
 }
 
 impl Model for Agenda {
@@ -40,6 +43,7 @@ impl Model for Agenda {
       closed = a.places.closed;
       strangers = a.places.strangers;
       free = a.free;
+      short = a.short;
     } };
 
     ghost invariant = { λ a. IsFor (record {
@@ -49,6 +53,7 @@ impl Model for Agenda {
       closed = a.places.closed;
       strangers = a.places.strangers;
       free = a.free;
+      short = a.short;
     }) (length a.dues) };
 }
 
@@ -108,18 +113,28 @@ fn first_time(dues: &Times) -> Option<u64>
     Some(time)
 }
 
-/// When something is to be done at the latest.
-#[tactic(auto, using(crate::proofs::Agendas::nobody, crate::proofs::Agendas::packet_wanted, crate::proofs::Agendas::event_wanted, crate::proofs::Agendas::due_wanted))]
-fn wake(packets: &Turns, events: &Turns, dues: &Times) -> Option<u64>
-    ensures { IsWake packets.now events.now dues.now result }
+/// When those that have a turn to give a packet are asked. `None`: nobody has one.
+#[tactic(auto, using(crate::proofs::Agendas::nobody))]
+fn packet_time(packets: &Turns, short: Option<u64>) -> Option<u64>
+    ensures some { (k : ℕ) → has_turn packets.now k ≡ true → result ≡ Some (asked_at short) }
+    ensures there { (t : ℕ) → result ≡ Some t → (k : ℕ) × (has_turn packets.now k ≡ true) }
+    ensures time { (t : ℕ) → result ≡ Some t → t ≡ asked_at short }
 {
-    if packets.first().is_some() {
-        return Some(0);
+    packets.first()?;
+    match short {
+        Some(time) => Some(time),
+        None => Some(0),
     }
+}
+
+/// When something is to be done at the latest.
+fn wake(packets: &Turns, events: &Turns, dues: &Times, short: Option<u64>) -> Option<u64>
+    ensures { IsWake packets.now events.now dues.now short result }
+{
     if events.first().is_some() {
         return Some(0);
     }
-    first_time(dues)
+    sooner(packet_time(packets, short), first_time(dues))
 }
 
 impl Agenda {
@@ -135,6 +150,7 @@ impl Agenda {
             events: Turns::new(alloc, most)?,
             places: Places::new(alloc, most)?,
             free,
+            short: None,
         })
     }
 
@@ -150,6 +166,7 @@ impl Agenda {
         self.events.set(number, facts.has_event);
         self.places.set_closed(number, facts.lingers_since);
         self.places.set_stranger(number, facts.stranger_since);
+        self.short = None;
     }
 
     /// A connection has this number.
@@ -228,11 +245,20 @@ impl Agenda {
         self.events.set(number, false);
     }
 
-    /// When something is to be done at the latest: at once, which is 0, where a packet may be there, or something to tell. `None`: never.
+    /// Memory was refused for a packet: until something is noted, packets are wanted at this time, and not at once.
+    pub fn rest_packets(&mut self, time: u64)
+        ensures rested { self.new ≡ record self.old { short = Some time } }
+        ensures room { IsFor self.old (length self.old.dues) }
+    {
+        self.short = Some(time);
+    }
+
+    /// When something is to be done at the latest: at once, which is 0, where something is to be told, or a packet may be there and none was
+    /// refused memory. `None`: never.
     pub fn wake(&self) -> Option<u64>
-        ensures wake { IsWake self.now.packets self.now.events self.now.dues result }
+        ensures wake { IsWake self.now.packets self.now.events self.now.dues self.now.short result }
         ensures room { IsFor self.now (length self.now.dues) }
     {
-        wake(&self.packets, &self.events, &self.dues)
+        wake(&self.packets, &self.events, &self.dues, self.short)
     }
 }

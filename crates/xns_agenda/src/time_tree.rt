@@ -31,7 +31,7 @@ impl Model for TimeTree {
 }
 
 /// The sooner of two times.
-fn sooner(first: Option<u64>, second: Option<u64>) -> Option<u64>
+pub fn sooner(first: Option<u64>, second: Option<u64>) -> Option<u64>
     ensures { result ≡ sooner first second }
 {
     let Some(one) = first else {

@@ -1,11 +1,13 @@
 -- What follows of a host from what its calls are.
-use Rattle.std.proofs.Common.{◌≡◌, ◌∙◌, ap, arith, refl, subst, sym, ℕ, List, [], ◌∷◌, Bool, true, Option, Some, None, Result, Ok, slice_get}
+use Rattle.std.proofs.Common.{◌≡◌, ◌∙◌, ap, arith, refl, subst, sym, ℕ, List, [], ◌∷◌, Bool, true, Option, Some, None, Result, Ok, Err, slice_get}
 use Rattle.std.specs.Prelude.{◌&&◌, not}
 use Rattle.std.specs.Option.{is_none}
 use Rattle.std.proofs.lemmas.Option.{same_Some}
 use Rattle.xns_idp.specs.Packet.{PacketModel, same_place}
 use Rattle.xns_idp.specs.Reading.{packet_of}
+use Rattle.xns_agenda.specs.Clock.{time_at}
 use Rattle.xns_agenda.specs.Turns.{HasNoTurn}
+use Rattle.xns_agenda.specs.Waiting.{later}
 use Rattle.xns_spp.specs.Ends.{is_open, is_ours_at}
 use Rattle.xns_spp.specs.Held.{Held, StandsFor}
 use Rattle.xns_spp.specs.Packet.{SppPacketModel, spp_packet_of}
@@ -13,7 +15,7 @@ use Rattle.xns_spp.specs.State.{State}
 use Rattle.xns_spp.specs.Telling.{own_name}
 use Rattle.xns_spp.specs.declared.ends.Ends.{Ends}
 use Rattle.xns_host.specs.Coming.{Comes, echoes, foreign, hears, opens, refuses}
-use Rattle.xns_host.specs.Following.{AConnectionHearsItsPackets, AQuotedOpeningIsNotServed, ASilentHostHasNothingToTell, AnIdleHostHasNoPacket, NoNetworkDecides}
+use Rattle.xns_host.specs.Following.{AConnectionHearsItsPackets, AQuotedOpeningIsNotServed, ASilentHostHasNothingToTell, AStarvedHostRests, AnIdleHostHasNoPacket, NoNetworkDecides}
 use Rattle.xns_host.specs.Hosting.{HasNoPacket, IsPacketOf, IsRefusedBy, confirms}
 use Rattle.xns_host.specs.Ours.{Names, QuotesOurs}
 use Rattle.xns_host.specs.Ours as ours
@@ -27,6 +29,7 @@ use Rattle.xns_host.specs.Whole.{Whole}
 use Rattle.xns_host.specs.declared.event.Event.{Event}
 use Rattle.xns_host.specs.declared.guest.Guest.{Guest}
 use Rattle.xns_host.specs.declared.host_fault.HostFault.{HostFault}
+use Rattle.xns_host.specs.declared.host_fault.HostFault.TheVariants.{NoMemory}
 use Rattle.xns_host.specs.declared.opening_quote.OpeningQuote.{OpeningQuote}
 use Rattle.xns_host.specs.declared.outgoing.Outgoing.{Outgoing}
 use Rattle.xns_host.proofs.Ends.{end_id, leads_to}
@@ -52,15 +55,27 @@ nothing_to_tell old new event =
     let left = none_told old.clock.latest _ _ None refl event.next in
     no_event new.agenda old.guests.items new.guests.items new.noted (λ k. ap (λ (xs : List (Option Guest)). slice_get xs k) left.0) left.1
 
-none_given : (now : ℕ) (p r : Places) (x : Result (Option Outgoing) HostFault) → x ≡ Ok None → NextPacket now p x r → HasNoTurn r.agenda.packets
-none_given now p r x none (nothing gone left) = left
-none_given now p r x none (gives number gone first asks) = absurd (cc)
-none_given now p r x none (starves number gone first asks) = absurd (cc)
+none_given : (now wait : ℕ) (p r : Places) (x : Result (Option Outgoing) HostFault) → x ≡ Ok None → NextPacket now wait p x r → HasNoTurn r.agenda.packets
+none_given now wait p r x none (nothing gone left) = left
+none_given now wait p r x none (gives number gone first asks) = absurd (cc)
+none_given now wait p r x none (starves number gone first asks) = absurd (cc)
 
 pub no_packet_left : AnIdleHostHasNoPacket
 no_packet_left now old new out = by old.strays.waiting refl where
   by : (ws : List Outgoing) → old.strays.waiting ≡ ws → HasNoPacket new.guests.items
-  by [] none = no_packet new.agenda new.guests.items new.noted (none_given _ _ _ (Ok None) refl (out.next none).0)
+  by [] none = no_packet new.agenda new.guests.items new.noted (none_given _ _ _ _ (Ok None) refl (out.next none).0)
+  by (o ∷ os) some = let bad = (out.stray o os some).0 in absurd (cc)
+
+none_rests : (now wait : ℕ) (p r : Places) (x : Result (Option Outgoing) HostFault) → x ≡ Err NoMemory → NextPacket now wait p x r
+    → r.agenda.short ≡ Some (later now wait)
+none_rests now wait p r x short (nothing gone left) = absurd (cc)
+none_rests now wait p r x short (gives number gone first asks) = absurd (cc)
+none_rests now wait p r x short (starves number gone first asks) = refl
+
+pub a_starved_one_rests : AStarvedHostRests
+a_starved_one_rests now old new out = by old.strays.waiting refl where
+  by : (ws : List Outgoing) → old.strays.waiting ≡ ws → new.agenda.short ≡ Some (later (time_at old.clock now) old.settings.first_wait)
+  by [] none = none_rests _ _ _ _ (Err NoMemory) refl (out.next none).0
   by (o ∷ os) some = let bad = (out.stray o os some).0 in absurd (cc)
 
 -- ---- whose a packet is

@@ -281,5 +281,9 @@ rested_but a hs n but = record {
   free = but.free;
 }
 
+-- nothing is forgotten where packets are asked for later
+pub rested_all : (a : Plan) (gs : Places) (time : ℕ) → IsAllNoted a gs → IsAllNoted (record a { short = Some time }) gs
+rested_all a gs time all = record { each = λ k p there. other_noted a (record a { short = Some time }) k p (all.each k p there) refl refl refl refl refl refl }
+
 pub same_place : (gs : Places) (n : ℕ) (old p : Option Guest) → n < length gs → old ≡ get_or gs n old → slice_get gs n ≡ Some p → old ≡ p
 same_place gs n old p less read is = one_place old p (slice_get gs n) (slice_get_read gs (length gs) n old refl less read) is

@@ -7,11 +7,12 @@ use Rattle.std.proofs.lemmas.Option.{slice_get-get_or, slice_get_read, slice_get
 use Rattle.std.specs.declared.alloc.AllocError.{AllocError}
 use Rattle.xns_agenda.specs.Agenda.{Plan, noted}
 use Rattle.xns_agenda.specs.Times.{IsFirstBy}
-use Rattle.xns_agenda.specs.Turns.{has_turn, with_turn}
+use Rattle.xns_agenda.specs.Turns.{IsFirst, has_turn, with_turn}
+use Rattle.xns_agenda.specs.Waiting.{later}
 use Rattle.xns_agenda.specs.declared.clock.Clock.{Clock}
 use Rattle.xns_host.specs.Events.{event_in}
 use Rattle.xns_host.specs.Hosting.{IsAllNoted, IsApart, facts_in, facts_of, may_go}
-use Rattle.xns_host.specs.Places.{ActsAll, ActsAt, AsksEvent, AsksInVain, AsksPacket, GivesNone, NextPacket, Places, Turns, became, nobody, taken_by, vacated, event_passed, places_with, vacated_if, quiet, tells}
+use Rattle.xns_host.specs.Places.{ActsAll, ActsAt, AsksEvent, AsksInVain, AsksPacket, GivesNone, NextPacket, Places, Turns, became, nobody, resting, starves, taken_by, vacated, event_passed, places_with, vacated_if, quiet, tells}
 use Rattle.xns_host.specs.Strays.{StrayQueue}
 use Rattle.xns_host.specs.Went.{GuestActs, GuestTells, given_by}
 use Rattle.xns_host.specs.declared.event.Event.{Event}
@@ -126,11 +127,17 @@ packet_as now n p r x y is asks = subst (λ (z : Result (Option Outgoing) HostFa
 pub acts_all_at : (t u : ℕ) (p r : Places) → t ≡ u → ActsAll t p r → ActsAll u p r
 acts_all_at t u p r same acts = subst (λ (x : ℕ). ActsAll x p r) same acts
 
-pub next_at : (t u : ℕ) (p r : Places) (x : Result (Option Outgoing) HostFault) → t ≡ u → NextPacket t p x r → NextPacket u p x r
-next_at t u p r x same next = subst (λ (y : ℕ). NextPacket y p x r) same next
+pub next_at : (t u w : ℕ) (p r : Places) (x : Result (Option Outgoing) HostFault) → t ≡ u → NextPacket t w p x r → NextPacket u w p x r
+next_at t u w p r x same next = subst (λ (y : ℕ). NextPacket y w p x r) same next
 
-pub next_as : (t : ℕ) (p r : Places) (x y : Result (Option Outgoing) HostFault) → x ≡ y → NextPacket t p x r → NextPacket t p y r
-next_as t p r x y is next = subst (λ (z : Result (Option Outgoing) HostFault). NextPacket t p z r) is next
+-- memory was refused to the one whose turn it was, and packets are asked for again when the wait is over
+pub rests_at : (t u v w n : ℕ) (p q r s : Places) (x y : Result (Option Outgoing) HostFault) → t ≡ u → v ≡ w → x ≡ Err NoMemory → y ≡ Err NoMemory
+    → GivesNone t p q → IsFirst q.agenda.packets n → AsksPacket t n x q r → s ≡ resting r (later t v) → NextPacket u w p y s
+rests_at t u v w n p q r s x y time wait short told gone first asks is =
+    let so : s ≡ resting r (later u w) = is ∙ (ap (λ (k : ℕ). resting r (later k v)) time ∙ ap (λ (k : ℕ). resting r (later u k)) wait) in
+    let at_t : NextPacket t w p (Err NoMemory) (resting r (later t w)) = starves n gone first (packet_as t n q r x (Err NoMemory) short asks) in
+    subst (λ (z : Result (Option Outgoing) HostFault). NextPacket u w p z s) (sym told)
+    (subst (λ (k : Places). NextPacket u w p (Err NoMemory) k) (sym so) (subst (λ (k : ℕ). NextPacket k w p (Err NoMemory) (resting r (later k w))) time at_t))
 
 -- ---- stray replies
 

@@ -2,7 +2,7 @@
 use Rattle.std.proofs.Common.{◌≡◌, ◌≢◌, ◌∙◌, ◌⊎◌, inl, inr, ap, refl, subst, sym, ℕ, ◌<◌, ◌≤◌, Bool, true, false, List, [], length, get_or, Option, Some, None, slice_get, arith}
 use Rattle.std.specs.Prelude.{position}
 use Rattle.std.proofs.lemmas.Option.{slice_get-get_or, slice_get_within}
-use Rattle.xns_agenda.specs.Agenda.{Plan, IsFor, IsWake, IsWanted, packet_waits, event_waits, is_due, GivesWay, longest_closed, longest_silent}
+use Rattle.xns_agenda.specs.Agenda.{Plan, IsFor, IsWake, IsWanted, asked_at, packet_waits, event_waits, is_due, GivesWay, longest_closed, longest_silent}
 use Rattle.xns_agenda.specs.Agenda.{GetsNumber, free_number, given_way, HasNoNumber}
 use Rattle.xns_host.specs.Hosting.{IsAllNoted, IsNotedIn, facts_in, lingers_since, stranger_since, Wants, for_stray, for_packet, for_event, for_due, IsFirstWant, MayTell}
 use Rattle.xns_host.specs.Events.{event_in}
@@ -54,25 +54,28 @@ has_time a gs k t times fact sized nothing noted is =
 at_once : (time : Option ℕ) → time ≡ Some 0 → IsBy time 0
 at_once time is = let least : 0 ≤ 0 = omega arith in subst (λ (o : Option ℕ). IsBy o 0) (sym is) least
 
+abbrev Wake : Plan → Option ℕ → Type 0
+Wake a time = IsWake a.packets a.events a.dues a.short time
+
 told_in : (a : Plan) (k : ℕ) (p : Option Guest) (b : Bool) → IsNotedIn a k p → event_in k p ≢ None → has_turn a.events k ≡ b → has_turn a.events k ≡ true
 told_in a k p true noted tells is = is
 told_in a k p false noted tells is = absurd (tells (noted.event is))
 
 least_by : {t : ℕ} (a : Plan) (gs : Places) (strays : List Outgoing) (time : Option ℕ) → IsAllNoted a gs → strays ≡ []
-    → IsWake a.packets a.events a.dues time → Wants strays gs t → IsBy time t
+    → Wake a time → Wants strays gs a.short t → IsBy time t
 least_by a gs strays time all empty wake (for_stray some) = absurd (some empty)
 least_by a gs strays time all empty wake (for_packet k g there fresh) =
-    at_once time (wake.packet k ((all.each k (Some g) there).facts.packet ∙ fresh))
+    wake.packet k ((all.each k (Some g) there).facts.packet ∙ fresh)
 least_by a gs strays time all empty wake (for_event k g there tells) =
     at_once time (wake.event k (told_in a k (Some g) (has_turn a.events k) (all.each k (Some g) there) tells refl))
 least_by a gs strays time all empty wake (for_due k t g there is) =
     wake.due.least k t ((all.each k (Some g) there).facts.due ∙ ap Some is)
 
-abbrev May : List Outgoing → Places → ℕ → Type 0
-May strays gs t = Wants strays gs t ⊎ ((t ≡ 0) × MayTell gs)
+abbrev May : List Outgoing → Places → Option ℕ → ℕ → Type 0
+May strays gs short t = Wants strays gs short t ⊎ ((t ≡ 0) × MayTell gs)
 
 packet_in : (a : Plan) (gs : Places) (strays : List Outgoing) (k : ℕ) (p : Option Guest) → IsNotedIn a k p → slice_get gs k ≡ Some p
-    → has_turn a.packets k ≡ true → Wants strays gs 0
+    → has_turn a.packets k ≡ true → Wants strays gs a.short (asked_at a.short)
 packet_in a gs strays k None noted there has = let no : has_turn a.packets k ≡ false = noted.facts.packet in absurd (cc)
 packet_in a gs strays k (Some g) noted there has = for_packet k g there (sym noted.facts.packet ∙ has)
 
@@ -81,7 +84,7 @@ news_in a gs k None noted there has = let no = noted.news has in absurd (cc)
 news_in a gs k (Some g) noted there has = record { number = k; there = record { guest = g; there = there; is = noted.news has } }
 
 wanted_by : {t : ℕ} (a : Plan) (gs : Places) (strays : List Outgoing) → IsAllNoted a gs → IsFor a (length a.dues) → Sized a gs
-    → IsWanted a.packets a.events a.dues t → May strays gs t
+    → IsWanted a.packets a.events a.dues a.short t → May strays gs a.short t
 wanted_by a gs strays all for_most sized (packet_waits k has) =
     let here : HasPlace gs k = has_place gs k (omega (arith, within a.packets.tickets k has, for_most.packets, sized)) in
     inl (packet_in a gs strays k here.place (all.each k here.place here.there) here.there has)
@@ -94,7 +97,7 @@ wanted_by a gs strays all for_most sized (is_due k t is) =
     inl (for_due k t here.guest here.there here.is)
 
 pub waking : (a : Plan) (gs : Places) (strays : List Outgoing) (time : Option ℕ) → IsAllNoted a gs → IsFor a (length a.dues) → Sized a gs → strays ≡ []
-    → IsWake a.packets a.events a.dues time → IsFirstWant strays gs time
+    → Wake a time → IsFirstWant strays gs a.short time
 waking a gs strays time all for_most sized empty wake = record {
   least = λ t w. least_by a gs strays time all empty wake w;
   wanted = λ t is. wanted_by a gs strays all for_most sized (wake.wanted t is);
@@ -103,10 +106,10 @@ waking a gs strays time all for_most sized empty wake = record {
 at_zero : (o : Option ℕ) (t : ℕ) → o ≡ Some 0 → IsBy o t
 at_zero o t is = let least : 0 ≤ t = omega arith in subst (λ (p : Option ℕ). IsBy p t) (sym is) least
 
-pub stray_first : (gs : Places) (strays : List Outgoing) → strays ≢ [] → IsFirstWant strays gs (Some 0)
-stray_first gs strays some = record {
+pub stray_first : (gs : Places) (strays : List Outgoing) (short : Option ℕ) → strays ≢ [] → IsFirstWant strays gs short (Some 0)
+stray_first gs strays short some = record {
   least = λ t w. at_zero (Some 0) t refl;
-  wanted = λ t is. let zero_is : 0 ≡ t = cc in subst (λ (n : ℕ). May strays gs n) zero_is (inl (for_stray some));
+  wanted = λ t is. let zero_is : 0 ≡ t = cc in subst (λ (n : ℕ). May strays gs short n) zero_is (inl (for_stray some));
 }
 
 -- ---- who gives way

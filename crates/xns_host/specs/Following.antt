@@ -1,9 +1,10 @@
 -- What follows of a host from what its calls are.
-use Rattle.std.specs.Prelude.{◌≡◌, ℕ, List, Bool, true, Some, None, Ok, slice_get}
+use Rattle.std.specs.Prelude.{◌≡◌, ℕ, List, Bool, true, Some, None, Ok, Err, slice_get}
 use Rattle.xns_idp.specs.Packet.{PacketModel}
 use Rattle.xns_idp.specs.Reading.{packet_of}
 use Rattle.xns_spp.specs.Packet.{SppPacketModel, spp_packet_of}
 use Rattle.xns_agenda.specs.Clock.{time_at}
+use Rattle.xns_agenda.specs.Waiting.{later}
 use Rattle.xns_host.specs.Hosting.{HasNoEvent, HasNoPacket, IsPacketOf, IsRefusedBy, confirms}
 use Rattle.xns_host.specs.Ours.{IsOurs}
 use Rattle.xns_host.specs.Places.{Turns}
@@ -12,6 +13,7 @@ use Rattle.xns_host.specs.Went.{GuestHears, GuestUnserved}
 use Rattle.xns_host.specs.Whole.{Whole}
 use Rattle.xns_host.specs.declared.guest.Guest.{Guest}
 use Rattle.xns_host.specs.declared.host.Host.{Host}
+use Rattle.xns_host.specs.declared.host_fault.HostFault.TheVariants.{NoMemory}
 
 -- where no event is told, no connection has anything to tell
 abbrev pub ASilentHostHasNothingToTell : Type 0
@@ -20,6 +22,11 @@ ASilentHostHasNothingToTell = (old new : Host) → TellsNext None old new → Ha
 -- where no packet goes out, none of a connection may be to go out
 abbrev pub AnIdleHostHasNoPacket : Type 0
 AnIdleHostHasNoPacket = (now : ℕ) (old new : Host) → GivesOut now (Ok None) old new → HasNoPacket new.guests.items
+
+-- where memory was refused for a packet, those of connections are asked for again the first wait later
+abbrev pub AStarvedHostRests : Type 0
+AStarvedHostRests = (now : ℕ) (old new : Host) → GivesOut now (Err NoMemory) old new
+    → new.agenda.short ≡ Some (later (time_at old.clock now) old.settings.first_wait)
 
 -- a packet that is one of a connection is the host's, and that connection has heard it
 abbrev pub AConnectionHearsItsPackets : Type 0

@@ -10,7 +10,7 @@ use Rattle.xns_spp.specs.Ends.{is_ours_at}
 use Rattle.xns_spp.specs.Held.{StandsFor}
 use Rattle.xns_spp.specs.Packet.{SppPacketModel}
 use Rattle.xns_spp.specs.State.{State, initiator_state, responder_state}
-use Rattle.xns_agenda.specs.Agenda.{Plan, IsNoted}
+use Rattle.xns_agenda.specs.Agenda.{Plan, IsNoted, asked_at}
 use Rattle.xns_connection.specs.Connecting.{is_dead}
 use Rattle.xns_connection.specs.Deeds.{acted}
 use Rattle.xns_host.specs.Events.{event_in}
@@ -161,12 +161,12 @@ pub record IsAllNoted (a : Plan) (guests : List (Option Guest)) : Type 0 where
 -- ---- when a host wants to be asked
 
 -- something wants it at this time: a packet of none or of a connection may be to go out, or a connection has something to tell, or
--- something is due of one
-pub data Wants (strays : List Outgoing) (guests : List (Option Guest)) : ℕ → Type 0 where
-  for_stray : strays ≢ [] → Wants strays guests 0
-  for_packet : (k : ℕ) (g : Guest) → slice_get guests k ≡ Some (Some g) → g.connection.owed.fresh ≡ true → Wants strays guests 0
-  for_event : (k : ℕ) (g : Guest) → slice_get guests k ≡ Some (Some g) → event_in k (Some g) ≢ None → Wants strays guests 0
-  for_due : (k t : ℕ) (g : Guest) → slice_get guests k ≡ Some (Some g) → due_time g.connection.wait.due ≡ Some t → Wants strays guests t
+-- something is due of one; where memory was refused for packets of connections, they want it when they are asked for again
+pub data Wants (strays : List Outgoing) (guests : List (Option Guest)) (short : Option ℕ) : ℕ → Type 0 where
+  for_stray : strays ≢ [] → Wants strays guests short 0
+  for_packet : (k : ℕ) (g : Guest) → slice_get guests k ≡ Some (Some g) → g.connection.owed.fresh ≡ true → Wants strays guests short (asked_at short)
+  for_event : (k : ℕ) (g : Guest) → slice_get guests k ≡ Some (Some g) → event_in k (Some g) ≢ None → Wants strays guests short 0
+  for_due : (k t : ℕ) (g : Guest) → slice_get guests k ≡ Some (Some g) → due_time g.connection.wait.due ≡ Some t → Wants strays guests short t
 
 -- a connection may have something to tell: a message is there, which may be a call that is to be rejected, or the program was not told why
 -- it is closed
@@ -175,9 +175,9 @@ pub record MayTell (guests : List (Option Guest)) : Type 0 where
   pub there : IsThere (λ g. tells g.connection ≡ true) (slice_get guests number)
 
 -- the time that is told is the earliest of these, or 0 where a connection may have something to tell; where there is none, none is told
-pub record IsFirstWant (strays : List Outgoing) (guests : List (Option Guest)) (time : Option ℕ) : Type 0 where
-  pub least : (t : ℕ) → Wants strays guests t → IsBy time t
-  pub wanted : (t : ℕ) → time ≡ Some t → Wants strays guests t ⊎ ((t ≡ 0) × MayTell guests)
+pub record IsFirstWant (strays : List Outgoing) (guests : List (Option Guest)) (short time : Option ℕ) : Type 0 where
+  pub least : (t : ℕ) → Wants strays guests short t → IsBy time t
+  pub wanted : (t : ℕ) → time ≡ Some t → Wants strays guests short t ⊎ ((t ≡ 0) × MayTell guests)
 
 -- ---- what goes out
 

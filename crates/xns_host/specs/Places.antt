@@ -3,7 +3,7 @@ use Rattle.std.specs.Prelude.{◌≡◌, ◌<◌, ℕ, Bool, true, false, List, 
 use Rattle.xns_agenda.specs.Agenda.{Plan, noted, released}
 use Rattle.xns_agenda.specs.Times.{IsFirstBy}
 use Rattle.xns_agenda.specs.Turns.{HasNoTurn, IsFirst, with_turn}
-use Rattle.xns_agenda.specs.Waiting.{last_time}
+use Rattle.xns_agenda.specs.Waiting.{last_time, later}
 use Rattle.xns_host.specs.Events.{event_in}
 use Rattle.xns_host.specs.Hosting.{EachActs, facts_of, may_go}
 use Rattle.xns_host.specs.Went.{GuestActs, GuestGives, GuestTells}
@@ -111,11 +111,15 @@ pub data GivesNone (now : ℕ) (p : Places) : Places → Type 0 where
   another : {q r : Places} (number : ℕ) → GivesNone now p q → IsFirst q.agenda.packets number → AsksPacket now number (Ok None) q r
       → GivesNone now p r
 
+-- packets are asked for again at this time
+abbrev pub resting : Places → ℕ → Places
+resting p time = record p { agenda = record p.agenda { short = Some time } }
+
 -- the next packet is that of the first of those that have a turn and have one; where there is none, nobody has a turn; or memory was refused
--- to one on the way
-pub data NextPacket (now : ℕ) (p : Places) : Result (Option Outgoing) HostFault → Places → Type 0 where
-  nothing : {q : Places} → GivesNone now p q → HasNoTurn q.agenda.packets → NextPacket now p (Ok None) q
+-- to one on the way: packets are asked for again when so long a wait is over
+pub data NextPacket (now wait : ℕ) (p : Places) : Result (Option Outgoing) HostFault → Places → Type 0 where
+  nothing : {q : Places} → GivesNone now p q → HasNoTurn q.agenda.packets → NextPacket now wait p (Ok None) q
   gives : {q r : Places} {packet : Outgoing} (number : ℕ) → GivesNone now p q → IsFirst q.agenda.packets number
-      → AsksPacket now number (Ok (Some packet)) q r → NextPacket now p (Ok (Some packet)) r
+      → AsksPacket now number (Ok (Some packet)) q r → NextPacket now wait p (Ok (Some packet)) r
   starves : {q r : Places} (number : ℕ) → GivesNone now p q → IsFirst q.agenda.packets number → AsksPacket now number (Err NoMemory) q r
-      → NextPacket now p (Err NoMemory) r
+      → NextPacket now wait p (Err NoMemory) (resting r (later now wait))

@@ -58,7 +58,8 @@ pub record GivesOut (now : ℕ) (result : Result (Option Outgoing) HostFault) (o
   pub acts : ActsAll (time_at old.clock now) (places_of old) mid
   pub stray : (o : Outgoing) (os : List Outgoing) → old.strays.waiting ≡ o ∷ os → (result ≡ Ok (Some o)) × (places_of new ≡ mid)
       × (new.strays ≡ record old.strays { waiting = os })
-  pub next : old.strays.waiting ≡ [] → NextPacket (time_at old.clock now) mid result (places_of new) × (new.strays ≡ old.strays)
+  pub next : old.strays.waiting ≡ [] → NextPacket (time_at old.clock now) old.settings.first_wait mid result (places_of new)
+      × (new.strays ≡ old.strays)
   pub order : StaysInOrder old.register.identifiers new.register.identifiers
   pub set_up : StaysSetUpAt now old new
 
@@ -67,7 +68,7 @@ pub record GivesOut (now : ℕ) (result : Result (Option Outgoing) HostFault) (o
 -- by the clock that was told last: when the first of what it wants is
 pub record WakesAt (h : Host) (result : Option ℕ) : Type 0 where
   pub time : Option ℕ
-  pub first : IsFirstWant h.strays.waiting h.guests.items time
+  pub first : IsFirstWant h.strays.waiting h.guests.items h.agenda.short time
   pub is : result ≡ when_told h.clock time
 
 -- ---- a packet that came

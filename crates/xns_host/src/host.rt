@@ -318,7 +318,7 @@ impl Host {
 
     /// When the first of what it wants is, by its own time; 0 is at once.
     fn first_want(&self) -> Option<u64>
-        ensures { IsFirstWant self.now.strays.waiting self.now.guests.items result }
+        ensures { IsFirstWant self.now.strays.waiting self.now.guests.items self.now.agenda.short result }
     {
         if !self.strays.is_empty() {
             return Some(0);
@@ -327,8 +327,9 @@ impl Host {
     }
 
     /// When the host wants to be asked at the latest, by the clock that it was told last: [`next_event`](Host::next_event) until it tells
-    /// nothing, and then [`next_packet`](Host::next_packet). 0, which is at once, where something may be to be told or to go out. `None`:
-    /// never, until something is done.
+    /// nothing, and then [`next_packet`](Host::next_packet). 0, which is at once, where something may be to be told or to go out. Where
+    /// memory was refused for a packet and nothing was done since, packets of connections want it the first wait later. `None`: never,
+    /// until something is done.
     pub fn wake(&self) -> Option<u64>
         ensures { WakesAt self.now result }
     {

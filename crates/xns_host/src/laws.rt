@@ -1,7 +1,7 @@
 //! What the definitions imply, each as the contract of a function that does nothing.
 
 ghost use Rattle.std.specs.Prelude.{◌≡◌, ◌≢◌, ◌≤◌, ◌∷◌, ◌++◌, [], ℕ, Any, List};
-ghost use Rattle.xns_host.specs.Following.{AConnectionHearsItsPackets, AQuotedOpeningIsNotServed, ASilentHostHasNothingToTell, AnIdleHostHasNoPacket, NoNetworkDecides};
+ghost use Rattle.xns_host.specs.Following.{AConnectionHearsItsPackets, AQuotedOpeningIsNotServed, ASilentHostHasNothingToTell, AStarvedHostRests, AnIdleHostHasNoPacket, NoNetworkDecides};
 ghost use Rattle.xns_host.specs.Identifiers.{IsOrder, Ids, Turn, Given, HadTurn, most_id};
 
 /// Before an identifier is given again, each other one is given, or is in use when one is given, whoever has which one in between.
@@ -11,10 +11,12 @@ pub fn an_identifier_comes_again_behind_all_others()
         → id ≢ once.given → Any (HadTurn id) (since ++ again ∷ []) }
 {}
 
-/// Where a host tells no event, no connection has anything to tell; where it gives no packet, none of a connection may be to go out.
+/// Where a host tells no event, no connection has anything to tell; where it gives no packet, none of a connection may be to go out. Where
+/// memory was refused for one, packets of connections are asked for again the first wait later.
 pub fn nothing_is_left()
     ensures event { ASilentHostHasNothingToTell }
     ensures packet { AnIdleHostHasNoPacket }
+    ensures rests { AStarvedHostRests }
 {}
 
 /// Each connection hears the packets that are its own, and an Error packet that quotes what was to open it closes it as not served,

@@ -2,7 +2,7 @@
 
 ghost use Rattle.std.specs.Prelude.{◌≡◌, ◌<◌, Option, length, true, false, OnErr, Some, None, Ok, Err, slice_get};
 ghost use Rattle.xns_agenda.specs.Turns.{has_turn, with_turn};
-ghost use Rattle.xns_agenda.specs.Waiting.{last_time};
+ghost use Rattle.xns_agenda.specs.Waiting.{last_time, later};
 
 use crate::event::Event;
 use crate::host::Host;
@@ -14,7 +14,7 @@ use xns_connection::laws::{a_connection_gives_what_it_made, a_message_is_handed_
 impl Host {
     ghost use Rattle.xns_host.specs.Hosting.{ActsIn, EachActs, IsApart};
     ghost use Rattle.xns_host.specs.Identifiers.{StaysInOrder};
-    ghost use Rattle.xns_host.specs.Places.{Acts, ActsAt, AsksEvent, AsksPacket};
+    ghost use Rattle.xns_host.specs.Places.{Acts, ActsAt, AsksEvent, AsksPacket, resting};
     ghost use Rattle.xns_host.specs.Standing.{StaysSetUp};
     ghost use Rattle.xns_host.specs.Turn.{GivesOut, TellsNext, places_of};
     ghost use Rattle.xns_host.specs.declared.guest.Guest.{Guest};
@@ -131,10 +131,23 @@ impl Host {
         made
     }
 
+    /// Memory was refused for a packet: packets of connections are asked for again the first wait later.
+    #[tactic(auto, using(crate::proofs::Noting::rested_all))]
+    fn rest(&mut self, now: u64)
+        ensures rests { places_of self.new ≡ resting (places_of self.old) (later now self.old.settings.first_wait) }
+        ensures register { self.new.register ≡ self.old.register }
+        ensures strays { self.new.strays ≡ self.old.strays }
+        ensures set_up { StaysSetUp self.old self.new }
+    {
+        let wait = u64::from(self.settings.first_wait);
+        self.agenda.rest_packets(now.saturating_add(wait));
+    }
+
     /// The next packet that is to go out, with its `via`; also what is due at this time is done. `None`: there is none, until
     /// something is done again or [`wake`](Host::wake)'s time has come.
     ///
-    /// The only error is [`HostFault::NoMemory`]: what is to go out stays so.
+    /// The only error is [`HostFault::NoMemory`]: what is to go out stays so, and [`wake`](Host::wake) does not want it before the first wait
+    /// is over. Who asks earlier gets it, if there is memory.
     pub fn next_packet(&mut self, now: u64) -> Result<Option<Outgoing>, HostFault>
         ensures gives { GivesOut now result self.old self.new }
     {
@@ -144,8 +157,13 @@ impl Host {
             return Ok(Some(stray));
         }
         while let Some(number) = self.agenda.first_packet() {
-            if let Some(packet) = self.packet(now, number)? {
-                return Ok(Some(packet));
+            match self.packet(now, number) {
+                Ok(Some(packet)) => return Ok(Some(packet)),
+                Ok(None) => {}
+                Err(fault) => {
+                    self.rest(now);
+                    return Err(fault);
+                }
             }
         }
         Ok(None)

@@ -10,6 +10,7 @@ use Rattle.xns_host.proofs.OnTerms.{made_on, on_terms}
 use Rattle.xns_host.proofs.Waking.{all_in_use, gets_place, no_room, not_both}
 use Rattle.xns_host.proofs.Registered.{all_joined, joined, opened_by_none, turned_over}
 use Rattle.xns_host.proofs.Undone.{came_not_done, not_done_new}
+use Rattle.xns_host.specs.Places.{places_with}
 use Rattle.xns_host.proofs.Placed.{taken_apart, taken_as, taken_there}
 use Rattle.xns_host.proofs.host.Host.connect.Goals as goal
 
@@ -84,7 +85,8 @@ returns-clause-connects c = record {
   };
   place = gets_place c.args.self.now.agenda c.args.self.now.guests.items c.args.self.now.noted c.place.ensures.room c.args.self.now.sized
       (c.place.ensures.some c.in-Some-place.number c.in-Some-place.is);
-  places = λ g there. taken_as c.put_in.new.guests.items c.in-Some-place.number _ g _ _ (taken_there c.args.self.now.guests.items c.put_in.new.guests.items c.args.self.now.agenda c.put_in.new.agenda c.in-Some-place.number _ c.put_in.ensures.places (omega (arith, c.in-Some-place.ensures.within, c.args.self.now.sized))) there c.put_in.ensures.places;
+  places = λ g there. taken_as c.put_in.new.guests.items c.in-Some-place.number _ g _
+      (places_with c.args.self.now.guests.items c.args.self.now.agenda) (taken_there c.args.self.now.guests.items c.put_in.new.guests.items c.args.self.now.agenda c.put_in.new.agenda c.in-Some-place.number _ c.put_in.ensures.places (omega (arith, c.in-Some-place.ensures.within, c.args.self.now.sized))) there c.put_in.ensures.places;
   turned = turned_over c.args.self.now.register.identifiers c.take.new.self.identifiers c.put_in.new.register.identifiers _ c.in-Some-next.id c.take.result
       c.in-Some-next.ensures.next c.take.ensures.given c.take.ensures.some c.put_in.ensures.order;
   unchanged = tt;

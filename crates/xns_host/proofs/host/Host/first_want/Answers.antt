@@ -5,7 +5,7 @@ use Rattle.xns_host.proofs.host.Host.first_want.Goals as goal
 pub returns-then-not-is_empty : goal.returns-then-not-is_empty
 returns-then-not-is_empty c =
     let some : c.args.self.now.strays.waiting ≢ [] = search rules in
-    stray_first c.args.self.now.guests.items c.args.self.now.strays.waiting some
+    stray_first c.args.self.now.guests.items c.args.self.now.strays.waiting c.args.self.now.agenda.short some
 
 pub returns : goal.returns
 returns c =

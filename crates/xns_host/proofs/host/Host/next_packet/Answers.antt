@@ -1,12 +1,13 @@
 use Rattle.std.proofs.Common.{◌≡◌, ◌∙◌, ap, sym, refl, rules, [], None, Some, Ok, Err}
 use Rattle.xns_agenda.specs.Turns.{HasNoTurn}
-use Rattle.xns_host.specs.Places.{another, gives, nobody, nothing, places_with, starves}
+use Rattle.xns_host.specs.Places.{another, gives, nobody, nothing, places_with}
 use Rattle.xns_host.specs.Strays.{StrayQueue}
 use Rattle.xns_host.specs.declared.host_fault.HostFault.TheVariants.{NoMemory}
 use Rattle.xns_host.specs.declared.outgoing.Outgoing.{Outgoing}
 use Rattle.xns_host.specs.declared.register.Register.{Register}
+use Rattle.xns_host.specs.declared.settings.Settings.{Settings}
 use Rattle.xns_host.proofs.Fetching.{packet_less}
-use Rattle.xns_host.proofs.Placed.{acts_all_at, next_as, next_at, no_stray, packet_as, some_stray, stray_out}
+use Rattle.xns_host.proofs.Placed.{acts_all_at, next_at, no_stray, packet_as, rests_at, some_stray, stray_out}
 use Rattle.xns_host.proofs.host.Host.next_packet.Goals as goal
 
 pub loop-number-init : goal.loop-number-init
@@ -61,36 +62,38 @@ returns-in-Some c = record {
       };
 }
 
-pub returns-in_err-packet : goal.returns-in_err-packet
-returns-in_err-packet c = record {
+pub returns-in-Err : goal.returns-in-Err
+returns-in-Err c = record {
   gives = let made : c.packet.result ≡ Err NoMemory = search rules in
-      let result : c.from_residual.result ≡ Err NoMemory = search rules in
+      let settings : c.packet.new.self.settings ≡ c.args.self.now.settings = search rules in
       let gone = c.loop-number.invariant.4 in
       record {
         mid = gone.mid;
         acts = acts_all_at c.tell-now.result _ _ _ c.tell-now.ensures.result gone.acts;
         stray = λ o os is. let none : c.args.self.now.strays.waiting ≡ [] = c.loop-number.invariant.0 in absurd (cc);
         next = λ none. (
-          next_at c.tell-now.result _ _ _ _ c.tell-now.ensures.result (next_as _ _ _ (Err NoMemory) c.from_residual.result (sym result)
-              (starves c.in-Some-first_packet.number gone.none c.in-Some-first_packet.ensures.some
-              (packet_as _ c.in-Some-first_packet.number _ _ c.packet.result (Err NoMemory) made c.packet.ensures.asks))),
-          c.packet.ensures.strays ∙ c.loop-number.invariant.3,
+          rests_at c.tell-now.result _ _ _ c.in-Some-first_packet.number _ _ _ _ c.packet.result _ c.tell-now.ensures.result
+              (ap (λ (s : Settings). s.first_wait) settings) made (sym c.in-Err.is ∙ made) gone.none c.in-Some-first_packet.ensures.some c.packet.ensures.asks
+              c.rest.ensures.rests,
+          c.rest.ensures.strays ∙ (c.packet.ensures.strays ∙ c.loop-number.invariant.3),
         );
-        order = ap (λ (r : Register). r.identifiers.ahead) c.packet.ensures.register ∙ c.loop-number.invariant.2;
+        order = ap (λ (r : Register). r.identifiers.ahead) c.rest.ensures.register
+            ∙ (ap (λ (r : Register). r.identifiers.ahead) c.packet.ensures.register ∙ c.loop-number.invariant.2);
         set_up = search rules;
       };
 }
 
-pub returns-in-Some-2 : goal.returns-in-Some-2
-returns-in-Some-2 c = record {
+pub returns-in-Ok-Some : goal.returns-in-Ok-Some
+returns-in-Ok-Some c = record {
   gives = let gone = c.loop-number.invariant.4 in
+      let made : c.packet.result ≡ Ok (Some c.in-Ok-Some.packet) = search rules in
       record {
         mid = gone.mid;
         acts = acts_all_at c.tell-now.result _ _ _ c.tell-now.ensures.result gone.acts;
         stray = λ o os is. let none : c.args.self.now.strays.waiting ≡ [] = c.loop-number.invariant.0 in absurd (cc);
         next = λ none. (
-          next_at c.tell-now.result _ _ _ _ c.tell-now.ensures.result (gives c.in-Some-first_packet.number gone.none c.in-Some-first_packet.ensures.some
-              (packet_as _ c.in-Some-first_packet.number _ _ c.packet.result _ (c.in_ok-packet.was ∙ ap Ok c.in-Some-2.is) c.packet.ensures.asks)),
+          next_at c.tell-now.result _ _ _ _ _ c.tell-now.ensures.result (gives c.in-Some-first_packet.number gone.none c.in-Some-first_packet.ensures.some
+              (packet_as _ c.in-Some-first_packet.number _ _ c.packet.result (Ok (Some c.in-Ok-Some.packet)) made c.packet.ensures.asks)),
           c.packet.ensures.strays ∙ c.loop-number.invariant.3,
         );
         order = ap (λ (r : Register). r.identifiers.ahead) c.packet.ensures.register ∙ c.loop-number.invariant.2;
@@ -106,7 +109,7 @@ returns c = record {
         mid = gone.mid;
         acts = acts_all_at c.tell-now.result _ _ _ c.tell-now.ensures.result gone.acts;
         stray = λ o os is. let none : c.args.self.now.strays.waiting ≡ [] = c.loop-number.invariant.0 in absurd (cc);
-        next = λ none. (next_at c.tell-now.result _ _ _ _ c.tell-now.ensures.result (nothing gone.none none_left), c.loop-number.invariant.3);
+        next = λ none. (next_at c.tell-now.result _ _ _ _ _ c.tell-now.ensures.result (nothing gone.none none_left), c.loop-number.invariant.3);
         order = c.loop-number.invariant.2;
         set_up = search rules;
       };
