@@ -1,5 +1,5 @@
 use Rattle.std.proofs.Common.{◌≡◌, ◌∙◌, ap, List, [], Option, Some, None, Result, Ok, Err}
-use Rattle.std.specs.Prelude.{IfOk, codes, option_and_then, option_map, unwrap_or}
+use Rattle.std.specs.Prelude.{IfOk, option_and_then, option_map, unwrap_or}
 use Rattle.clap.proofs.WalkLemmas.{raw_values-rows}
 use Rattle.clap.specs.Words.{Row, Text, all_of, found_of}
 use Rattle.xns.specs.Command.Arguments.{texts}

@@ -1,4 +1,4 @@
-use Rattle.std.proofs.Common.{◌≡◌, ◌∙◌, ap}
+use Rattle.std.proofs.Common.{◌∙◌, ap}
 use Rattle.clap.specs.declared.builder.arg.Arg.{Arg}
 use Rattle.xns.proofs.Locals.{if_ok, stays_local}
 use Rattle.xns.proofs.command.arguments.with_flag.Goals as goal
