@@ -18,7 +18,7 @@ And a client of it is this. Its socket, 3000, is one that no other client of its
 By name and value, where a program is written in Courier's notation, the same is
 
     tally = xns.read_programs("tally.courier")["Tally"]
-    xns.serve(udp, own, [tally.served], tally.server(service))    # service.Add(amount) gives the total
+    xns.serve(udp, own, [tally.server(service)])    # service.Add(amount) gives the total
     print(tally.client(client).Add(5))
 
 On Ethernet the socket is `xns.ethernet("eth0")`, and by way of a hub of emulators

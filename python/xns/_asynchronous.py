@@ -9,6 +9,7 @@ from ._errors import SilentError
 from ._library import unsigned, words_of
 from ._links import Carrier, checked, not_blocking
 from ._objects import Host
+from ._programs import together
 from ._serving import CLOSING, UNSPECIFIED, Programs, failed, give, guarded
 from ._station import Other, Station, file_of
 from ._told import Address, Answer, Call, Closed, Event, Reply, rejects
@@ -150,22 +151,23 @@ async def serve_async(
     carrier: Carrier,
     own: Address,
     programs: Programs,
-    answer: AsyncService,
+    answer: Optional[AsyncService] = None,
     other: Other = None,
     stop: Optional[asyncio.Event] = None,
     **settings: Optional[int],
 ) -> None:
     """Serves clients in a loop of asyncio, as `serve` does. `answer` may be a coroutine function: while it waits, other calls are carried out. It ends once the
     event is set, or its task is cancelled, and closes the connections."""
+    served, answered = together(programs, answer)
     tasks, stopped = set(), asyncio.Event() if stop is None else stop
     with Host(own, **settings) as host, not_blocking(checked(carrier)):
-        host.serve(own.socket, list(programs))
+        host.serve(own.socket, served)
         station, gone = Station(carrier, host, guarded(other)), asyncio.Event()
         there, closed = None, set()  # the connections that are to be closed, and those that are
 
         async def carry_out(call: Call) -> None:
             try:
-                reply = answer(call)
+                reply = answered(call)
                 if inspect.isawaitable(reply):
                     reply = await reply
             except Exception as error:

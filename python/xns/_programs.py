@@ -171,9 +171,10 @@ class Program:
         return type(f"{self.name}Client", (_TypedClient,), {**methods, "__doc__": f"Calls {self.name}, program {self.number} version {self.version}."})(client)
 
     def server(self, served: Any) -> "TypedServer":
-        """A typed server, for `serve` and `serve_async`: the methods of this object, named as the procedures, are given arguments, and give results as a client
-        has them. A declared error that one raises aborts the call. Words that are no value are rejected with `Reject.INVALID_ARGUMENTS`, a procedure that is
-        not declared, or has no method, with `Reject.NO_SUCH_PROCEDURE`. A method may be a coroutine for `serve_async`."""
+        """A typed server, one of the `programs` of `serve` and `serve_async`, or their `answer`: the methods of this object, named as the procedures, are given
+        arguments, and give results as a client has them. A declared error that one raises aborts the call. Words that are no value are rejected with
+        `Reject.INVALID_ARGUMENTS`, a procedure that is not declared, or has no method, with `Reject.NO_SUCH_PROCEDURE`. A method may be a coroutine for
+        `serve_async`."""
         return TypedServer(self, served)
 
     def outcome(self, procedure: Procedure, answer: Answer) -> Any:
@@ -243,6 +244,33 @@ class TypedServer:
         if type(error) is not self._program._errors.get(error._number):
             raise error
         return aborts(error._number, error._words)
+
+
+def together(programs: Iterable[Any], answer: Optional[Callable[[Call], Any]]) -> Tuple[List[Tuple[int, int, int]], Callable[[Call], Any]]:
+    """What a server serves, and what answers it: a typed server answers the calls of its program, and `answer` those of all others."""
+    given = list(programs)
+    typed = [one for one in given if isinstance(one, TypedServer)]
+    others = [one for one in given if not isinstance(one, TypedServer)]
+    if (others or not typed) and not callable(answer):
+        raise TypeError(f"answer is no function: it is of type {type(answer).__name__}")
+    by_program: Dict[Tuple[int, int], TypedServer] = {}
+    versions: Dict[int, List[int]] = {}
+    for one in typed:
+        number, version, _ = one.programs[0]
+        if (number, version) in by_program:
+            raise ValueError(f"two servers of program {number} version {version}")
+        by_program[number, version] = one
+        versions.setdefault(number, []).append(version)
+    for number, there in versions.items():
+        if max(there) - min(there) >= len(there):
+            raise ValueError(f"the versions of program {number} that are served do not follow each other: {sorted(there)}")
+        if number in [other[0] for other in others]:
+            raise ValueError(f"program {number} is served by a typed server, and by another one")
+
+    def answered(call: Call) -> Any:
+        return by_program.get((call.program, call.version), answer)(call)  # type: ignore[misc]
+
+    return [*others, *((number, min(there), max(there)) for number, there in versions.items())], answered
 
 
 class Programs(Object, Mapping):

@@ -3,11 +3,12 @@ import contextlib
 import logging
 import socket
 import threading
-from typing import Any, Callable, Iterable, Optional, Tuple
+from typing import Any, Callable, Iterable, Optional, Tuple, Union
 
 from ._errors import ArgumentsError, ClosingError, NoCallError, NoConnectionError, XnsError
 from ._links import Carrier, checked, not_blocking
 from ._objects import Host
+from ._programs import TypedServer, together
 from ._station import Other, Station, milliseconds
 from ._told import Address, Call, Closed, Reject, Reply, rejects
 
@@ -17,7 +18,7 @@ CLOSING = 2000  # milliseconds that the connections of a server have to close in
 _LOOKED_AT = 250  # milliseconds after which an event that stops a server is looked at again
 
 Service = Callable[[Call], Reply]
-Programs = Iterable[Tuple[int, int, int]]
+Programs = Iterable[Union[Tuple[int, int, int], TypedServer]]
 
 
 def failed(call: Call, error: Exception) -> Reply:
@@ -57,12 +58,13 @@ def guarded(other: Other) -> Other:
 class Server:
     """Serves clients by a host with these settings: `run` does, until `stop` is called. See `serve`."""
 
-    def __init__(self, carrier: Carrier, own: Address, programs: Programs, answer: Service, other: Other = None, **settings: Optional[int]) -> None:
-        for name, function in (("answer", answer), ("other", other)):
-            if not callable(function) and (name, function) != ("other", None):
-                raise TypeError(f"{name} is no function: it is of type {type(function).__name__}")
-        self._carrier, self._own, self._programs, self._settings = checked(carrier), own, list(programs), settings
-        self._service, self._other = answer, other
+    def __init__(
+        self, carrier: Carrier, own: Address, programs: Programs, answer: Optional[Service] = None, other: Other = None, **settings: Optional[int]
+    ) -> None:
+        self._programs, self._service = together(programs, answer)
+        if other is not None and not callable(other):
+            raise TypeError(f"other is no function: it is of type {type(other).__name__}")
+        self._carrier, self._own, self._settings, self._other = checked(carrier), own, settings, other
         self._is_stopped, self._gone = False, set()
         self._bell, self._ringer = socket.socketpair()  # wakes what waits
         for one in (self._bell, self._ringer):
@@ -130,17 +132,18 @@ def serve(
     carrier: Carrier,
     own: Address,
     programs: Programs,
-    answer: Service,
+    answer: Optional[Service] = None,
     other: Other = None,
     stop: Optional[threading.Event] = None,
     **settings: Optional[int],
 ) -> None:
     """Serves clients by a host with these settings, which are those of `Host`, over a socket for datagrams, or another carrier.
 
-    `answer` is given each call of `programs`, each of which is (program, low, high), or of any where there are none. It gives what the call is answered by
-    `returns`, `aborts` or `rejects`. A call whose answering raises an error is rejected: with `Reject.INVALID_ARGUMENTS` where the error is one of a
-    `Reader`, else with `UNSPECIFIED`, and the log of the name `xns` has the error. `other` is given each packet that is not the host's, as one of a packet
-    exchange, with the place that it comes from.
+    Each of `programs` is a typed server, which answers the calls of its program, or (program, low, high). `answer` is given each call of the latter, or of any
+    program where `programs` is empty. It gives what the call is answered by `returns`, `aborts` or `rejects`. A call whose answering raises an error is
+    rejected: with `Reject.INVALID_ARGUMENTS` where the error is one of a `Reader`, else with `UNSPECIFIED`, and the log of the name `xns` has the error. Typed
+    servers of one program follow each other in their versions; else `serve` raises a ValueError. `other` is given each packet that is not the host's, as one
+    of a packet exchange, with the place that it comes from.
 
     It returns once the event `stop` is set; a `Server` can be stopped by a call. The connections are closed then, also where Ctrl-C ends it."""
     Server(carrier, own, programs, answer, other, **settings).run(stop)

@@ -172,10 +172,10 @@ class ValuesTest(unittest.TestCase):
 class Served(unittest.TestCase):
     """A typed server that runs, and clients of it."""
 
-    def served(self, program, service):
+    def served(self, *servers, answer=None):
         udp, stops = bound(), threading.Event()
         self.addCleanup(udp.close)
-        thread = threading.Thread(target=xns.serve, args=(udp, SERVER, [program.served], program.server(service)), kwargs={"stop": stops}, daemon=True)
+        thread = threading.Thread(target=xns.serve, args=(udp, SERVER, servers, answer), kwargs={"stop": stops}, daemon=True)
         thread.start()
         self.addCleanup(thread.join, 10)
         self.addCleanup(stops.set)
@@ -192,7 +192,7 @@ class Served(unittest.TestCase):
 class ServedTest(Served):
     def test_a_tally(self):
         tally = xns.read_programs(TALLY)["Tally"]
-        client = self.client(self.served(tally, Service(tally)))
+        client = self.client(self.served(tally.server(Service(tally))))
         by_name = tally.client(client)
         self.assertEqual((by_name.Total(), by_name.Add(5), by_name.Add(amount=6), by_name.Total()), (0, 5, 11, 11))
         self.assertEqual(client.call(7, 2, 1, [1])[1:], (xns.Kind.RETURN, 0, [0, 12]))  # by words
@@ -211,7 +211,7 @@ class ServedTest(Served):
 
     def test_shapes(self):
         shapes = xns.Programs().read(SHAPES)
-        by_name = shapes.client(self.client(self.served(shapes, Drawing(shapes))))
+        by_name = shapes.client(self.client(self.served(shapes.server(Drawing(shapes)))))
         drawn = by_name.Draw([(1, -2), shapes.Point(3, 4)], shapes.Color.green)
         self.assertEqual((drawn, drawn.last.y), ((True, (3, 4)), 4))
         self.assertEqual((by_name.Ask(-5), by_name.Ask(from_=7), by_name.Nothing()), (("red", -5), ("green", [7, 4_000_000_000]), None))
@@ -230,6 +230,35 @@ class ServedTest(Served):
         with self.assertLogs("xns", "ERROR"), self.assertRaises(xns.RejectedError) as rejected:
             by_name.Ask(1)
         self.assertEqual(rejected.exception.reason, xns.UNSPECIFIED)
+
+    def test_several_programs(self):
+        """Two versions of one program, another program, and one by words: each call comes to the server of its program and version."""
+        old, new, shapes = xns.Programs().read(OLD_TALLY), xns.read_programs(TALLY)["Tally"], xns.Programs().read(SHAPES)
+        place = self.served(old.server(Service(new)), (9, 1, 1), new.server(Service(new)), shapes.server(Drawing(shapes)), answer=lambda call: xns.returns(call.words))
+        client = self.client(place)
+        self.assertEqual((old.client(client).Add(5), new.client(client).Add(7), new.client(client).Total()), (5, 7, 7))
+        self.assertEqual(shapes.client(client).Draw([(1, 2)], shapes.Color.green).last, (1, 2))
+        self.assertEqual(client.call(9, 1, 4, [8, 9])[1:], (xns.Kind.RETURN, 0, [8, 9]))
+        self.assertEqual(client.call(7, 1, 2)[1:], (xns.Kind.REJECT, xns.Reject.NO_SUCH_PROCEDURE, []))  # version 1 has no Total
+        self.assertEqual(client.call(8, 1, 1)[1:3], (xns.Kind.REJECT, xns.Reject.NO_SUCH_PROGRAM))
+        self.assertEqual(client.call(7, 3, 1)[1:], (xns.Kind.REJECT, xns.Reject.NO_SUCH_VERSION, [1, 2]))
+
+    def test_programs_that_are_not_served_together(self):
+        tally = xns.read_programs(TALLY)["Tally"]
+        later = xns.Programs().read(OLD_TALLY.replace(b"VERSION 1", b"VERSION 4"))
+        one = tally.server(Service(tally))
+        with bound() as udp:
+            for programs, answer, error, text in (
+                ([one, one], None, ValueError, "two servers of program 7 version 2"),
+                ([one, later.server(Service(tally))], None, ValueError, r"do not follow each other: \[2, 4\]"),
+                ([one, (7, 1, 1)], lambda call: xns.returns(), ValueError, "program 7 is served by a typed server, and by another one"),
+                ([one, (9, 1, 1)], None, TypeError, "answer is no function"),
+                ([], None, TypeError, "answer is no function"),
+            ):
+                with self.assertRaisesRegex(error, text):
+                    xns.serve(udp, SERVER, programs, answer)
+                with self.assertRaisesRegex(error, text):
+                    asyncio.run(xns.serve_async(udp, SERVER, programs, answer))
 
     def test_what_is_not_declared(self):
         shapes = xns.Programs().read(SHAPES)
@@ -262,7 +291,7 @@ class ServedTest(Served):
         async def both():
             stops = asyncio.Event()
             with bound() as udp, bound() as other:
-                serving = asyncio.ensure_future(xns.serve_async(udp, SERVER, [tally.served], tally.server(Later(tally)), stop=stops))
+                serving = asyncio.ensure_future(xns.serve_async(udp, SERVER, [tally.server(Later(tally))], stop=stops))
                 async with xns.AsyncClient(other, udp.getsockname(), CLIENT, SERVER, timeout=30) as client:
                     by_name = tally.client(client)
                     told = [await by_name.Add(5), await by_name.Total()]
@@ -297,7 +326,7 @@ class CrosswiseTest(Served):
                 self.total += amount
                 return self.total
 
-        _, port = self.served(tally, Sums())
+        _, port = self.served(tally.server(Sums()))
         ended = subprocess.run([*C[1], str(port), "5", "65535", "1"], stdout=subprocess.PIPE, text=True, timeout=60, env=os.environ)
         self.assertEqual([total(line) for line in ended.stdout.splitlines()], [5, 65540, 65541])
 

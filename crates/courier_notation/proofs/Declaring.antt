@@ -5,13 +5,10 @@ use Rattle.courier_notation.specs.declared.reason.Reason.TheVariants.{TooManyDec
 use Rattle.courier_notation.specs.declared.stop.Stop.{Stop}
 use Rattle.courier_notation.specs.declared.stop.Stop.TheVariants as stops
 use Rattle.courier_notation.specs.declared.token.Token.{Token}
-use Rattle.courier_notation.specs.declared.token.Token.TheVariants as tokens
-use Rattle.courier_notation.specs.declared.declared.Dependency.{Dependency}
 use Rattle.courier_notation.specs.ProgramModels.{DeclaredModel}
-use Rattle.courier_notation.specs.Reading.{Fault, ◌>>=◌, Fails, IsWanted, over}
-use Rattle.courier_notation.specs.Programs.{declaration_at, declarations_at, dependencies_at, is_end}
+use Rattle.courier_notation.specs.Reading.{Fault, ◌>>=◌, Fails, over}
+use Rattle.courier_notation.specs.Programs.{declaration_at, declarations_at, is_end}
 use Rattle.courier_notation.proofs.Listing.{with_front}
-use Rattle.courier_notation.proofs.Takes.{ok_is}
 
 abbrev Declarations : Type 0
 Declarations = List (ℕ × DeclaredModel)
@@ -77,15 +74,3 @@ pub ended_first : (most : ℕ) (ts : List Token) → is_end ts ≡ true → decl
 unfolding declarations_at
 ended_first zero ts h = ap (λ (b : Bool). cond b (Ok ([], ts)) (Err (length ts, TooManyDeclarations))) h
 ended_first (suc n) ts h = ap (λ (b : Bool). cond b (Ok ([], ts)) (declaration_at ts >>= λ first. over (λ others. first.0 ∷ others) (declarations_at n first.1))) h
-
--- behind dependencies stands no end, so none stood before them
-pub not_end : (ts : List Token) (x : List Dependency × List Token) → dependencies_at ts ≡ Ok x → is_end x.1 ≡ false → is_end ts ≡ false
-unfolding dependencies_at
-not_end [] x e h = refl
-not_end (tokens.End ∷ ts) x e h = ap is_end (ap (λ (p : List Dependency × List Token). p.1) (ok_is ([], tokens.End ∷ ts) x e)) ∙ h
-not_end (t ∷ ts) x e h = refl
-
--- memory was wanted of more, where it was of less
-pub wants_more : (e : Stop) (P Q : Type 0) → (P → Q) → IsWanted e P → IsWanted e Q
-wants_more (stops.Wrong left reason) P Q f h = tt
-wants_more stops.NoMemory P Q f h = f h

@@ -1,5 +1,5 @@
 -- Reading a program from left to right (XSIS 038112, Courier). Which fault is told is this project's rule.
-use Rattle.std.specs.Prelude.{◌≡◌, ℕ, zero, suc, ◌+◌, List, [], ◌∷◌, length, Result, Ok, Err, Bool, true, false, nat_lt, if◌then◌else◌}
+use Rattle.std.specs.Prelude.{◌⊎◌, ℕ, zero, suc, ◌+◌, List, [], ◌∷◌, length, Result, Ok, Err, IsOk, Bool, true, false, nat_lt, if◌then◌else◌}
 use Rattle.courier_notation.specs.declared.declared.Constant.{Constant}
 use Rattle.courier_notation.specs.declared.declared.Constant.TheVariants as constants
 use Rattle.courier_notation.specs.declared.declared.Dependency.{Dependency}
@@ -10,7 +10,7 @@ use Rattle.courier_notation.specs.declared.token.Token.TheVariants as tokens
 use Rattle.courier_notation.specs.declared.limits.TheConstants.{MOST_DEPTH}
 use Rattle.courier_notation.specs.declared.written.Reference.{Reference}
 use Rattle.courier_notation.specs.ProgramModels.{DeclaredModel, FieldList, ProgramModel}
-use Rattle.courier_notation.specs.Reading.{Fault, ◌>>=◌, Reader, over, listed, most_parts, name_at, reference_behind, fields_at, type_at}
+use Rattle.courier_notation.specs.Reading.{Fault, ◌>>=◌, Reader, over, listed, most_parts, name_at, reference_behind, fields_at, type_at, Behind, Then, FieldsWant, TypeWants}
 use Rattle.courier_notation.specs.Reading.{colon_at, open_bracket_at, close_bracket_at, open_parenthesis_at, close_parenthesis_at}
 
 abbrev pub most_depth : ℕ
@@ -255,7 +255,39 @@ program_of ts = do
   body ← body_at header.1
   nothing_at (program_with header.0 body.0) body.1
 
--- Memory is wanted for a program: its header is right, and something is declared behind it.
-abbrev pub WantsBody : Result (Header × List Token) Fault → Type 0
-WantsBody (Ok x) = is_end x.1 ≡ false
-WantsBody (Err e) = ⊥
+-- ---- memory
+
+abbrev pub ResultsWant : List Token → Type 0
+ResultsWant (tokens.Returns ∷ ts) = FieldsWant ts
+ResultsWant ts = ⊥
+
+-- a first error is reported
+abbrev pub ReportsWant : List Token → Type 0
+ReportsWant (tokens.Reports ∷ ts) = Then (open_bracket_at ts) (λ inside. IsOk (reference_at inside))
+ReportsWant ts = ⊥
+
+-- the arguments of a procedure want memory, or behind them its results, or behind those what it reports
+abbrev pub ProcedureWants : List Token → Type 0
+ProcedureWants ts = FieldsWant ts ⊎ Behind (arguments_at ts) (λ rest. ResultsWant rest ⊎ Behind (results_at rest) ReportsWant)
+
+-- what is declared wants memory; of a constant its type does
+abbrev pub DeclaredWants : List Token → Type 0
+DeclaredWants (tokens.Type ∷ ts) = Then (equal_at ts) (TypeWants most_depth)
+DeclaredWants (tokens.Procedure ∷ ts) = ProcedureWants ts
+DeclaredWants (tokens.Error ∷ ts) = FieldsWant ts
+DeclaredWants ts = TypeWants most_depth ts
+
+abbrev pub DeclarationWants : List Token → Type 0
+DeclarationWants ts = Behind (name_at ts) (λ rest. Then (colon_at rest) DeclaredWants)
+
+-- a first declaration is read, or wants memory
+abbrev pub DeclarationsWant : List Token → Type 0
+DeclarationsWant ts = DeclarationWants ts ⊎ IsOk (declaration_at ts)
+
+-- a first dependency is read
+abbrev pub DependenciesWant : List Token → Type 0
+DependenciesWant (tokens.Depends ∷ ts) = Then (upon_at ts) (λ rest. IsOk (dependency_at rest))
+DependenciesWant ts = ⊥
+
+abbrev pub BodyWants : List Token → Type 0
+BodyWants ts = DependenciesWant ts ⊎ Behind (dependencies_at ts) DeclarationsWant

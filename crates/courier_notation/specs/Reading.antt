@@ -1,6 +1,6 @@
 -- Reading a type from left to right (XSIS 038112, Courier). Which fault is told is this project's rule: the first token that
 -- does not go on as a type does, or a limit that is passed there.
-use Rattle.std.specs.Prelude.{◌≡◌, ℕ, zero, suc, ◌+◌, List, [], ◌∷◌, length, Option, Some, None, Result, Ok, Err, nat_lt, if◌then◌else◌}
+use Rattle.std.specs.Prelude.{◌≡◌, ◌⊎◌, ℕ, zero, suc, ◌+◌, List, [], ◌∷◌, length, Option, Some, None, Result, Ok, Err, IsOk, nat_lt, if◌then◌else◌}
 use Rattle.courier_notation.specs.declared.reason.Reason.{Reason}
 use Rattle.courier_notation.specs.declared.reason.Reason.TheVariants as reasons
 use Rattle.courier_notation.specs.declared.stop.Stop.{Stop}
@@ -60,6 +60,11 @@ Reader A = List Token → Result (A × List Token) Fault
 abbrev pub over : {A B : Type 0} → (A → B) → Result (A × List Token) Fault → Result (B × List Token) Fault
 over f (Ok x) = Ok (f x.0, x.1)
 over f (Err e) = Err e
+
+-- the tokens behind what was read
+abbrev pub passed : {A : Type 0} → Result (A × List Token) Fault → Result (List Token) Fault
+passed (Ok x) = Ok x.1
+passed (Err e) = Err e
 
 abbrev pub most_parts : ℕ
 most_parts = MOST_PARTS
@@ -256,3 +261,42 @@ unfoldable pub type_at : ℕ → Reader TypeModel
 type_at zero ts = Err (length ts, reasons.TooDeep)
 type_at (suc depth) [] = Err (0, reasons.NoType)
 type_at (suc depth) (t ∷ ts) = type_behind (type_at depth) t ts
+
+-- ---- memory: a list grows behind its first part, and an element of an array or a sequence is put on the heap
+
+-- what was read is right, and what stands behind it wants memory
+abbrev pub Behind : {A : Type 0} → Result (A × List Token) Fault → (List Token → Type 0) → Type 0
+Behind (Ok x) wants = wants x.1
+Behind (Err e) wants = ⊥
+
+-- the tokens are right, and what stands behind them wants memory
+abbrev pub Then : Result (List Token) Fault → (List Token → Type 0) → Type 0
+Then (Ok ts) wants = wants ts
+Then (Err e) wants = ⊥
+
+-- a first component is named
+abbrev pub FieldsWant : List Token → Type 0
+FieldsWant ts = Then (open_bracket_at ts) (λ inside. IsOk (name_at inside))
+
+-- a first candidate has a designator
+abbrev pub ChoiceWants : List Token → Type 0
+ChoiceWants ts = Behind (tag_at ts) (λ rest. Then (of_at rest) (λ behind. Then (open_brace_at behind) (λ inside. IsOk (designator_at inside))))
+
+-- an element is read, or its type wants memory
+abbrev pub ElementWants : Reader TypeModel → (List Token → Type 0) → List Token → Type 0
+ElementWants one wants ts = Then (of_at ts) (λ rest. wants rest ⊎ IsOk (one rest))
+
+-- a type wants memory behind its first token
+abbrev pub BehindWants : Reader TypeModel → (List Token → Type 0) → Token → List Token → Type 0
+BehindWants one wants tokens.OpenBrace ts = IsOk (member_at ts)
+BehindWants one wants tokens.Array ts = Behind (numeric_at ts) (ElementWants one wants)
+BehindWants one wants tokens.Sequence ts = Behind (maximum_at ts) (ElementWants one wants)
+BehindWants one wants tokens.Record ts = FieldsWant ts
+BehindWants one wants tokens.Choice ts = ChoiceWants ts
+BehindWants one wants _ ts = ⊥
+
+-- a type wants memory: it has members, components or candidates, or an element
+abbrev pub TypeWants : ℕ → List Token → Type 0
+TypeWants zero ts = ⊥
+TypeWants (suc depth) [] = ⊥
+TypeWants (suc depth) (t ∷ ts) = BehindWants (type_at depth) (TypeWants depth) t ts

@@ -1,7 +1,7 @@
 //! Constants read from tokens, from left to right.
 ghost use Rattle.std.specs.Prelude.{◌≡◌};
 ghost use Rattle.courier_notation.specs.declared.declared.Constant.TheVariants.{Other};
-ghost use Rattle.courier_notation.specs.Reading.{Gives, Reads, listed, most_parts, over};
+ghost use Rattle.courier_notation.specs.Reading.{Reads, listed, most_parts, over, passed};
 ghost use Rattle.courier_notation.specs.Programs.{begins_constant as begins_constant_of, chosen_behind};
 ghost use Rattle.courier_notation.specs.Programs.{component_behind, constant_at, constant_behind, element_at};
 ghost use Rattle.courier_notation.specs.Programs.{elements_behind, long_at};
@@ -13,7 +13,6 @@ use crate::parts::{long_of, reference_of};
 use crate::reason::Reason;
 use crate::stop::Stop;
 use crate::token::Token;
-use std::alloc::Global;
 
 /// Whether a constant begins there.
 fn begins_constant(tokens: &[Token]) -> bool
@@ -34,17 +33,12 @@ fn begins_constant(tokens: &[Token]) -> bool
 /// The name of a constant, or a designator and the constant that it chooses.
 #[cycle(constants)]
 #[tactic(auto, unfolding(crate::specs::Programs::chosen_behind))]
-fn chosen_of(
-    alloc: Global,
-    depth: usize,
-    name: u32,
-    tokens: &[Token],
-) -> Result<(Constant, &[Token]), Stop>
-    ensures { Gives (λ x. (x.0, x.1.now)) result (chosen_behind (constant_at depth) name tokens.now) }
+fn chosen_of(depth: usize, name: u32, tokens: &[Token]) -> Result<(Constant, &[Token]), Stop>
+    ensures { Reads (λ x. (x.0, x.1.now)) result (chosen_behind (constant_at depth) name tokens.now) }
 {
     let (reference, rest) = reference_of(name, tokens)?;
     if begins_constant(rest) {
-        let (_chosen, rest) = constant_of(alloc, depth, rest)?;
+        let (_chosen, rest) = constant_of(depth, rest)?;
         return Ok((Constant::Other, rest));
     }
     Ok((Constant::Named(reference), rest))
@@ -53,15 +47,14 @@ fn chosen_of(
 /// What is behind a constant in brackets that may be the name of a component.
 #[cycle(constants)]
 fn component_of(
-    alloc: Global,
     depth: usize,
     constant: Constant,
     tokens: &[Token],
 ) -> Result<(Constant, &[Token]), Stop>
-    ensures { Gives (λ x. (x.0, x.1.now)) result (component_behind (constant_at depth) constant tokens.now) }
+    ensures { Reads (λ x. (x.0, x.1.now)) result (component_behind (constant_at depth) constant tokens.now) }
 {
     match tokens {
-        [Token::Colon, rest @ ..] => constant_of(alloc, depth, rest),
+        [Token::Colon, rest @ ..] => constant_of(depth, rest),
         _ => Ok((constant, tokens)),
     }
 }
@@ -69,30 +62,24 @@ fn component_of(
 /// An element, or a component behind its name and a colon: the last constant of it.
 #[cycle(constants)]
 #[tactic(auto, unfolding(crate::specs::Programs::element_at))]
-fn element_of(alloc: Global, depth: usize, tokens: &[Token]) -> Result<(Constant, &[Token]), Stop>
-    ensures { Gives (λ x. (x.0, x.1.now)) result (element_at (constant_at depth) tokens.now) }
+fn element_of(depth: usize, tokens: &[Token]) -> Result<(Constant, &[Token]), Stop>
+    ensures { Reads (λ x. (x.0, x.1.now)) result (element_at (constant_at depth) tokens.now) }
 {
-    let (constant, rest) = constant_of(alloc, depth, tokens)?;
-    component_of(alloc, depth, constant, rest)
+    let (constant, rest) = constant_of(depth, tokens)?;
+    component_of(depth, constant, rest)
 }
 
-/// Elements with commas between.
+/// The tokens behind elements with commas between.
 #[cycle(constants)]
-fn elements_of(
-    alloc: Global,
-    depth: usize,
-    tokens: &[Token],
-) -> Result<(Vec<Constant>, &[Token]), Stop>
-    ensures { Gives (λ x. (x.0.items, x.1.now)) result (listed (element_at (constant_at depth)) most_parts tokens.now) }
+fn behind_elements(depth: usize, tokens: &[Token]) -> Result<&[Token], Stop>
+    ensures { Reads (λ x. x.now) result (passed (listed (element_at (constant_at depth)) most_parts tokens.now)) }
 {
-    let mut elements = Vec::new(alloc);
     let mut rest = tokens;
     for _ in 0..MOST_PARTS {
-        let (element, after) = element_of(alloc, depth, rest)?;
-        elements.push(element)?;
+        let (_element, after) = element_of(depth, rest)?;
         match next_part(after) {
             Some(next) => rest = next,
-            None => return Ok((elements, after)),
+            None => return Ok(after),
         }
     }
     Err(wrong(rest, Reason::TooManyParts))
@@ -101,17 +88,13 @@ fn elements_of(
 /// Elements or components up to a bracket, perhaps none.
 #[cycle(constants)]
 #[tactic(auto, unfolding(crate::specs::Programs::elements_behind))]
-fn elements_inside(
-    alloc: Global,
-    depth: usize,
-    tokens: &[Token],
-) -> Result<(Constant, &[Token]), Stop>
-    ensures { Gives (λ x. (x.0, x.1.now)) result (elements_behind (constant_at depth) tokens.now) }
+fn elements_inside(depth: usize, tokens: &[Token]) -> Result<(Constant, &[Token]), Stop>
+    ensures { Reads (λ x. (x.0, x.1.now)) result (elements_behind (constant_at depth) tokens.now) }
 {
     match tokens {
         [Token::CloseBracket, rest @ ..] => Ok((Constant::Other, rest)),
         _ => {
-            let (_elements, rest) = elements_of(alloc, depth, tokens)?;
+            let rest = behind_elements(depth, tokens)?;
             let rest = behind_close_bracket(rest)?;
             Ok((Constant::Other, rest))
         }
@@ -129,20 +112,15 @@ fn negative_of(tokens: &[Token]) -> Result<(Constant, &[Token]), Stop>
 /// The constant that begins with the token.
 #[cycle(constants)]
 #[tactic(auto, unfolding(crate::specs::Programs::constant_behind))]
-fn constant_by(
-    alloc: Global,
-    depth: usize,
-    first: Token,
-    tokens: &[Token],
-) -> Result<(Constant, &[Token]), Stop>
-    ensures { Gives (λ x. (x.0, x.1.now)) result (constant_behind (constant_at depth) first tokens.now) }
+fn constant_by(depth: usize, first: Token, tokens: &[Token]) -> Result<(Constant, &[Token]), Stop>
+    ensures { Reads (λ x. (x.0, x.1.now)) result (constant_behind (constant_at depth) first tokens.now) }
 {
     match first {
         Token::Number(number) => Ok((Constant::Number(number), tokens)),
         Token::Quoted(_) | Token::True | Token::False => Ok((Constant::Other, tokens)),
-        Token::Name(name) => chosen_of(alloc, depth, name, tokens),
+        Token::Name(name) => chosen_of(depth, name, tokens),
         Token::Minus => negative_of(tokens),
-        Token::OpenBracket => elements_inside(alloc, depth, tokens),
+        Token::OpenBracket => elements_inside(depth, tokens),
         _ => Err(Stop::Wrong {
             left: tokens.len() + 1,
             reason: Reason::NoConstant,
@@ -153,18 +131,14 @@ fn constant_by(
 /// The constant at the front of the tokens, in which constants stand at most so deep.
 #[cycle(constants)]
 #[tactic(auto, unfolding(crate::specs::Programs::constant_at))]
-pub fn constant_of(
-    alloc: Global,
-    depth: usize,
-    tokens: &[Token],
-) -> Result<(Constant, &[Token]), Stop>
-    ensures { Gives (λ x. (x.0, x.1.now)) result (constant_at depth tokens.now) }
+pub fn constant_of(depth: usize, tokens: &[Token]) -> Result<(Constant, &[Token]), Stop>
+    ensures { Reads (λ x. (x.0, x.1.now)) result (constant_at depth tokens.now) }
 {
     if depth == 0 {
         return Err(wrong(tokens, Reason::TooDeep));
     }
     match tokens {
         [] => Err(wrong(tokens, Reason::NoConstant)),
-        [first, rest @ ..] => constant_by(alloc, depth - 1, *first, rest),
+        [first, rest @ ..] => constant_by(depth - 1, *first, rest),
     }
 }

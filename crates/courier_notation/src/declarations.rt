@@ -1,11 +1,10 @@
 //! Declarations read from tokens, from left to right.
 
-ghost use Rattle.std.specs.Prelude.{◌≡◌, false};
 ghost use Rattle.courier_notation.specs.ProgramModels.{declaration_view, declaration_views, declared_view};
 ghost use Rattle.courier_notation.specs.Written.{field_models};
-ghost use Rattle.courier_notation.specs.Reading.{Gives, IfNoMemory};
+ghost use Rattle.courier_notation.specs.Reading.{FieldsWant, Gives, IfNoMemory, Then, TypeWants};
 ghost use Rattle.courier_notation.specs.Programs.{arguments_at, constant_declared, declaration_at, declarations_at};
-ghost use Rattle.courier_notation.specs.Programs.{declared_at, error_behind, is_end as is_end_of, most_declarations, procedure_behind};
+ghost use Rattle.courier_notation.specs.Programs.{declared_at, error_behind, most_declarations, most_depth, equal_at, DeclarationWants, DeclarationsWant, DeclaredWants, ProcedureWants, ReportsWant, ResultsWant, procedure_behind};
 ghost use Rattle.courier_notation.specs.Programs.{reports_at, results_at, type_declared};
 
 use crate::constants::constant_of;
@@ -29,7 +28,8 @@ fn arguments_of(
     alloc: Global,
     tokens: &[Token],
 ) -> Result<(Vec<(Vec<u32>, WrittenType)>, &[Token]), Stop>
-    ensures { Gives (λ x. (field_models x.0.items, x.1.now)) result (arguments_at tokens.now) }
+    ensures exact { Gives (λ x. (field_models x.0.items, x.1.now)) result (arguments_at tokens.now) }
+    ensures memory { IfNoMemory result (FieldsWant tokens.now) }
 {
     match tokens {
         [Token::OpenBracket, ..] => bracketed(alloc, MOST_DEPTH, tokens),
@@ -43,7 +43,8 @@ fn results_of(
     alloc: Global,
     tokens: &[Token],
 ) -> Result<(Vec<(Vec<u32>, WrittenType)>, &[Token]), Stop>
-    ensures { Gives (λ x. (field_models x.0.items, x.1.now)) result (results_at tokens.now) }
+    ensures exact { Gives (λ x. (field_models x.0.items, x.1.now)) result (results_at tokens.now) }
+    ensures memory { IfNoMemory result (ResultsWant tokens.now) }
 {
     match tokens {
         [Token::Returns, rest @ ..] => bracketed(alloc, MOST_DEPTH, rest),
@@ -54,7 +55,8 @@ fn results_of(
 /// The errors that a procedure reports; none where `REPORTS` does not stand first.
 #[tactic(auto, unfolding(crate::specs::Programs::reports_at))]
 fn reports_of(alloc: Global, tokens: &[Token]) -> Result<(Vec<Reference>, &[Token]), Stop>
-    ensures { Gives (λ x. (x.0.items, x.1.now)) result (reports_at tokens.now) }
+    ensures exact { Gives (λ x. (x.0.items, x.1.now)) result (reports_at tokens.now) }
+    ensures memory { IfNoMemory result (ReportsWant tokens.now) }
 {
     match tokens {
         [Token::Reports, rest @ ..] => {
@@ -70,7 +72,8 @@ fn reports_of(alloc: Global, tokens: &[Token]) -> Result<(Vec<Reference>, &[Toke
 /// A procedure, behind `PROCEDURE`.
 #[tactic(auto, unfolding(crate::specs::Programs::procedure_behind))]
 fn procedure_of(alloc: Global, tokens: &[Token]) -> Result<(Declared, &[Token]), Stop>
-    ensures { Gives (λ x. (declared_view x.0, x.1.now)) result (procedure_behind tokens.now) }
+    ensures exact { Gives (λ x. (declared_view x.0, x.1.now)) result (procedure_behind tokens.now) }
+    ensures memory { IfNoMemory result (ProcedureWants tokens.now) }
 {
     let (arguments, rest) = arguments_of(alloc, tokens)?;
     let (results, rest) = results_of(alloc, rest)?;
@@ -91,7 +94,8 @@ fn procedure_of(alloc: Global, tokens: &[Token]) -> Result<(Declared, &[Token]),
 /// An error, behind `ERROR`.
 #[tactic(auto, unfolding(crate::specs::Programs::error_behind))]
 fn error_of(alloc: Global, tokens: &[Token]) -> Result<(Declared, &[Token]), Stop>
-    ensures { Gives (λ x. (declared_view x.0, x.1.now)) result (error_behind tokens.now) }
+    ensures exact { Gives (λ x. (declared_view x.0, x.1.now)) result (error_behind tokens.now) }
+    ensures memory { IfNoMemory result (FieldsWant tokens.now) }
 {
     let (arguments, rest) = arguments_of(alloc, tokens)?;
     let rest = behind_equal(rest)?;
@@ -102,7 +106,8 @@ fn error_of(alloc: Global, tokens: &[Token]) -> Result<(Declared, &[Token]), Sto
 /// A type, behind `TYPE`.
 #[tactic(auto, unfolding(crate::specs::Programs::type_declared))]
 fn declared_type(alloc: Global, tokens: &[Token]) -> Result<(Declared, &[Token]), Stop>
-    ensures { Gives (λ x. (declared_view x.0, x.1.now)) result (type_declared tokens.now) }
+    ensures exact { Gives (λ x. (declared_view x.0, x.1.now)) result (type_declared tokens.now) }
+    ensures memory { IfNoMemory result (Then (equal_at tokens.now) (TypeWants most_depth)) }
 {
     let rest = behind_equal(tokens)?;
     let (written, rest) = type_of(alloc, MOST_DEPTH, rest)?;
@@ -112,18 +117,20 @@ fn declared_type(alloc: Global, tokens: &[Token]) -> Result<(Declared, &[Token])
 /// A constant, from its type on.
 #[tactic(auto, unfolding(crate::specs::Programs::constant_declared))]
 fn declared_constant(alloc: Global, tokens: &[Token]) -> Result<(Declared, &[Token]), Stop>
-    ensures { Gives (λ x. (declared_view x.0, x.1.now)) result (constant_declared tokens.now) }
+    ensures exact { Gives (λ x. (declared_view x.0, x.1.now)) result (constant_declared tokens.now) }
+    ensures memory { IfNoMemory result (TypeWants most_depth tokens.now) }
 {
     let (written, rest) = type_of(alloc, MOST_DEPTH, tokens)?;
     let rest = behind_equal(rest)?;
-    let (constant, rest) = constant_of(alloc, MOST_DEPTH, rest)?;
+    let (constant, rest) = constant_of(MOST_DEPTH, rest)?;
     Ok((Declared::Constant(written, constant), rest))
 }
 
 /// What a name is declared as, behind its colon.
 #[tactic(auto, unfolding(crate::specs::Programs::declared_at))]
 fn declared_of(alloc: Global, tokens: &[Token]) -> Result<(Declared, &[Token]), Stop>
-    ensures { Gives (λ x. (declared_view x.0, x.1.now)) result (declared_at tokens.now) }
+    ensures exact { Gives (λ x. (declared_view x.0, x.1.now)) result (declared_at tokens.now) }
+    ensures memory { IfNoMemory result (DeclaredWants tokens.now) }
 {
     match tokens {
         [Token::Type, rest @ ..] => declared_type(alloc, rest),
@@ -136,7 +143,8 @@ fn declared_of(alloc: Global, tokens: &[Token]) -> Result<(Declared, &[Token]), 
 /// A declaration, up to its semicolon.
 #[tactic(auto, unfolding(crate::specs::Programs::declaration_at))]
 fn declaration_of(alloc: Global, tokens: &[Token]) -> Result<(Declaration, &[Token]), Stop>
-    ensures { Gives (λ x. (declaration_view x.0, x.1.now)) result (declaration_at tokens.now) }
+    ensures exact { Gives (λ x. (declaration_view x.0, x.1.now)) result (declaration_at tokens.now) }
+    ensures memory { IfNoMemory result (DeclarationWants tokens.now) }
 {
     let (name, rest) = name_of(tokens)?;
     let rest = behind_colon(rest)?;
@@ -147,7 +155,8 @@ fn declaration_of(alloc: Global, tokens: &[Token]) -> Result<(Declaration, &[Tok
 
 /// Declarations up to `END`, perhaps none.
 fn some_declarations(alloc: Global, tokens: &[Token]) -> Result<(Vec<Declaration>, &[Token]), Stop>
-    ensures { Gives (λ x. (declaration_views x.0.items, x.1.now)) result (declarations_at most_declarations tokens.now) }
+    ensures exact { Gives (λ x. (declaration_views x.0.items, x.1.now)) result (declarations_at most_declarations tokens.now) }
+    ensures memory { IfNoMemory result (DeclarationsWant tokens.now) }
 {
     let mut declarations = Vec::new(alloc);
     let mut rest = tokens;
@@ -172,7 +181,7 @@ pub fn declarations_of(
     tokens: &[Token],
 ) -> Result<(Vec<Declaration>, &[Token]), Stop>
     ensures exact { Gives (λ x. (declaration_views x.0.items, x.1.now)) result (declarations_at most_declarations tokens.now) }
-    ensures memory { IfNoMemory result (is_end_of tokens.now ≡ false) }
+    ensures memory { IfNoMemory result (DeclarationsWant tokens.now) }
 {
     if is_end(tokens) {
         return Ok((Vec::new(alloc), tokens));

@@ -1,5 +1,6 @@
 //! Names, numbers and the parts of types, read from tokens.
-ghost use Rattle.courier_notation.specs.Reading.{Gives, Reads, designator_at, designator_behind, listed, maximum_at};
+ghost use Rattle.std.specs.Prelude.{IsOk};
+ghost use Rattle.courier_notation.specs.Reading.{Gives, IfNoMemory, Reads, designator_at, designator_behind, listed, maximum_at};
 ghost use Rattle.courier_notation.specs.Reading.{member_at, most_parts, name_at, numeric_at, reference_behind};
 ghost use Rattle.courier_notation.specs.Reading.{tag_at, word_of};
 ghost use Rattle.courier_notation.specs.Programs.{long_at, reference_at, small_at, small_or_fault};
@@ -66,7 +67,8 @@ pub fn numeric_of(tokens: &[Token]) -> Result<(Numeric, &[Token]), Stop>
 
 /// Names with commas between.
 pub fn names_of(alloc: Global, tokens: &[Token]) -> Result<(Vec<u32>, &[Token]), Stop>
-    ensures { Gives (λ x. (x.0.items, x.1.now)) result (listed name_at most_parts tokens.now) }
+    ensures exact { Gives (λ x. (x.0.items, x.1.now)) result (listed name_at most_parts tokens.now) }
+    ensures memory { IfNoMemory result (IsOk (name_at tokens.now)) }
 {
     let mut names = Vec::new(alloc);
     let mut rest = tokens;
@@ -95,7 +97,8 @@ fn member_of(tokens: &[Token]) -> Result<((u32, Numeric), &[Token]), Stop>
 
 /// Members with commas between.
 pub fn members_of(alloc: Global, tokens: &[Token]) -> Result<(Vec<(u32, Numeric)>, &[Token]), Stop>
-    ensures { Gives (λ x. (x.0.items, x.1.now)) result (listed member_at most_parts tokens.now) }
+    ensures exact { Gives (λ x. (x.0.items, x.1.now)) result (listed member_at most_parts tokens.now) }
+    ensures memory { IfNoMemory result (IsOk (member_at tokens.now)) }
 {
     let mut members = Vec::new(alloc);
     let mut rest = tokens;
@@ -142,7 +145,8 @@ pub fn designators_of(
     alloc: Global,
     tokens: &[Token],
 ) -> Result<(Vec<(u32, Option<Numeric>)>, &[Token]), Stop>
-    ensures { Gives (λ x. (x.0.items, x.1.now)) result (listed designator_at most_parts tokens.now) }
+    ensures exact { Gives (λ x. (x.0.items, x.1.now)) result (listed designator_at most_parts tokens.now) }
+    ensures memory { IfNoMemory result (IsOk (designator_at tokens.now)) }
 {
     let mut designators = Vec::new(alloc);
     let mut rest = tokens;
@@ -228,7 +232,8 @@ fn whole_reference(tokens: &[Token]) -> Result<(Reference, &[Token]), Stop>
 
 /// Names that are referred to, with commas between.
 pub fn references_of(alloc: Global, tokens: &[Token]) -> Result<(Vec<Reference>, &[Token]), Stop>
-    ensures { Gives (λ x. (x.0.items, x.1.now)) result (listed reference_at most_parts tokens.now) }
+    ensures exact { Gives (λ x. (x.0.items, x.1.now)) result (listed reference_at most_parts tokens.now) }
+    ensures memory { IfNoMemory result (IsOk (reference_at tokens.now)) }
 {
     let mut references = Vec::new(alloc);
     let mut rest = tokens;

@@ -1,9 +1,9 @@
 //! A program read from tokens, from left to right.
 
-ghost use Rattle.std.specs.Prelude.{◌≡◌, false};
+ghost use Rattle.std.specs.Prelude.{IsOk};
 ghost use Rattle.courier_notation.specs.ProgramModels.{declaration_views, program_view};
-ghost use Rattle.courier_notation.specs.Reading.{Gives, IfNoMemory, Reads, listed, most_parts};
-ghost use Rattle.courier_notation.specs.Programs.{WantsBody, body_at, dependencies_at, dependency_at, header_at, is_end};
+ghost use Rattle.courier_notation.specs.Reading.{Behind, Gives, IfNoMemory, Reads, listed, most_parts};
+ghost use Rattle.courier_notation.specs.Programs.{BodyWants, DependenciesWant, body_at, dependencies_at, dependency_at, header_at};
 ghost use Rattle.courier_notation.specs.Programs.{nothing_at, program_of};
 
 use crate::declarations::declarations_of;
@@ -43,7 +43,8 @@ fn dependency_of(tokens: &[Token]) -> Result<(Dependency, &[Token]), Stop>
 
 /// Dependencies with commas between.
 fn some_dependencies(alloc: Global, tokens: &[Token]) -> Result<(Vec<Dependency>, &[Token]), Stop>
-    ensures { Gives (λ x. (x.0.items, x.1.now)) result (listed dependency_at most_parts tokens.now) }
+    ensures exact { Gives (λ x. (x.0.items, x.1.now)) result (listed dependency_at most_parts tokens.now) }
+    ensures memory { IfNoMemory result (IsOk (dependency_at tokens.now)) }
 {
     let mut dependencies = Vec::new(alloc);
     let mut rest = tokens;
@@ -62,7 +63,7 @@ fn some_dependencies(alloc: Global, tokens: &[Token]) -> Result<(Vec<Dependency>
 #[tactic(auto, unfolding(crate::specs::Programs::dependencies_at))]
 fn dependencies_of(alloc: Global, tokens: &[Token]) -> Result<(Vec<Dependency>, &[Token]), Stop>
     ensures exact { Gives (λ x. (x.0.items, x.1.now)) result (dependencies_at tokens.now) }
-    ensures memory { IfNoMemory result (is_end tokens.now ≡ false) }
+    ensures memory { IfNoMemory result (DependenciesWant tokens.now) }
 {
     match tokens {
         [Token::Depends, rest @ ..] => {
@@ -98,7 +99,7 @@ fn body_of(
     tokens: &[Token],
 ) -> Result<((Vec<Dependency>, Vec<Declaration>), &[Token]), Stop>
     ensures exact { Gives (λ x. ((x.0.0.items, declaration_views x.0.1.items), x.1.now)) result (body_at tokens.now) }
-    ensures memory { IfNoMemory result (is_end tokens.now ≡ false) }
+    ensures memory { IfNoMemory result (BodyWants tokens.now) }
 {
     let (dependencies, rest) = dependencies_of(alloc, tokens)?;
     let (declarations, rest) = declarations_of(alloc, rest)?;
@@ -119,11 +120,12 @@ fn ended(program: WrittenProgram, tokens: &[Token]) -> Result<WrittenProgram, St
 
 /// The program that the tokens are, all of them; or the first fault.
 ///
-/// `NoMemory` only where a growth was refused, and something stands between `BEGIN` and `END`.
+/// `NoMemory` only where a growth was refused: of what stands behind `BEGIN`, a first dependency or declaration was read,
+/// or the first declaration wants memory itself.
 #[tactic(auto, unfolding(crate::specs::Programs::program_of))]
 pub fn read_program(alloc: Global, tokens: &[Token]) -> Result<WrittenProgram, Stop>
     ensures exact { Gives program_view result (program_of tokens.now) }
-    ensures memory { IfNoMemory result (WantsBody (header_at tokens.now)) }
+    ensures memory { IfNoMemory result (Behind (header_at tokens.now) BodyWants) }
 {
     let ((name, number, version), rest) = header_of(tokens)?;
     let ((dependencies, declarations), rest) = body_of(alloc, rest)?;

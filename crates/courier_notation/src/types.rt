@@ -1,10 +1,11 @@
 //! Types read from tokens, from left to right.
+ghost use Rattle.std.specs.Prelude.{◌⊎◌, IsOk};
 ghost use Rattle.courier_notation.specs.Written.{TypeModel, candidate_model, candidate_models, field_model};
 ghost use Rattle.courier_notation.specs.Written.{field_models, type_model};
-ghost use Rattle.courier_notation.specs.Reading.{Gives, Reads, array_behind, candidate_at, choice_behind};
+ghost use Rattle.courier_notation.specs.Reading.{Gives, Reads, array_behind, member_at, name_at, designator_at, numeric_at, maximum_at, candidate_at, choice_behind};
 ghost use Rattle.courier_notation.specs.Reading.{enumeration_behind, field_at, fields_at, fields_behind, listed};
 ghost use Rattle.courier_notation.specs.Reading.{long_behind, most_parts, over, record_behind, reference_behind};
-ghost use Rattle.courier_notation.specs.Reading.{sequence_behind, type_at, type_behind};
+ghost use Rattle.courier_notation.specs.Reading.{sequence_behind, type_at, type_behind, BehindWants, Behind, ChoiceWants, ElementWants, FieldsWant, IfNoMemory, TypeWants};
 
 use crate::limits::MOST_PARTS;
 use crate::marks::{
@@ -23,7 +24,8 @@ use std::alloc::Global;
 /// An enumeration, behind its opening brace.
 #[tactic(auto, unfolding(crate::specs::Reading::enumeration_behind))]
 fn enumeration_of(alloc: Global, tokens: &[Token]) -> Result<(WrittenType, &[Token]), Stop>
-    ensures { Gives (λ x. (type_model x.0, x.1.now)) result (enumeration_behind tokens.now) }
+    ensures exact { Gives (λ x. (type_model x.0, x.1.now)) result (enumeration_behind tokens.now) }
+    ensures memory { IfNoMemory result (IsOk (member_at tokens.now)) }
 {
     let (members, rest) = members_of(alloc, tokens)?;
     let rest = behind_close_brace(rest)?;
@@ -49,7 +51,8 @@ fn field_of(
     depth: usize,
     tokens: &[Token],
 ) -> Result<((Vec<u32>, WrittenType), &[Token]), Stop>
-    ensures { Gives (λ x. (field_model x.0, x.1.now)) result (field_at (type_at depth) tokens.now) }
+    ensures exact { Gives (λ x. (field_model x.0, x.1.now)) result (field_at (type_at depth) tokens.now) }
+    ensures memory { IfNoMemory result (IsOk (name_at tokens.now)) }
 {
     let (names, rest) = names_of(alloc, tokens)?;
     let rest = behind_colon(rest)?;
@@ -64,7 +67,8 @@ fn fields_of(
     depth: usize,
     tokens: &[Token],
 ) -> Result<(Vec<(Vec<u32>, WrittenType)>, &[Token]), Stop>
-    ensures { Gives (λ x. (field_models x.0.items, x.1.now)) result (listed (field_at (type_at depth)) most_parts tokens.now) }
+    ensures exact { Gives (λ x. (field_models x.0.items, x.1.now)) result (listed (field_at (type_at depth)) most_parts tokens.now) }
+    ensures memory { IfNoMemory result (IsOk (name_at tokens.now)) }
 {
     let mut fields = Vec::new(alloc);
     let mut rest = tokens;
@@ -87,7 +91,8 @@ fn fields_inside(
     depth: usize,
     tokens: &[Token],
 ) -> Result<(Vec<(Vec<u32>, WrittenType)>, &[Token]), Stop>
-    ensures { Gives (λ x. (field_models x.0.items, x.1.now)) result (fields_behind (type_at depth) tokens.now) }
+    ensures exact { Gives (λ x. (field_models x.0.items, x.1.now)) result (fields_behind (type_at depth) tokens.now) }
+    ensures memory { IfNoMemory result (IsOk (name_at tokens.now)) }
 {
     match tokens {
         [Token::CloseBracket, rest @ ..] => Ok((Vec::new(alloc), rest)),
@@ -107,7 +112,8 @@ pub fn bracketed(
     depth: usize,
     tokens: &[Token],
 ) -> Result<(Vec<(Vec<u32>, WrittenType)>, &[Token]), Stop>
-    ensures { Gives (λ x. (field_models x.0.items, x.1.now)) result (fields_at (type_at depth) tokens.now) }
+    ensures exact { Gives (λ x. (field_models x.0.items, x.1.now)) result (fields_at (type_at depth) tokens.now) }
+    ensures memory { IfNoMemory result (FieldsWant tokens.now) }
 {
     let inside = behind_open_bracket(tokens)?;
     fields_inside(alloc, depth, inside)
@@ -121,7 +127,8 @@ fn candidate_of(
     depth: usize,
     tokens: &[Token],
 ) -> Result<((Vec<(u32, Option<Numeric>)>, WrittenType), &[Token]), Stop>
-    ensures { Gives (λ x. (candidate_model x.0, x.1.now)) result (candidate_at (type_at depth) tokens.now) }
+    ensures exact { Gives (λ x. (candidate_model x.0, x.1.now)) result (candidate_at (type_at depth) tokens.now) }
+    ensures memory { IfNoMemory result (IsOk (designator_at tokens.now)) }
 {
     let (designators, rest) = designators_of(alloc, tokens)?;
     let rest = behind_arrow(rest)?;
@@ -136,8 +143,9 @@ fn candidates_of(
     depth: usize,
     tokens: &[Token],
 ) -> Result<(Vec<(Vec<(u32, Option<Numeric>)>, WrittenType)>, &[Token]), Stop>
-    ensures { Gives (λ x. (candidate_models x.0.items, x.1.now)) result
+    ensures exact { Gives (λ x. (candidate_models x.0.items, x.1.now)) result
         (listed (candidate_at (type_at depth)) most_parts tokens.now) }
+    ensures memory { IfNoMemory result (IsOk (designator_at tokens.now)) }
 {
     let mut candidates = Vec::new(alloc);
     let mut rest = tokens;
@@ -156,7 +164,8 @@ fn candidates_of(
 #[cycle(types)]
 #[tactic(auto, unfolding(crate::specs::Reading::array_behind))]
 fn array_of(alloc: Global, depth: usize, tokens: &[Token]) -> Result<(WrittenType, &[Token]), Stop>
-    ensures { Gives (λ x. (type_model x.0, x.1.now)) result (array_behind (type_at depth) tokens.now) }
+    ensures exact { Gives (λ x. (type_model x.0, x.1.now)) result (array_behind (type_at depth) tokens.now) }
+    ensures memory { IfNoMemory result (Behind (numeric_at tokens.now) (ElementWants (type_at depth) (TypeWants depth))) }
 {
     let (number, rest) = numeric_of(tokens)?;
     let rest = behind_of(rest)?;
@@ -172,7 +181,8 @@ fn sequence_of(
     depth: usize,
     tokens: &[Token],
 ) -> Result<(WrittenType, &[Token]), Stop>
-    ensures { Gives (λ x. (type_model x.0, x.1.now)) result (sequence_behind (type_at depth) tokens.now) }
+    ensures exact { Gives (λ x. (type_model x.0, x.1.now)) result (sequence_behind (type_at depth) tokens.now) }
+    ensures memory { IfNoMemory result (Behind (maximum_at tokens.now) (ElementWants (type_at depth) (TypeWants depth))) }
 {
     let (most, rest) = maximum_of(tokens)?;
     let rest = behind_of(rest)?;
@@ -183,7 +193,8 @@ fn sequence_of(
 /// A record, behind `RECORD`.
 #[cycle(types)]
 fn record_of(alloc: Global, depth: usize, tokens: &[Token]) -> Result<(WrittenType, &[Token]), Stop>
-    ensures { Gives (λ x. (type_model x.0, x.1.now)) result (record_behind (type_at depth) tokens.now) }
+    ensures exact { Gives (λ x. (type_model x.0, x.1.now)) result (record_behind (type_at depth) tokens.now) }
+    ensures memory { IfNoMemory result (FieldsWant tokens.now) }
 {
     let (fields, rest) = bracketed(alloc, depth, tokens)?;
     Ok((WrittenType::Record(fields), rest))
@@ -193,7 +204,8 @@ fn record_of(alloc: Global, depth: usize, tokens: &[Token]) -> Result<(WrittenTy
 #[cycle(types)]
 #[tactic(auto, unfolding(crate::specs::Reading::choice_behind))]
 fn choice_of(alloc: Global, depth: usize, tokens: &[Token]) -> Result<(WrittenType, &[Token]), Stop>
-    ensures { Gives (λ x. (type_model x.0, x.1.now)) result (choice_behind (type_at depth) tokens.now) }
+    ensures exact { Gives (λ x. (type_model x.0, x.1.now)) result (choice_behind (type_at depth) tokens.now) }
+    ensures memory { IfNoMemory result (ChoiceWants tokens.now) }
 {
     let (tag, rest) = tag_of(tokens)?;
     let rest = behind_of(rest)?;
@@ -220,7 +232,8 @@ fn type_behind(
     first: Token,
     tokens: &[Token],
 ) -> Result<(WrittenType, &[Token]), Stop>
-    ensures { Gives (λ x. (type_model x.0, x.1.now)) result (type_behind (type_at depth) first tokens.now) }
+    ensures exact { Gives (λ x. (type_model x.0, x.1.now)) result (type_behind (type_at depth) first tokens.now) }
+    ensures memory { IfNoMemory result (BehindWants (type_at depth) (TypeWants depth) first tokens.now) }
 {
     match first {
         Token::Boolean => Ok((WrittenType::Boolean, tokens)),
@@ -250,7 +263,8 @@ pub fn type_of(
     depth: usize,
     tokens: &[Token],
 ) -> Result<(WrittenType, &[Token]), Stop>
-    ensures { Gives (λ x. (type_model x.0, x.1.now)) result (type_at depth tokens.now) }
+    ensures exact { Gives (λ x. (type_model x.0, x.1.now)) result (type_at depth tokens.now) }
+    ensures memory { IfNoMemory result (TypeWants depth tokens.now) }
 {
     if depth == 0 {
         return Err(wrong(tokens, Reason::TooDeep));

@@ -4,7 +4,7 @@ use Rattle.courier_notation.specs.declared.reason.Reason.TheVariants.{TooLong}
 use Rattle.courier_notation.specs.declared.token.Token.{Token}
 use Rattle.courier_notation.specs.Lexing.{HasToken, Lexing, lexed_at, lexed_from, lexeme_in, lexing_of, most_text, most_tokens, nothing_read, skipped, with_lexeme}
 use Rattle.courier_notation.specs.ProgramModels.{ProgramModel}
-use Rattle.courier_notation.specs.Programs.{Header, WantsBody, body_at, header_at, nothing_at, program_of, program_with}
+use Rattle.courier_notation.specs.Programs.{body_at, header_at, nothing_at, program_of, program_with}
 use Rattle.courier_notation.specs.Reading.{Fault, ◌>>=◌}
 use Rattle.courier_programs.specs.declared.program_refusal.ProgramRefusal.{ProgramRefusal}
 use Rattle.courier_programs.specs.declared.program_refusal.ProgramRefusal.TheVariants as refusals
@@ -47,10 +47,6 @@ unfolding lexing_of
 begins_with_token text lexing is some = within (nat_le (length text) most_text) (length text - most_text, TooLong) text lexing is some
 
 -- ---- programs
-
-pub wants_header : (r : Result (Header × List Token) Fault) → WantsBody r → IsOk r
-wants_header (Ok x) wants = refl
-wants_header (Err e) wants = absurd wants
 
 pub has_header : (ts : List Token) (w : ProgramModel) → program_of ts ≡ Ok w → IsOk (header_at ts)
 unfolding program_of

@@ -1,11 +1,10 @@
 use Rattle.std.proofs.Common.{◌≡◌, ◌-◌, ◌*◌, ◌+◌}
 use Rattle.courier_notation.specs.Programs.{constant_at, element_at}
-use Rattle.courier_notation.specs.Reading.{listed, most_parts}
-use Rattle.courier_notation.proofs.Listing.{with_front}
+use Rattle.courier_notation.specs.Reading.{listed, most_parts, passed}
 use Rattle.courier_notation.proofs.constants.+constants.Given as goal
 
-abbrev pub invariant-elements_of-loop : goal.invariant-elements_of-loop
-invariant-elements_of-loop l = with_front l.elements.items (listed (element_at (constant_at l.depth)) (most_parts - l.counter) l.rest) ≡ listed (element_at (constant_at l.depth)) most_parts l.fn.tokens
+abbrev pub invariant-behind_elements-loop : goal.invariant-behind_elements-loop
+invariant-behind_elements-loop l = passed (listed (element_at (constant_at l.depth)) (most_parts - l.counter) l.rest) ≡ passed (listed (element_at (constant_at l.depth)) most_parts l.fn.tokens)
 
 abbrev pub decreases-constant_of : goal.decreases-constant_of
 decreases-constant_of l = 8 * l.depth
@@ -16,8 +15,8 @@ decreases-component_of l = 8 * l.depth + 1
 abbrev pub decreases-element_of : goal.decreases-element_of
 decreases-element_of l = 8 * l.depth + 2
 
-abbrev pub decreases-elements_of : goal.decreases-elements_of
-decreases-elements_of l = 8 * l.depth + 3
+abbrev pub decreases-behind_elements : goal.decreases-behind_elements
+decreases-behind_elements l = 8 * l.depth + 3
 
 abbrev pub decreases-elements_inside : goal.decreases-elements_inside
 decreases-elements_inside l = 8 * l.depth + 4
