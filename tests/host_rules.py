@@ -85,7 +85,8 @@ class Twins:
         return came
 
     def open(self, number, ours, via):
-        self.held[number] = SimpleNamespace(ours=ours, via=via, made=self.clock.own, calls=[], answers=0, is_asked=False, why=None)
+        self.held[number] = SimpleNamespace(ours=ours, via=via, tag=0, made=self.clock.own, calls=[], answers=0, is_asked=False, why=None)
+        assert self.ask("tag", number, timed=False) == 0, ("a new connection has a tag", number)
 
     def packets(self):
         """Fetches the packets, and returns their vias."""
@@ -121,6 +122,7 @@ class Twins:
         """One event, which the account has to allow. Whether the number is free now."""
         one = self.held[event.number]
         assert one.why is None, ("an event behind the close", event)
+        assert event.tag == one.tag, ("an event with another tag", event, one.tag)
         if isinstance(event, xns.Call):
             word = event.words[0]
             assert not one.ours and len(one.calls) == one.answers and word not in self.handed and (not one.calls or word == one.calls[-1] + 1), event
@@ -187,6 +189,12 @@ class Twins:
             self.ask("abandon", number, timed=False)
             self.count(gone={number})
 
+    def tag(self):
+        number, one = self.pick(lambda one: True)
+        if one:
+            one.tag = self.play.random.randrange(2**64)
+            self.ask("set_tag", number, one.tag, timed=False)
+
     def pass_time(self):
         """Another time is told: that of the wake, a near one, an earlier one, one up to three days ahead, or any. Before the wake nothing may happen."""
         rng, wake, kind = self.play.random, self.wake(), self.play.random.random()
@@ -242,8 +250,8 @@ class Play:
         """Some random steps. Then all is asked to close, and answered, and each connection ends, whatever the network does."""
         for _ in range(steps):
             host, deliver = self.random.choice(self.hosts), lambda: self.deliver(losses)
-            done = deliver, host.pass_time, host.call, host.answer, host.connect, host.close, host.abandon, host.spoil
-            self.random.choices(done, (45, 17, 10, 12, 8, 4, 2, 2))[0]()
+            done = deliver, host.pass_time, host.call, host.answer, host.connect, host.close, host.abandon, host.spoil, host.tag
+            self.random.choices(done, (45, 17, 10, 12, 8, 4, 2, 2, 4))[0]()
             host.fetch()
         turns = 0
         while any(host.held for host in self.hosts):

@@ -99,9 +99,15 @@ class RawSettings(ctypes.Structure):
 
 
 class RawEvent(ctypes.Structure):
-    _fields_ = [("kind", c_uint8), ("number", c_size_t), ("message", RawMessage), ("closed", c_uint8), ("fault", c_uint32)]
+    _fields_ = [("kind", c_uint8), ("number", c_size_t), ("tag", c_uint64), ("message", RawMessage), ("closed", c_uint8), ("fault", c_uint32)]
 
     def told(self, words: List[int]) -> Event:
+        event = self._told(words)
+        if self.tag:
+            event.tag = self.tag
+        return event
+
+    def _told(self, words: List[int]) -> Event:
         message = self.message
         if self.kind == _EVENT_CALL:
             return Call(self.number, message.program, message.version, message.procedure, words)
@@ -181,6 +187,8 @@ CALLS = {
     "host_close": [_HANDLE, c_uint64, c_size_t],
     "host_abandon": [_HANDLE, c_size_t],
     "host_set_network": [_HANDLE, c_uint32],
+    "host_set_tag": [_HANDLE, c_size_t, c_uint64],
+    "host_tag": [_HANDLE, c_size_t, _STRUCT],
     "host_receive": [_HANDLE, c_uint64, c_uint64, _BYTES, c_size_t],
     "host_next_event": [_HANDLE, _STRUCT, _WORDS, c_size_t, _LENGTH],
     "host_next_packet": [_HANDLE, c_uint64, _BUFFER, c_size_t, _LENGTH, _STRUCT],

@@ -227,6 +227,16 @@ class Host(Object):
         """Abandons a connection: nothing of it goes out or is told any more, and its number may be another one's. `NoConnectionError`."""
         self._done("abandon", unsigned(number, 64, "number"))
 
+    def set_tag(self, number: int, tag: int) -> None:
+        """Gives a connection a number of the program's own, of 64 bits, which its events have as `tag` from now on. It is 0 at first. `NoConnectionError`."""
+        self._done("set_tag", unsigned(number, 64, "number"), unsigned(tag, 64, "tag"))
+
+    def tag(self, number: int) -> int:
+        """The tag of a connection. `NoConnectionError`."""
+        tag = c_uint64()
+        self._done("tag", unsigned(number, 64, "number"), byref(tag))
+        return tag.value
+
     def receive(self, now: int, via: int, packet: bytes) -> bool:
         """Takes in a packet that came; false where it is not for the host, and is the program's to use."""
         given = octets(packet, "packet")

@@ -266,9 +266,10 @@ def rejects(reason: int) -> Reply:
     return Reply(Kind.REJECT, (), reason)
 
 
-class Call(NamedTuple):
-    """The peer of the connection with this number calls. It waits for `Host.answer`."""
+# An event has the tag of its connection, by `Host.set_tag`, as an attribute; it is no element of the tuple.
 
+
+class _Call(NamedTuple):
     number: int
     program: int
     version: int
@@ -276,21 +277,35 @@ class Call(NamedTuple):
     words: List[int]
 
 
-class Answer(NamedTuple):
-    """The call that was made on the connection with this number is answered. `code` is the error of an abort or the reason of a reject, else 0."""
+class Call(_Call):
+    """The peer of the connection with this number calls. It waits for `Host.answer`."""
 
+    tag = 0
+
+
+class _Answer(NamedTuple):
     number: int
     kind: Kind
     code: int
     words: List[int]
 
 
-class Closed(NamedTuple):
-    """The connection with this number is closed, and nothing more comes of it. `fault` is what a peer was refused for, else None."""
+class Answer(_Answer):
+    """The call that was made on the connection with this number is answered. `code` is the error of an abort or the reason of a reject, else 0."""
 
+    tag = 0
+
+
+class _Closed(NamedTuple):
     number: int
     why: Why
     fault: Optional[Result]
+
+
+class Closed(_Closed):
+    """The connection with this number is closed, and nothing more comes of it. `fault` is what a peer was refused for, else None."""
+
+    tag = 0
 
 
 Event = Union[Call, Answer, Closed]

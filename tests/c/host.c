@@ -159,6 +159,7 @@ static void no_host(struct xns_host *none) {
     CHECK(xns_host_next_packet(none, 0, packet, sizeof packet, &number, &via) == XNS_NO_HOST && via == 7 && number == 7);
     CHECK(xns_host_wake(none) == XNS_NEVER && xns_host_connections(none) == 0 && xns_host_peer(none, 0, &peer) == XNS_NO_HOST);
     CHECK(xns_host_number_from(none, 0, &number) == XNS_NO_HOST && number == 7);
+    CHECK(xns_host_set_tag(none, 0, 7) == XNS_NO_HOST && xns_host_tag(none, 0, &via) == XNS_NO_HOST && via == 7);
     xns_host_free(none);
     CHECK(none->at == NULL);
 }
@@ -310,6 +311,21 @@ static void refusals(void) {
     free_both();
 }
 
+/* Where its connection is asked to close, an answer that stays goes: the program has said all. */
+static void answer_that_stays(void) {
+    struct xns_event call, event;
+    size_t number;
+    open_both(&usual, &number);
+    call = calls(number, 2);
+    CHECK(xns_host_answer(&service, now, call.number, XNS_KIND_RETURN, 0, given, 2) == XNS_OK);
+    while (xns_host_next_event(&client, &event, words, 1, &count) == XNS_NOTHING) turn();
+    CHECK(event.kind == XNS_EVENT_ANSWER && count == 2 && xns_host_close(&client, now, number) == XNS_OK);
+    CHECK(xns_host_next_event(&client, &event, words, WORDS, &count) == XNS_NOTHING);
+    is_closed(&service, XNS_CLOSED_BY_PEER, XNS_OK);
+    is_closed(&client, XNS_CLOSED_ASKED, XNS_OK);
+    free_both();
+}
+
 /* The longest messages. An event whose words have no room stays, and the program may answer a call that stays. */
 static void short_buffers(void) {
     struct xns_event event;
@@ -332,6 +348,7 @@ static void short_buffers(void) {
     CHECK(xns_host_answer(&service, now, event.number, XNS_KIND_RETURN, 0, given, XNS_MOST_MESSAGE_WORDS) == XNS_OK);
     while (xns_host_next_event(&client, &event, words, 10, &count) == XNS_NOTHING) turn();
     CHECK(event.kind == XNS_EVENT_ANSWER && event.number == number && count == XNS_MOST_MESSAGE_WORDS && event.message.kind == XNS_KIND_RETURN);
+    CHECK(xns_host_call(&client, now, number, 7, 1, 4, given, 1) == XNS_BUSY); /* the answer stays */
     hears(number, XNS_KIND_RETURN, 0, XNS_MOST_MESSAGE_WORDS);
 
     CHECK(xns_host_call(&client, now, number, 7, 1, 4, given, 5) == XNS_OK);
@@ -341,12 +358,41 @@ static void short_buffers(void) {
     hears(number, XNS_KIND_REJECT, 3, 0);
     CHECK(xns_host_call(&client, now, number, 7, 1, 4, given, 5) == XNS_OK);
     while (xns_host_next_event(&service, &event, words, 0, &count) == XNS_NOTHING) turn();
-    CHECK(xns_host_close(&service, now, event.number) == XNS_OK); /* and so it goes when its connection is to close, but is still to be answered */
+    CHECK(xns_host_close(&service, now, event.number) == XNS_OK); /* it is still to be answered, and comes again */
+    CHECK(xns_host_next_event(&service, &event, words, WORDS, &count) == XNS_OK && event.kind == XNS_EVENT_CALL && count == 5);
     CHECK(xns_host_next_event(&service, &event, words, WORDS, &count) == XNS_NOTHING);
     CHECK(xns_host_answer(&service, now, event.number, XNS_KIND_ABORT, 4, given, 1) == XNS_OK);
     hears(number, XNS_KIND_ABORT, 4, 1);
     is_closed(&client, XNS_CLOSED_BY_PEER, XNS_OK);
     is_closed(&service, XNS_CLOSED_ASKED, XNS_OK);
+    free_both();
+    answer_that_stays();
+}
+
+/* The tag of a connection is in each event of it, whoever opened it, also in one that stays; the next connection of the number has none. */
+static void tags(void) {
+    const struct xns_settings one = { .connections = 1 };
+    struct xns_event event;
+    uint64_t tag = 7;
+    size_t number, second;
+    open_both(&one, &number);
+    CHECK(xns_host_tag(&client, number, &tag) == XNS_OK && tag == 0 && xns_host_set_tag(&client, number, UINT64_MAX) == XNS_OK);
+    CHECK(xns_host_tag(&client, number, &tag) == XNS_OK && tag == UINT64_MAX);
+    CHECK(xns_host_set_tag(&client, 1, 5) == XNS_NO_CONNECTION && xns_host_set_tag(&client, SIZE_MAX, 5) == XNS_NO_CONNECTION);
+    CHECK(xns_host_tag(&client, 1, &tag) == XNS_NO_CONNECTION && tag == UINT64_MAX);
+    AGAIN(xns_host_call(&client, now, number, 7, 1, 1, given, 5));
+    while (xns_host_next_event(&service, &event, words, 0, &count) == XNS_NOTHING) turn();
+    CHECK(event.kind == XNS_EVENT_CALL && event.tag == 0 && xns_host_set_tag(&service, event.number, 9) == XNS_OK);
+    CHECK(xns_host_next_event(&service, &event, words, WORDS, &count) == XNS_OK && event.kind == XNS_EVENT_CALL && event.tag == 9);
+    AGAIN(xns_host_answer(&service, now, event.number, XNS_KIND_RETURN, 0, given, 1));
+    event = await(&client, XNS_EVENT_ANSWER);
+    CHECK(event.tag == UINT64_MAX && xns_host_set_tag(&client, number, 3) == XNS_OK && xns_host_close(&client, now, number) == XNS_OK);
+    event = await(&service, XNS_EVENT_CLOSED);
+    CHECK(event.tag == 9 && await(&client, XNS_EVENT_CLOSED).tag == 3);
+    AGAIN(xns_host_connect(&client, now, CLIENT_VIA, here.socket + 1, &there, &second)); /* the closed one gives way */
+    CHECK(second == number && xns_host_tag(&client, second, &tag) == XNS_OK && tag == 0);
+    event = calls(second, 1);
+    CHECK(event.tag == 0 && xns_host_abandon(&service, event.number) == XNS_OK && xns_host_set_tag(&service, event.number, 5) == XNS_NO_CONNECTION);
     free_both();
 }
 
@@ -566,6 +612,7 @@ int main(void) {
     networks();
     refusals();
     short_buffers();
+    tags();
     silent();
     abandoned();
     idle();

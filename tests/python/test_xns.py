@@ -333,6 +333,24 @@ class HostTest(unittest.TestCase):
         self.carry()
         self.assertEqual((self.client.connections, self.client.wake()), (0, None))
 
+    def test_tags(self):
+        """Each event has the tag that its connection was given, and the next connection of the number has none."""
+        self.assertEqual(self.client.tag(self.number), 0)
+        self.client.set_tag(self.number, 2**64 - 1)
+        number = self.call([5])
+        self.service.set_tag(number, 9)
+        self.assertEqual((self.client.tag(self.number), self.service.tag(number)), (2**64 - 1, 9))
+        self.service.answer(self.now, number, xns.returns([7]))
+        self.assertEqual(self.told(self.client).tag, 2**64 - 1)
+        self.client.close(self.now, self.number)
+        self.carry()
+        self.assertEqual([event.tag for host in (self.client, self.service) for event in host.events()], [2**64 - 1, 9])
+        self.client.abandon(self.number)
+        for wrong in (lambda: self.client.tag(self.number), lambda: self.client.set_tag(self.number, 1)):
+            self.assertRaises(xns.NoConnectionError, wrong)
+        self.assertRaises(ValueError, self.service.set_tag, number, 2**64)
+        self.assertEqual(self.client.tag(self.client.connect(self.now, 3, THERE.socket, HERE._replace(socket=5))), 0)
+
     def test_abandoned(self):
         """A call that is abandoned: nothing of it is told or taken any more."""
         number = self.call([5])

@@ -20,7 +20,7 @@ use Rattle.xns_host.specs.Places as places
 use Rattle.xns_connection.specs.Step.{AStepKeepsItsPromises}
 use Rattle.xns_connection.specs.Story.{asked_of, waiting_message}
 use Rattle.xns_host.specs.Turn.{Abandons, ConnectsTo, GivesOut, TakesIn, Turn, places_of, whole_of}
-use Rattle.xns_host.specs.Went.{GuestGives, GuestHears, GuestStep, GuestTells, GuestUnserved, Went}
+use Rattle.xns_host.specs.Went.{GuestGives, GuestHears, GuestStep, GuestTagged, GuestTells, GuestUnserved, Went}
 use Rattle.xns_host.specs.Whole.{Whole}
 use Rattle.xns_host.specs.declared.event.Event.{Event}
 use Rattle.xns_host.specs.declared.guest.Guest.{Guest}
@@ -41,7 +41,7 @@ use Rattle.host_world.specs.Seen.{number_of}
 use Rattle.host_world.proofs.Guests.{answers, calls, closes, gives, hands, hears_it, not_served, tells}
 use Rattle.host_world.proofs.Numbers.{at_place, beside, may_be_told, same_or_other, since_stranger, since_told}
 use Rattle.host_world.proofs.Shown.{event_number, why_by}
-use Rattle.host_world.proofs.Following.{Led, led, left, Goes, Still, at_once, still, still_then, then_does, EachStill, each_then, still_if, turns_still, all_act, no_packet, gives_none, in_vain, follows, followed, did_same, did_other, one_guest, not_equal}
+use Rattle.host_world.proofs.Following.{Led, led, left, Goes, Still, at_once, same_goes, still, still_then, then_does, EachStill, each_then, still_if, turns_still, all_act, no_packet, gives_none, in_vain, follows, followed, did_same, did_other, one_guest, not_equal}
 
 -- ---- at one number, and at the others
 
@@ -87,19 +87,19 @@ turn_followed now number deed did h j t each =
 
 -- ---- what is told
 
-message_deed : (number : ℕ) (m : Message) → deed_of (event_of number m) ≡ one_message_more m
-message_deed number (messages.Call transaction program version procedure words) = refl
-message_deed number (messages.Reject transaction reason words) = refl
-message_deed number (messages.Return transaction words) = refl
-message_deed number (messages.Abort transaction error words) = refl
+message_deed : (number tag : ℕ) (m : Message) → deed_of (event_of number tag m) ≡ one_message_more m
+message_deed number tag (messages.Call transaction program version procedure words) = refl
+message_deed number tag (messages.Reject transaction reason words) = refl
+message_deed number tag (messages.Return transaction words) = refl
+message_deed number tag (messages.Abort transaction error words) = refl
 
 event_goes : (law : AStepKeepsItsPromises) (now number : ℕ) (g h : Guest) (event : Event) (o : Option Message) → GuestTells now g h → waiting_message g.connection.conversation.side ≡ o
-    → event_by number o (if g.connection.told then None else g.connection.closed) ≡ Some event → LeadsOn g h (deed_of event) []
+    → event_by number g.tag o (if g.connection.told then None else g.connection.closed) ≡ Some event → LeadsOn g h (deed_of event) []
 event_goes law now number g h event (Some m) t is e =
-    let same : event_of number m ≡ event = cc in
-    subst (λ (d : Deeds → Deeds). LeadsOn g h d []) (sym (message_deed number m) ∙ ap deed_of same) (hands now m g h law t is)
+    let same : event_of number g.tag m ≡ event = cc in
+    subst (λ (d : Deeds → Deeds). LeadsOn g h d []) (sym (message_deed number g.tag m) ∙ ap deed_of same) (hands now m g h law t is)
 event_goes law now number g h event None t is e =
-    let w = why_by number g.connection.told g.connection.closed event e in
+    let w = why_by number g.tag g.connection.told g.connection.closed event e in
     subst (λ (x : Event). LeadsOn g h (deed_of x) []) w.3 (tells now g h t is)
 
 became_goes : (p : Places) (number : ℕ) (g h : Guest) (did : Deeds → Deeds) → slice_get p.guests number ≡ Some (Some g) → LeadsOn g h did [] → Goes did [] g (slice_get (became p number h).guests number)
@@ -191,6 +191,10 @@ done_followed law h j did (following.found_no_room now way socket peer fault c) 
 done_followed law h j did (following.was_told_nothing t) = each_still (MayTake None) h j (nothing_told h.clock.latest (places_of h) t.next)
 done_followed law h j did (following.served socket programs result s) = each_still (MayTake None) h j (still_if h.guests.items j.guests.items (ap (λ (w : Whole). w.places.guests) s.rest))
 done_followed law h j did (following.moved network m) = each_still (MayTake None) h j (still_if h.guests.items j.guests.items (ap (λ (w : Whole). w.places.guests) m.is))
+done_followed law h j did (following.tagged number tag (Ok u) t) =
+    each_still (MayTake None) h j (turns_still (GuestTagged tag) number (places_of h) (places_of j)
+    (λ g k is. same_goes g k (ap (λ (x : Guest). x.connection.conversation) is)) t.tagged)
+done_followed law h j did (following.tagged number tag (Err fault) t) = each_still (MayTake None) h j (still_if h.guests.items j.guests.items (ap (λ (p : Places). p.guests) t.unchanged))
 
 -- one is gone, and each other one is as it was
 pub abandoned_followed : (number : ℕ) (h j : Host) → Abandons number (Ok tt) h j → (k : ℕ) → k ≢ number

@@ -45,6 +45,10 @@ pub record Still (old new : Option (Option Guest)) : Type 0 where
 pub at_once : (g : Guest) → LeadsOn g g no_more []
 at_once g a b programs m side meets here = record { next = m; meets = meets; same = here; does = stays_so m side }
 
+-- so did one that has the same conversation
+pub same_goes : (g h : Guest) → h.connection.conversation ≡ g.connection.conversation → LeadsOn g h no_more []
+same_goes g h same a b programs m side meets here = record { next = m; meets = meets; same = here ∙ sym same; does = stays_so m side }
+
 joined : {a b : Station} {programs : List Program} {m : Meeting} {side : Side} {g h : Guest} {did : Deeds → Deeds} {gave : List (List ℕ)}
     → (one : LeadsTo a b programs m side g no_more []) → LeadsTo a b programs one.next side h did gave → LeadsTo a b programs m side h did gave
 joined {m = m} {side = side} {did = did} {gave = gave} one two = record {

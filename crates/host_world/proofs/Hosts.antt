@@ -1,5 +1,5 @@
 -- What a packet that came, and each call of a host, make happen at its numbers.
-use Rattle.std.proofs.Common.{◌≡◌, ap, refl, sym, subst, ℕ, zero, suc, Bool, true, false, List, [], ◌∷◌, ◌++◌, replicate, Option, Some, None, Result, Ok, append-nil}
+use Rattle.std.proofs.Common.{◌≡◌, ap, refl, sym, subst, ℕ, zero, suc, Bool, true, false, List, [], ◌∷◌, ◌++◌, replicate, Option, Some, None, Result, Ok, Err, append-nil}
 use Rattle.std.specs.Prelude.{◌==◌, if◌then◌else◌, slice_get}
 use Rattle.xns_idp.specs.declared.address.Address.{Address}
 use Rattle.xns_spp.specs.Packet.{SppPacketModel}
@@ -9,7 +9,7 @@ use Rattle.xns_host.specs.Coming as coming
 use Rattle.xns_host.specs.Hosting.{confirms}
 use Rattle.xns_host.specs.Places.{Places, Turns, taken_by, vacated}
 use Rattle.xns_host.specs.Turn.{Abandons, ConnectsTo, GivesOut, TellsNext, Turn, places_of, whole_of}
-use Rattle.xns_host.specs.Went.{GuestHears, GuestStep, GuestUnserved, Went}
+use Rattle.xns_host.specs.Went.{GuestHears, GuestStep, GuestTagged, GuestUnserved, Went}
 use Rattle.xns_host.specs.Whole.{Whole}
 use Rattle.xns_connection.specs.Deeds.{Deed}
 use Rattle.xns_host.specs.Strays.{StrayQueue}
@@ -20,8 +20,8 @@ use Rattle.xns_host.specs.declared.host.Host.{Host}
 use Rattle.xns_host.specs.declared.host_fault.HostFault.{HostFault}
 use Rattle.xns_host.specs.declared.outgoing.Outgoing.{Outgoing}
 use Rattle.host_world.specs.Dialogue.{Dialogue, new_dialogue, View, free, held, Happening, abandons, connects, opens, abandoning, connecting, opening}
-use Rattle.host_world.specs.Seen.{NumberHasHistory, IsSaid, IsSeen, HasLived, Quiet, abandons_none, begins, finds_no_room, gives_out, goes_on, has_abandoned, has_connected, has_said, is_refused, moves, news_of, number_of, of_answer, of_call, of_close, said_at, serves, takes_in, tells_nothing, was_told}
-use Rattle.host_world.proofs.Shown.{Passes, Shows, ShowsIn, after_answer, after_call, after_close, first_said, first_unseen, hearing, stays, unserving}
+use Rattle.host_world.specs.Seen.{NumberHasHistory, IsSaid, IsSeen, HasLived, Quiet, abandons_none, begins, finds_no_room, gives_out, goes_on, has_abandoned, has_connected, has_said, is_refused, moves, news_of, number_of, of_answer, of_call, of_close, said_at, serves, tags, takes_in, tells_nothing, was_told}
+use Rattle.host_world.proofs.Shown.{Passes, Shows, ShowsIn, after_answer, after_call, after_close, first_said, first_unseen, hearing, stays, tagging, unserving}
 use Rattle.host_world.proofs.Numbers.{passes_then, One, AtEach, Silent, silent, silent_if, then_silent, one_changed, unsaid, of_guest, set_changed, turned, all_act, next_packet, next_event, no_event, connected_shows, opened_shows, taking}
 
 -- ---- a packet that came
@@ -103,6 +103,9 @@ quietly h j (takes_in now way bytes result t) = comes (time_at h.clock now) way 
 quietly h j (gives_out now result g) = giving now result h j g h.strays.waiting refl
 quietly h j (serves socket programs result s) = silent_if h.guests.items j.guests.items (ap (λ (w : Whole). w.places.guests) s.rest)
 quietly h j (moves network m) = silent_if h.guests.items j.guests.items (ap (λ (w : Whole). w.places.guests) m.is)
+quietly h j (tags number tag (Ok u) t) =
+    unsaid number h.guests.items j.guests.items (turned (GuestTagged tag) number (places_of h) (places_of j) [] (λ d g k s is. tagging tag d g k s is) t.tagged)
+quietly h j (tags number tag (Err fault) t) = silent_if h.guests.items j.guests.items (ap (λ (p : Places). p.guests) t.unchanged)
 
 -- ---- from a new host on
 

@@ -17,7 +17,7 @@ use Rattle.xns_host.specs.Events.{event_by, event_in, event_of}
 use Rattle.xns_connection.specs.Refusing.{side_answer_fault, side_call_fault}
 use Rattle.xns_connection.specs.Step.{Hands, calmly, moving_on, none_waits}
 use Rattle.xns_connection.specs.Story.{waiting_message}
-use Rattle.xns_host.specs.Went.{GuestActs, GuestGives, GuestHears, GuestStep, GuestTells, GuestUnserved, hears, lost}
+use Rattle.xns_host.specs.Went.{GuestActs, GuestGives, GuestHears, GuestStep, GuestTagged, GuestTells, GuestUnserved, hears, lost}
 use Rattle.xns_connection.specs.declared.connection.Connection.{Connection}
 use Rattle.xns_host.specs.declared.event.Event.{Event}
 use Rattle.xns_host.specs.declared.event.Event.TheVariants as events
@@ -330,41 +330,58 @@ after_tell now d g h why s t none untold closed =
       unheard = λ z. s.unheard (let was = ap (λ (k : Guest). k.heard_of) t.same in let still = ap (λ (o : Option Message). is_some o || g.heard_of) none in sym still ∙ (sym was ∙ z));
     }))
 
-number_there : (number : ℕ) (m : Message) → number_of (event_of number m) ≡ number
-number_there number (messages.Call transaction program version procedure words) = refl
-number_there number (messages.Reject transaction reason words) = refl
-number_there number (messages.Return transaction words) = refl
-number_there number (messages.Abort transaction error words) = refl
+number_there : (number tag : ℕ) (m : Message) → number_of (event_of number tag m) ≡ number
+number_there number tag (messages.Call transaction program version procedure words) = refl
+number_there number tag (messages.Reject transaction reason words) = refl
+number_there number tag (messages.Return transaction words) = refl
+number_there number tag (messages.Abort transaction error words) = refl
 
-news_there : (number : ℕ) (m : Message) → news_of (event_of number m) ≡ hands m
-news_there number (messages.Call transaction program version procedure words) = refl
-news_there number (messages.Reject transaction reason words) = refl
-news_there number (messages.Return transaction words) = refl
-news_there number (messages.Abort transaction error words) = refl
+news_there : (number tag : ℕ) (m : Message) → news_of (event_of number tag m) ≡ hands m
+news_there number tag (messages.Call transaction program version procedure words) = refl
+news_there number tag (messages.Reject transaction reason words) = refl
+news_there number tag (messages.Return transaction words) = refl
+news_there number tag (messages.Abort transaction error words) = refl
 
-pub why_by : (number : ℕ) (told : Bool) (closed : Option Why) (event : Event) → event_by number None (if told then None else closed) ≡ Some event
-    → (why : Why) × (told ≡ false) × (closed ≡ Some why) × (events.Closed number why ≡ event)
-why_by number true closed event e = absurd (cc)
-why_by number false None event e = absurd (cc)
-why_by number false (Some why) event e = (why, refl, refl, cc)
+pub why_by : (number tag : ℕ) (told : Bool) (closed : Option Why) (event : Event) → event_by number tag None (if told then None else closed) ≡ Some event
+    → (why : Why) × (told ≡ false) × (closed ≡ Some why) × (events.Closed number tag why ≡ event)
+why_by number tag true closed event e = absurd (cc)
+why_by number tag false None event e = absurd (cc)
+why_by number tag false (Some why) event e = (why, refl, refl, cc)
 
-number_by : (number : ℕ) (told : Bool) (closed : Option Why) (o : Option Message) (event : Event) → event_by number o (if told then None else closed) ≡ Some event → number_of event ≡ number
-number_by number told closed (Some m) event e = let same : event_of number m ≡ event = cc in ap number_of (sym same) ∙ number_there number m
-number_by number told closed None event e = ap number_of (sym (why_by number told closed event e).3)
+number_by : (number tag : ℕ) (told : Bool) (closed : Option Why) (o : Option Message) (event : Event) → event_by number tag o (if told then None else closed) ≡ Some event → number_of event ≡ number
+number_by number tag told closed (Some m) event e = let same : event_of number tag m ≡ event = cc in ap number_of (sym same) ∙ number_there number tag m
+number_by number tag told closed None event e = ap number_of (sym (why_by number tag told closed event e).3)
 
 pub event_number : (number : ℕ) (g : Guest) (event : Event) → event_in number (Some g) ≡ Some event → number_of event ≡ number
-event_number number g event e = number_by number g.connection.told g.connection.closed (waiting_message g.connection.conversation.side) event e
+event_number number g event e = number_by number g.tag g.connection.told g.connection.closed (waiting_message g.connection.conversation.side) event e
 
 tells_by : (now number : ℕ) (d : Dialogue) (g h : Guest) (event : Event) (o : Option Message) → Shows d g → GuestTells now g h → waiting_message g.connection.conversation.side ≡ o
-    → event_by number o (if g.connection.told then None else g.connection.closed) ≡ Some event → Passes (news_of event ∷ []) (held d) (Some (Some h))
+    → event_by number g.tag o (if g.connection.told then None else g.connection.closed) ≡ Some event → Passes (news_of event ∷ []) (held d) (Some (Some h))
 tells_by now number d g h event (Some m) s t is e =
-    let same : event_of number m ≡ event = cc in
-    subst (λ (x : Happening). Passes (x ∷ []) (held d) (Some (Some h))) (sym (news_there number m) ∙ ap news_of same) (after_hand now d g h m s t is)
+    let same : event_of number g.tag m ≡ event = cc in
+    subst (λ (x : Happening). Passes (x ∷ []) (held d) (Some (Some h))) (sym (news_there number g.tag m) ∙ ap news_of same) (after_hand now d g h m s t is)
 tells_by now number d g h event None s t is e =
-    let w = why_by number g.connection.told g.connection.closed event e in
+    let w = why_by number g.tag g.connection.told g.connection.closed event e in
     subst (λ (x : Event). Passes (news_of x ∷ []) (held d) (Some (Some h))) w.3 (after_tell now d g h w.0 s t is w.1 w.2)
 
 -- the program is told what the connection with this number has to tell
 pub tells_it : (now number : ℕ) (d : Dialogue) (g h : Guest) (event : Event) → Shows d g → GuestTells now g h → event_in number (Some g) ≡ Some event
     → Passes (news_of event ∷ []) (held d) (Some (Some h))
 tells_it now number d g h event s t e = tells_by now number d g h event (waiting_message g.connection.conversation.side) s t refl e
+
+-- ---- the program gives it a tag
+
+pub tagging : (tag : ℕ) (d : Dialogue) (g h : Guest) → Shows d g → GuestTagged tag g h → Passes [] (held d) (Some (Some h))
+tagging tag d g h s is = stays (held d) (Some (Some h)) (subst (Shows d) (sym is) same) where
+  same : Shows d (record g { tag = tag })
+  same = record {
+    state = s.state;
+    stands = s.stands;
+    side = s.side;
+    ours = s.ours;
+    asked = s.asked;
+    closed = s.closed;
+    told = s.told;
+    over = s.over;
+    unheard = s.unheard;
+  }

@@ -12,7 +12,7 @@ use Rattle.xns_connection.specs.Deeds as deeds
 use Rattle.xns_connection.specs.Deeds.{Deed}
 use Rattle.xns_connection.specs.Living.{Deeds}
 use Rattle.xns_connection.specs.Story.{asked_of}
-use Rattle.xns_host.specs.Turn.{Abandons, ConnectsTo, MovesTo, ServesAt, TellsNext, Turn}
+use Rattle.xns_host.specs.Turn.{Abandons, ConnectsTo, MovesTo, ServesAt, Tags, TellsNext, Turn}
 use Rattle.xns_connection.specs.declared.conversation.Conversation.{Conversation}
 use Rattle.xns_host.specs.declared.event.Event.{Event}
 use Rattle.xns_host.specs.declared.event.Event.TheVariants as events
@@ -65,9 +65,9 @@ gave_none k = []
 
 -- what the program does by an event that it is told
 abbrev pub deed_of : Event → Deeds → Deeds
-deed_of (events.Call number program version procedure m) = one_message_more m
-deed_of (events.Answer number answer m) = one_message_more m
-deed_of (events.Closed number why) = no_more
+deed_of (events.Call number tag program version procedure m) = one_message_more m
+deed_of (events.Answer number tag answer m) = one_message_more m
+deed_of (events.Closed number tag why) = no_more
 
 -- what the program does by a call of its host, by number
 pub data ProgramHasDone (h j : Host) : (ℕ → Deeds → Deeds) → Type 0 where
@@ -86,6 +86,7 @@ pub data ProgramHasDone (h j : Host) : (ℕ → Deeds → Deeds) → Type 0 wher
   served : (socket : ℕ) (programs : List Program) (result : Result (Unit {0}) HostFault) → ServesAt socket programs result h j
       → ProgramHasDone h j (λ k. no_more)
   moved : (network : ℕ) → MovesTo network h j → ProgramHasDone h j (λ k. no_more)
+  tagged : (number tag : ℕ) (result : Result (Unit {0}) HostFault) → Tags number tag result h j → ProgramHasDone h j (λ k. no_more)
 
 -- a packet went out that the connection with this number gave, or none did that a connection gave
 pub data HasGiven (result : Result (Option Outgoing) HostFault) : (ℕ → List (List ℕ)) → Type 0 where

@@ -9,7 +9,7 @@ use Rattle.xns_idp.specs.declared.address.Address.{Address}
 use Rattle.xns_connection.specs.Deeds as deeds
 use Rattle.xns_connection.specs.Deeds.{Deed}
 use Rattle.xns_host.specs.Standing.{IsNewHost}
-use Rattle.xns_host.specs.Turn.{Abandons, ConnectsTo, GivesOut, MovesTo, ServesAt, TakesIn, TellsNext, Turn}
+use Rattle.xns_host.specs.Turn.{Abandons, ConnectsTo, GivesOut, MovesTo, ServesAt, Tags, TakesIn, TellsNext, Turn}
 use Rattle.xns_host.specs.declared.event.Event.{Event}
 use Rattle.xns_host.specs.declared.event.Event.TheVariants as events
 use Rattle.xns_host.specs.declared.guest.Guest.{Guest}
@@ -29,16 +29,17 @@ pub data IsSaid : Deed → Happening → Type 0 where
 
 -- what it is told by an event, and of which number
 abbrev pub number_of : Event → ℕ
-number_of (events.Call number program version procedure m) = number
-number_of (events.Answer number answer m) = number
-number_of (events.Closed number why) = number
+number_of (events.Call number tag program version procedure m) = number
+number_of (events.Answer number tag answer m) = number
+number_of (events.Closed number tag why) = number
 
 abbrev pub news_of : Event → Happening
-news_of (events.Call number program version procedure m) = hands m
-news_of (events.Answer number answer m) = hands m
-news_of (events.Closed number why) = tells why
+news_of (events.Call number tag program version procedure m) = hands m
+news_of (events.Answer number tag answer m) = hands m
+news_of (events.Closed number tag why) = tells why
 
--- a call by which nothing is said: one that is refused, one that has nothing to tell, and those that take packets in, give them out, serve, or tell a network
+-- a call by which nothing is said: one that is refused, one that has nothing to tell, and those that take packets in, give them out, serve, or
+-- tell a network or a tag
 pub data Quiet (h j : Host) : Type 0 where
   is_refused : (now number : ℕ) (deed : Deed) (fault : HostFault) → Turn now number deed (Err fault) h j → Quiet h j
   abandons_none : (number : ℕ) (fault : HostFault) → Abandons number (Err fault) h j → Quiet h j
@@ -48,6 +49,7 @@ pub data Quiet (h j : Host) : Type 0 where
   gives_out : (now : ℕ) (result : Result (Option Outgoing) HostFault) → GivesOut now result h j → Quiet h j
   serves : (socket : ℕ) (programs : List Program) (result : Result (Unit {0}) HostFault) → ServesAt socket programs result h j → Quiet h j
   moves : (network : ℕ) → MovesTo network h j → Quiet h j
+  tags : (number tag : ℕ) (result : Result (Unit {0}) HostFault) → Tags number tag result h j → Quiet h j
 
 -- what was said at each number, with one happening more at this number
 abbrev pub said_at : (said : ℕ → List Happening) (number : ℕ) → Happening → (k : ℕ) → List Happening

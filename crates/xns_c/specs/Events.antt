@@ -1,5 +1,5 @@
 -- What C is told of the connections of a host.
-use Rattle.std.specs.Prelude.{◌≡◌, ◌<◌, ◌≤◌, ℕ, List, [], length}
+use Rattle.std.specs.Prelude.{◌≡◌, ◌<◌, ◌≤◌, ℕ, Bool, true, false, List, [], length}
 use Rattle.courier_messages.specs.Head.{words_in}
 use Rattle.xns_host.specs.declared.event.Event.{Event}
 use Rattle.xns_host.specs.declared.event.Event.TheVariants.{Call, Answer, Closed}
@@ -15,22 +15,34 @@ no_message = record { kind = 0; transaction = 0; program = 0; version = 0; proce
 
 -- 1 a call, 2 an answer, 3 that it is closed; what a kind does not have is 0
 abbrev pub event_given : Event → XnsEvent
-event_given (Call number program version procedure message) =
-    record { kind = 1; number = number; message = head_given message; closed = 0; fault = ok }
-event_given (Answer number answer message) = record { kind = 2; number = number; message = head_given message; closed = 0; fault = ok }
-event_given (Closed number why) =
-    record { kind = 3; number = number; message = no_message; closed = closed_number why; fault = refused_number why }
+event_given (Call number tag program version procedure message) =
+    record { kind = 1; number = number; tag = tag; message = head_given message; closed = 0; fault = ok }
+event_given (Answer number tag answer message) =
+    record { kind = 2; number = number; tag = tag; message = head_given message; closed = 0; fault = ok }
+event_given (Closed number tag why) =
+    record { kind = 3; number = number; tag = tag; message = no_message; closed = closed_number why; fault = refused_number why }
 
 -- of which connection it is
 abbrev pub event_number : Event → ℕ
-event_number (Call number program version procedure message) = number
-event_number (Answer number answer message) = number
-event_number (Closed number why) = number
+event_number (Call number tag program version procedure message) = number
+event_number (Answer number tag answer message) = number
+event_number (Closed number tag why) = number
+
+-- with another tag
+abbrev pub with_tag : ℕ → Event → Event
+with_tag tag (Call number told program version procedure message) = Call number tag program version procedure message
+with_tag tag (Answer number told answer message) = Answer number tag answer message
+with_tag tag (Closed number told why) = Closed number tag why
+
+abbrev pub is_answer : Event → Bool
+is_answer (Call number tag program version procedure message) = false
+is_answer (Answer number tag answer message) = true
+is_answer (Closed number tag why) = false
 
 abbrev pub event_words : Event → List ℕ
-event_words (Call number program version procedure message) = words_in message
-event_words (Answer number answer message) = words_in message
-event_words (Closed number why) = []
+event_words (Call number tag program version procedure message) = words_in message
+event_words (Answer number tag answer message) = words_in message
+event_words (Closed number tag why) = []
 
 -- what is answered where this event is to be given, its words to the front of a buffer: with no room for all of them none is put, and
 -- their number is told

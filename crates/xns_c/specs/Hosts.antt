@@ -1,5 +1,5 @@
 -- What becomes of a host that C holds.
-use Rattle.std.specs.Prelude.{◌≡◌, ◌≢◌, ◌⊎◌, ◌<◌, ◌≤◌, ℕ, Bool, true, false, ◌==◌, if◌then◌else◌, List, [], ◌∷◌, ◌++◌, length, max, Option, Some, None, Result, Ok, Err, slice_get}
+use Rattle.std.specs.Prelude.{◌≡◌, ◌≢◌, ◌⊎◌, ◌<◌, ◌≤◌, ℕ, Bool, true, false, ◌&&◌, ◌==◌, if◌then◌else◌, List, [], ◌∷◌, ◌++◌, length, max, Option, Some, None, Result, Ok, Err, slice_get}
 use Rattle.courier_messages.specs.RawCalls.{RawCall}
 use Rattle.courier_sessions.specs.declared.answer.Answer.{Answer}
 use Rattle.courier_sessions.specs.declared.program.Program.{Program}
@@ -7,7 +7,7 @@ use Rattle.xns_idp.specs.declared.address.Address.{Address}
 use Rattle.xns_connection.specs.Deeds.{Deed, asked, gave, made}
 use Rattle.xns_host.specs.Refusing.{TellsRefusal, wrong_ends}
 use Rattle.xns_host.specs.Standing.{IsNewHost}
-use Rattle.xns_host.specs.Turn.{Abandons, ConnectsTo, GivesOut, MovesTo, ServesAt, ServesNot, TakesIn, TellsNext, Turn, WakesAt}
+use Rattle.xns_host.specs.Turn.{Abandons, ConnectsTo, GivesOut, MovesTo, ServesAt, ServesNot, Tags, TakesIn, TellsNext, Turn, WakesAt}
 use Rattle.xns_host.specs.Hosting.{HasNoRoom, IsAllInUse, address_in, has_guest}
 use Rattle.xns_host.specs.Numbers.{IsNumberFrom}
 use Rattle.xns_connection.specs.Reasons.{call_fault_of, answer_fault_of}
@@ -20,10 +20,10 @@ use Rattle.xns_host.specs.declared.host_fault.HostFault.{HostFault}
 use Rattle.xns_host.specs.declared.host_fault.HostFault.TheVariants.{NoConnection}
 use Rattle.xns_host.specs.declared.outgoing.Outgoing.{Outgoing}
 use Rattle.xns_host.specs.declared.settings.Settings.{Settings}
-use Rattle.xns_c.specs.Events.{EventIsGiven, event_number}
+use Rattle.xns_c.specs.Events.{EventIsGiven, event_number, is_answer, with_tag}
 use Rattle.xns_c.specs.Faults.{host_fault_number, host_told}
 use Rattle.xns_c.specs.Given.{IsPut}
-use Rattle.xns_c.specs.Results.{ok, nothing, no_memory, short_buffer, bad_argument, no_host, no_connection, no_slot}
+use Rattle.xns_c.specs.Results.{ok, nothing, no_memory, short_buffer, bad_argument, busy, no_host, no_connection, no_slot}
 use Rattle.xns_c.specs.Settings.{never}
 use Rattle.xns_c.specs.declared.event.XnsEvent.{XnsEvent}
 use Rattle.xns_c.specs.declared.kept_host.KeptHost.{KeptHost}
@@ -55,7 +55,7 @@ pub record Turns (k n : KeptHost) (now number : ℕ) (deed : Deed) (reason : Con
   pub refused : (g : Guest) → guest_at k number ≡ Some (Some g) → TellsRefusal (reason g.connection.conversation) answer
   pub packet : n.packet ≡ k.packet
 
--- the event that is kept goes where it is of a connection whose call was answered, or that was closed or abandoned
+-- the event that is kept goes where it is of a connection whose call was answered, or that was abandoned
 abbrev pub unless_of : Option Event → ℕ → Option Event
 unless_of None number = None
 unless_of (Some e) number = if event_number e == number then None else Some e
@@ -63,9 +63,19 @@ unless_of (Some e) number = if event_number e == number then None else Some e
 abbrev pub kept_after : Option Event → ℕ → ℕ → Option Event
 kept_after event number result = if result == ok then unless_of event number else event
 
--- that call was made
+-- an answer on this connection is kept
+abbrev pub keeps_answer : Option Event → ℕ → Bool
+keeps_answer None number = false
+keeps_answer (Some e) number = is_answer e && event_number e == number
+
+-- it goes where the connection was asked to close; a call that is kept stays, which is to be answered first
+abbrev pub kept_closing : Option Event → ℕ → ℕ → Option Event
+kept_closing event number result = if result == ok && keeps_answer event number then None else event
+
+-- that call was made; while an answer on the connection is kept, it changes nothing
 pub record Calls (k n : KeptHost) (now number : ℕ) (call : RawCall) (result : ℕ) : Type 0 where
-  pub turns : Turns k n now number (made call) (λ t. call_fault_of t call) result
+  pub kept : keeps_answer k.event number ≡ true → (result ≡ busy) × (n ≡ k)
+  pub turns : keeps_answer k.event number ≡ false → Turns k n now number (made call) (λ t. call_fault_of t call) result
   pub event : n.event ≡ k.event
 
 -- that answer was given; one that is none changes nothing
@@ -77,7 +87,7 @@ pub record AnswersCall (k n : KeptHost) (now number : ℕ) (answer : Option Answ
 -- it was asked to close
 pub record Closes (k n : KeptHost) (now number result : ℕ) : Type 0 where
   pub turns : Turns k n now number asked (λ t. None) result
-  pub event : n.event ≡ kept_after k.event number result
+  pub event : n.event ≡ kept_closing k.event number result
 
 -- the connection is gone, and its event that is kept; or there was none, and the answer is told. A packet that is kept stays
 pub record AbandonsOne (k n : KeptHost) (number result : ℕ) : Type 0 where
@@ -88,6 +98,24 @@ pub record AbandonsOne (k n : KeptHost) (number result : ℕ) : Type 0 where
   pub some : (g : Guest) → guest_at k number ≡ Some (Some g) → answer ≡ Ok tt
   pub packet : n.packet ≡ k.packet
   pub event : n.event ≡ kept_after k.event number result
+
+-- an event that is kept has the tag that its connection was given
+abbrev pub retagged : Option Event → ℕ → ℕ → Option Event
+retagged None number tag = None
+retagged (Some e) number tag = Some (if event_number e == number then with_tag tag e else e)
+
+abbrev pub kept_tagging : Option Event → ℕ → ℕ → ℕ → Option Event
+kept_tagging event number tag result = if result == ok then retagged event number tag else event
+
+-- the connection has that tag from now on, and so has its event that is kept; or there was none, and the answer is told
+pub record TagsOne (k n : KeptHost) (number tag result : ℕ) : Type 0 where
+  pub answer : Result (Unit {0}) HostFault
+  pub told : result ≡ host_told answer
+  pub tags : Tags number tag answer k.host n.host
+  pub none : has_guest (guest_at k number) ≡ false → answer ≡ Err (NoConnection number)
+  pub some : (g : Guest) → guest_at k number ≡ Some (Some g) → answer ≡ Ok tt
+  pub packet : n.packet ≡ k.packet
+  pub event : n.event ≡ kept_tagging k.event number tag result
 
 -- ---- other calls
 

@@ -8,6 +8,8 @@ pub struct XnsEvent {
     pub kind: u8,
     /// The number of the connection.
     pub number: usize,
+    /// The program's own number of it, or 0.
+    pub tag: u64,
     /// The call or the answer but for its words; else all is 0.
     pub message: XnsMessage,
     /// Why it is closed, by number, or 0.

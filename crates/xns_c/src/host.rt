@@ -1,20 +1,17 @@
-//! A host, which C holds by its handle: many Courier conversations behind one address.
+//! A host, which C holds by its handle: many Courier conversations behind one address. `host_asking` has what it is asked.
 
-ghost use Rattle.std.specs.Prelude.{◌≡◌, ◌≢◌, false, count_by, length, IfOk, OnErr, Some, None, Err};
-ghost use Rattle.std.specs.Option.{is_some};
+ghost use Rattle.std.specs.Prelude.{◌≡◌, ◌≢◌, length, IfOk, OnErr, Some, None, Err};
 ghost use Rattle.courier_messages.specs.RawCalls.{words_call};
-ghost use Rattle.xns_host.specs.Hosting.{has_guest};
 ghost use Rattle.xns_host.specs.Settings.{wrong_setting};
 ghost use Rattle.xns_host.specs.Standing.{IsNewHost};
-ghost use Rattle.xns_host.specs.declared.guest.Guest.{Guest};
 ghost use Rattle.xns_host.specs.declared.host_fault.HostFault.TheVariants.{NoMemory, OutOfRange};
 ghost use Rattle.xns_host.specs.declared.setting.Setting.{Setting};
 ghost use Rattle.xns_c.specs.Handle.{kept_of};
 ghost use Rattle.xns_c.specs.Heads.{answer_in};
-ghost use Rattle.xns_c.specs.Hosts.{AbandonsOne, Does, Calls, AnswersCall, Closes, Connects, Moves, Serves, Receives, WalksOn, Wakes, FetchesEvent, FetchesPacket};
-ghost use Rattle.xns_c.specs.Hosts.{IsNew, guest_at};
-ghost use Rattle.xns_c.specs.Results.{ok, no_host, no_connection, no_memory, bad_argument};
-ghost use Rattle.xns_c.specs.Settings.{settings_in, never};
+ghost use Rattle.xns_c.specs.Hosts.{AbandonsOne, Does, Calls, AnswersCall, Closes, Connects, Moves, Serves, TagsOne, Receives, FetchesEvent, FetchesPacket};
+ghost use Rattle.xns_c.specs.Hosts.{IsNew};
+ghost use Rattle.xns_c.specs.Results.{ok, no_memory, bad_argument};
+ghost use Rattle.xns_c.specs.Settings.{settings_in};
 ghost use Rattle.xns_c.specs.Structs.{address_in};
 ghost use Rattle.xns_c.specs.declared.kept_host.KeptHost.{KeptHost};
 
@@ -22,8 +19,8 @@ use crate::address::XnsAddress;
 use crate::event::XnsEvent;
 use crate::faults::host_fault_number;
 use crate::host_handle::XnsHost;
-use crate::kept_host::{KeptHost, NEVER};
-use crate::results::{NO_CONNECTION, NO_HOST, NOTHING, OK};
+use crate::kept_host::KeptHost;
+use crate::results::{NO_HOST, OK};
 use crate::settings::XnsSettings;
 use courier_sessions::Program;
 use std::alloc::Global;
@@ -158,7 +155,7 @@ pub extern "C" fn xns_host_connect(
 /// Puts out a call on a connection of our own, whose words are copied.
 ///
 /// `NO_HOST`; `NO_CONNECTION`; `CLOSING` where the connection is closed or closes; `PEER_CALLS` where the peer opened it; `BUSY` while a
-/// call waits for its answer, or the answer was not fetched; `TOO_LONG` over 65,530 words; `NO_MEMORY`.
+/// call waits for its answer, or the answer was not fetched or had no room; `TOO_LONG` over 65,530 words; `NO_MEMORY`.
 #[unsafe(no_mangle)]
 pub extern "C" fn xns_host_call(
     alloc: Global,
@@ -207,7 +204,7 @@ pub extern "C" fn xns_host_answer(
     result
 }
 
-/// Closes a connection once all that it has to say is said. An event of it that is kept goes.
+/// Closes a connection once all that it has to say is said. An answer on it that is kept goes; a call that is kept stays, to be answered.
 ///
 /// `NO_HOST`; `NO_CONNECTION`.
 #[unsafe(no_mangle)]
@@ -238,6 +235,26 @@ pub extern "C" fn xns_host_abandon(alloc: Global, handle: &mut XnsHost, number: 
         return NO_HOST;
     };
     let result = kept.abandon(number);
+    handle.put(kept);
+    result
+}
+
+/// Gives a connection a tag: a number of the program's own, which its events have from now on, also one that is kept. It is 0 until then.
+///
+/// `NO_HOST`; `NO_CONNECTION`.
+#[unsafe(no_mangle)]
+pub extern "C" fn xns_host_set_tag(
+    alloc: Global,
+    handle: &mut XnsHost,
+    number: usize,
+    tag: u64,
+) -> u32
+    ensures tags { Does (kept_of handle.old) (kept_of handle.new) result (λ k n. TagsOne k n number tag result) }
+{
+    let Some(mut kept) = handle.take(alloc) else {
+        return NO_HOST;
+    };
+    let result = kept.set_tag(number, tag);
     handle.put(kept);
     result
 }
@@ -310,83 +327,4 @@ pub extern "C" fn xns_host_next_packet(
     let result = kept.next_packet(now, buffer, written, via);
     handle.put(kept);
     result
-}
-
-/// When the host wants to be asked at the latest, for events and then for packets: 0 at once, 2^64 - 1 never. Never where there is no host.
-#[unsafe(no_mangle)]
-pub extern "C" fn xns_host_wake(alloc: Global, handle: &mut XnsHost) -> u64
-    ensures wakes { (k : KeptHost) → kept_of handle.old ≡ Some k → Wakes k result }
-    ensures none { kept_of handle.old ≡ None → result ≡ never }
-    ensures same { kept_of handle.new ≡ kept_of handle.old }
-{
-    handle.ask(alloc, NEVER, |kept| kept.wake())
-}
-
-/// How many connections there are. 0 where there is no host.
-#[unsafe(no_mangle)]
-pub extern "C" fn xns_host_connections(alloc: Global, handle: &mut XnsHost) -> usize
-    ensures count { (k : KeptHost) → kept_of handle.old ≡ Some k → result ≡ count_by is_some k.host.guests.items }
-    ensures none { kept_of handle.old ≡ None → result ≡ 0 }
-    ensures same { kept_of handle.new ≡ kept_of handle.old }
-{
-    handle.ask(alloc, 0, |kept| kept.host.connections())
-}
-
-/// Tells the first number from this one on that a connection has.
-///
-/// `NO_HOST`; `NOTHING` where none has one.
-#[unsafe(no_mangle)]
-pub extern "C" fn xns_host_number_from(
-    alloc: Global,
-    handle: &mut XnsHost,
-    from: usize,
-    number: &mut usize,
-) -> u32
-    ensures walks { (k : KeptHost) → kept_of handle.old ≡ Some k → WalksOn k from number.old number.new result }
-    ensures none { kept_of handle.old ≡ None → (result ≡ no_host) × (number.new ≡ number.old) }
-    ensures same { kept_of handle.new ≡ kept_of handle.old }
-{
-    let Some(kept) = handle.take(alloc) else {
-        return NO_HOST;
-    };
-    let found = kept.host.number_from(from);
-    handle.put(kept);
-    match found {
-        Some(found) => {
-            *number = found;
-            OK
-        }
-        None => NOTHING,
-    }
-}
-
-/// Whom the connection with this number was opened to, or who opened it.
-///
-/// `NO_HOST`; `NO_CONNECTION`.
-#[unsafe(no_mangle)]
-pub extern "C" fn xns_host_peer(
-    alloc: Global,
-    handle: &mut XnsHost,
-    number: usize,
-    peer: &mut XnsAddress,
-) -> u32
-    ensures some { (k : KeptHost) (g : Guest) → kept_of handle.old ≡ Some k → guest_at k number ≡ Some (Some g)
-        → (result ≡ ok) × (address_in peer.new ≡ g.peer) }
-    ensures nobody { (k : KeptHost) → kept_of handle.old ≡ Some k → has_guest (guest_at k number) ≡ false → result ≡ no_connection }
-    ensures none { kept_of handle.old ≡ None → result ≡ no_host }
-    ensures same { kept_of handle.new ≡ kept_of handle.old }
-    ensures unchanged { result ≢ ok → peer.new ≡ peer.old }
-{
-    let Some(kept) = handle.take(alloc) else {
-        return NO_HOST;
-    };
-    let found = kept.host.peer(number);
-    handle.put(kept);
-    match found {
-        Some(found) => {
-            *peer = XnsAddress::of(&found);
-            OK
-        }
-        None => NO_CONNECTION,
-    }
 }

@@ -11,7 +11,7 @@ ghost use Rattle.xns_host.specs.declared.outgoing.Outgoing.{Outgoing};
 ghost use Rattle.xns_host.specs.declared.setting.Setting.{Setting};
 ghost use Rattle.xns_c.specs.Heads.{answer_in};
 ghost use Rattle.xns_c.specs.Hosts.{AbandonsOne, Calls, AnswersCall, Closes, Connects, Moves, Serves, Receives, Wakes, FetchesEvent, FetchesPacket};
-ghost use Rattle.xns_c.specs.Hosts.{answer_of, kept_after};
+ghost use Rattle.xns_c.specs.Hosts.{TagsOne, answer_of, keeps_answer, kept_after, kept_closing, kept_tagging};
 ghost use Rattle.xns_c.specs.Results.{ok};
 ghost use Rattle.xns_c.specs.Structs.{address_in};
 
@@ -20,8 +20,8 @@ use crate::event::XnsEvent;
 use crate::faults::{host_fault_number, host_told};
 use crate::front::put_front;
 use crate::heads::answer_in;
-use crate::results::{BAD_ARGUMENT, NO_MEMORY, NOTHING, OK, SHORT_BUFFER};
-use crate::telling_events::{give_event, number_of};
+use crate::results::{BAD_ARGUMENT, BUSY, NO_MEMORY, NOTHING, OK, SHORT_BUFFER};
+use crate::telling_events::{give_event, is_answer, number_of, set_tag};
 use courier_sessions::Program;
 use std::alloc::Global;
 use xns_host::{Event, Host, HostFault, Outgoing, Settings};
@@ -96,7 +96,17 @@ impl KeptHost {
         }
     }
 
-    /// Puts out a call.
+    /// Whether an answer on the connection with this number is kept.
+    fn keeps_answer(&self, number: usize) -> bool
+        ensures { result ≡ keeps_answer self.now.event number }
+    {
+        match &self.event {
+            Some(event) => is_answer(event) && number_of(event) == number,
+            None => false,
+        }
+    }
+
+    /// Puts out a call, unless the answer to the one before is kept.
     pub fn call(
         &mut self,
         now: u64,
@@ -108,6 +118,9 @@ impl KeptHost {
     ) -> u32
         ensures { Calls self.old self.new now number (words_call program version procedure words.now) result }
     {
+        if self.keeps_answer(number) {
+            return BUSY;
+        }
         host_told(
             self.host
                 .call(now, number, program, version, procedure, words),
@@ -141,12 +154,21 @@ impl KeptHost {
         result
     }
 
-    /// Closes a connection. What is kept of it goes.
+    /// Lets the answer go that is kept on the connection with this number, where that was closed.
+    fn let_answer_go(&mut self, number: usize, told: u32)
+        ensures { self.new ≡ record self.old { event = kept_closing self.old.event number told } }
+    {
+        if told == OK && self.keeps_answer(number) {
+            self.event = None;
+        }
+    }
+
+    /// Closes a connection. An answer on it that is kept goes.
     pub fn close(&mut self, now: u64, number: usize) -> u32
         ensures { Closes self.old self.new now number result }
     {
         let result = host_told(self.host.close(now, number));
-        self.let_go(number, result);
+        self.let_answer_go(number, result);
         result
     }
 
@@ -156,6 +178,31 @@ impl KeptHost {
     {
         let result = host_told(self.host.abandon(number));
         self.let_go(number, result);
+        result
+    }
+
+    /// Gives the event a tag that is kept of the connection with this number, where that was given it.
+    fn tag_event(&mut self, number: usize, tag: u64, told: u32)
+        ensures { self.new ≡ record self.old { event = kept_tagging self.old.event number tag told } }
+    {
+        if told != OK {
+            return;
+        }
+        let Some(event) = &mut self.event else {
+            return;
+        };
+        if number_of(event) != number {
+            return;
+        }
+        set_tag(event, tag);
+    }
+
+    /// Gives a connection a tag, and the event that is kept of it.
+    pub fn set_tag(&mut self, number: usize, tag: u64) -> u32
+        ensures { TagsOne self.old self.new number tag result }
+    {
+        let result = host_told(self.host.set_tag(number, tag));
+        self.tag_event(number, tag, result);
         result
     }
 

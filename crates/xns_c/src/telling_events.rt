@@ -1,7 +1,7 @@
 //! What is told of the connections of a host.
 
 ghost use Rattle.std.specs.Prelude.{◌≡◌, ◌≤◌, ◌++◌, drop, length};
-ghost use Rattle.xns_c.specs.Events.{EventIsGiven, event_given, event_number, event_words};
+ghost use Rattle.xns_c.specs.Events.{EventIsGiven, event_given, event_number, event_words, is_answer, with_tag};
 ghost use Rattle.xns_c.specs.Heads.{head_given};
 ghost use Rattle.xns_c.specs.Results.{ok};
 
@@ -32,13 +32,14 @@ const NO_MESSAGE: XnsMessage = XnsMessage {
     number: 0,
 };
 
-/// What is told of a message of the connection with this number.
-fn message_out(kind: u8, number: usize, message: &PiecedMessage) -> XnsEvent
-    ensures { result ≡ record { kind = kind; number = number; message = head_given message.now; closed = 0; fault = ok } }
+/// What is told of a message of the connection with this number and this tag.
+fn message_out(kind: u8, number: usize, tag: u64, message: &PiecedMessage) -> XnsEvent
+    ensures { result ≡ record { kind = kind; number = number; tag = tag; message = head_given message.now; closed = 0; fault = ok } }
 {
     XnsEvent {
         kind,
         number,
+        tag,
         message: head_out(message.head()),
         closed: 0,
         fault: OK,
@@ -52,17 +53,20 @@ fn event_out(event: &Event) -> XnsEvent
     match event {
         Event::Call {
             number,
+            tag,
             message,
             ..
-        } => message_out(CALL, *number, message),
+        } => message_out(CALL, *number, *tag, message),
         Event::Answer {
             number,
+            tag,
             message,
             ..
-        } => message_out(ANSWER, *number, message),
-        Event::Closed { number, why } => XnsEvent {
+        } => message_out(ANSWER, *number, *tag, message),
+        Event::Closed { number, tag, why } => XnsEvent {
             kind: CLOSED,
             number: *number,
+            tag: *tag,
             message: NO_MESSAGE,
             closed: closed_number(*why),
             fault: refused_number(*why),
@@ -78,6 +82,27 @@ pub fn number_of(event: &Event) -> usize
         Event::Call { number, .. } => *number,
         Event::Answer { number, .. } => *number,
         Event::Closed { number, .. } => *number,
+    }
+}
+
+/// Gives an event another tag.
+pub fn set_tag(event: &mut Event, tag: u64)
+    ensures { event.new ≡ with_tag tag event.old }
+{
+    match event {
+        Event::Call { tag: told, .. } => *told = tag,
+        Event::Answer { tag: told, .. } => *told = tag,
+        Event::Closed { tag: told, .. } => *told = tag,
+    }
+}
+
+/// Whether an event is an answer.
+pub fn is_answer(event: &Event) -> bool
+    ensures { result ≡ is_answer event.now }
+{
+    match event {
+        Event::Answer { .. } => true,
+        Event::Call { .. } | Event::Closed { .. } => false,
     }
 }
 

@@ -107,22 +107,22 @@ side_quiet : (s : Side) → has_message s ≡ false → waiting_message s ≡ No
 side_quiet (Calls t) none = there_none t.outcome none
 side_quiet (Answers a) none = ap (λ (o : Option Message). listed_call a.programs o) (there_none a.call none)
 
-why_quiet : (number : ℕ) (told : Bool) (why : Option Why) → (is_some why && not told) ≡ false → event_by number None (if told then None else why) ≡ None
-why_quiet number true why none = refl
-why_quiet number false None none = refl
-why_quiet number false (Some w) none = absurd (cc)
+why_quiet : (number tag : ℕ) (told : Bool) (why : Option Why) → (is_some why && not told) ≡ false → event_by number tag None (if told then None else why) ≡ None
+why_quiet number tag true why none = refl
+why_quiet number tag false None none = refl
+why_quiet number tag false (Some w) none = absurd (cc)
 
-either_quiet : (number : ℕ) (c : Connection) (b d : Bool) → has_message c.conversation.side ≡ b → (is_some c.closed && not c.told) ≡ d → b || d ≡ false
-    → event_for number c ≡ None
-either_quiet number c true d message why none = absurd (cc)
-either_quiet number c false d message why none =
-    ap (λ (o : Option Message). event_by number o (if c.told then None else c.closed)) (side_quiet c.conversation.side message)
-    ∙ why_quiet number c.told c.closed (why ∙ none)
+either_quiet : (number tag : ℕ) (c : Connection) (b d : Bool) → has_message c.conversation.side ≡ b → (is_some c.closed && not c.told) ≡ d → b || d ≡ false
+    → event_by number tag (waiting_message c.conversation.side) (if c.told then None else c.closed) ≡ None
+either_quiet number tag c true d message why none = absurd (cc)
+either_quiet number tag c false d message why none =
+    ap (λ (o : Option Message). event_by number tag o (if c.told then None else c.closed)) (side_quiet c.conversation.side message)
+    ∙ why_quiet number tag c.told c.closed (why ∙ none)
 
 quiet_in : (number : ℕ) (p : Option Guest) → (facts_in p).has_event ≡ false → event_in number p ≡ None
 quiet_in number None none = refl
 quiet_in number (Some g) none =
-    either_quiet number g.connection (has_message g.connection.conversation.side) (is_some g.connection.closed && not g.connection.told) refl refl none
+    either_quiet number g.tag g.connection (has_message g.connection.conversation.side) (is_some g.connection.closed && not g.connection.told) refl refl none
 
 note_quiet : (a : Plan) (n most : ℕ) (p : Option Guest) → IsFor a most → n < most → has_turn (noted a n (facts_in p)).events n ≡ false → event_in n p ≡ None
 note_quiet a n most p is less none =

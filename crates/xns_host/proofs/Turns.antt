@@ -17,7 +17,7 @@ use Rattle.xns_host.specs.Registered.{FitsEnd, IsAllRegistered}
 use Rattle.xns_connection.specs.Step.{AConnectionGivesWhatItMade, AMessageIsHandedAsByAStep, AStepKeepsItsPromises, Step}
 use Rattle.xns_connection.specs.Story.{Story, asked_of, waiting_message, with_handed}
 use Rattle.xns_connection.specs.Telling.{Goes}
-use Rattle.xns_host.specs.Went.{GuestActs, GuestGives, GuestHears, GuestStep, GuestTells, GuestUnserved, Went, hears, lost}
+use Rattle.xns_host.specs.Went.{GuestActs, GuestGives, GuestHears, GuestStep, GuestTagged, GuestTells, GuestUnserved, Went, hears, lost}
 use Rattle.xns_connection.specs.declared.connection.Connection.{Connection}
 use Rattle.xns_host.specs.declared.event.Event.{Event}
 use Rattle.xns_host.specs.declared.guest.Guest.{Guest}
@@ -114,13 +114,13 @@ told_stays law now g h t =
     let known : known_of h ≡ known_of g = ap known_of t.same in
     record { known = known; fits = told_fits law now g h (waiting_message g.connection.conversation.side) refl t known }
 
-has_why : (number : ℕ) (told : Bool) (why : Option Why) (e : Event) → event_by number None (if told then None else why) ≡ Some e → (told || is_some why) ≡ true
-has_why number true why e some = refl
-has_why number false None e some = absurd (cc)
-has_why number false (Some w) e some = refl
+has_why : (number tag : ℕ) (told : Bool) (why : Option Why) (e : Event) → event_by number tag None (if told then None else why) ≡ Some e → (told || is_some why) ≡ true
+has_why number tag true why e some = refl
+has_why number tag false None e some = absurd (cc)
+has_why number tag false (Some w) e some = refl
 
 undone_by : AMessageIsHandedAsByAStep → (now number : ℕ) (g h : Guest) (e : Event) (o : Option Message) → waiting_message g.connection.conversation.side ≡ o
-    → event_for number g.connection ≡ Some e → GuestTells now g h → may_go h.connection ≡ false → IsNotDone g.connection → IsNotDone h.connection
+    → event_for number g ≡ Some e → GuestTells now g h → may_go h.connection ≡ false → IsNotDone g.connection → IsNotDone h.connection
 undone_by law now number g h e (Some m) waits some t left was =
     let hands = t.handed (λ none. cc) in
     let k = handing now g.connection h.connection hands in
@@ -129,12 +129,22 @@ undone_by law now number g h e None waits some t left was =
     let c = g.connection in
     let now_told : h.connection.told ≡ true = ap (λ (d : Connection). d.told) (t.closed waits) in
     let why : (c.told || is_some c.closed) ≡ true
-    = has_why number c.told c.closed e (ap (λ (o : Option Message). event_by number o (if c.told then None else c.closed)) (sym waits) ∙ some) in
+    = has_why number g.tag c.told c.closed e (ap (λ (o : Option Message). event_by number g.tag o (if c.told then None else c.closed)) (sym waits) ∙ some) in
     not_done_told c h.connection (t.closed waits ∙ ap (λ (b : Bool). let d : Connection = record c { told = b } in d) (sym now_told)) (now_told ∙ sym why) left was
 
-pub told_undone : AMessageIsHandedAsByAStep → (now number : ℕ) (g h : Guest) (e : Event) → event_for number g.connection ≡ Some e → GuestTells now g h
+pub told_undone : AMessageIsHandedAsByAStep → (now number : ℕ) (g h : Guest) (e : Event) → event_for number g ≡ Some e → GuestTells now g h
     → may_go h.connection ≡ false → IsNotDone g.connection → IsNotDone h.connection
 told_undone law now number g h e some t = undone_by law now number g h e (waiting_message g.connection.conversation.side) refl some t
+
+-- ---- one that has a tag
+
+pub tagged_stays : (tag : ℕ) (g h : Guest) → GuestTagged tag g h → Stays g h
+tagged_stays tag g h is =
+    let known : known_of h ≡ known_of g = ap known_of is in
+    record { known = known; fits = still_fits g h known (ap (λ (k : Guest). k.connection.conversation) is) }
+
+pub tagged_undone : (tag : ℕ) (g h : Guest) → GuestTagged tag g h → IsNotDone g.connection → IsNotDone h.connection
+tagged_undone tag g h is = subst IsNotDone (sym (ap (λ (k : Guest). k.connection) is))
 
 -- ---- in its place
 

@@ -217,7 +217,8 @@ abbrev pub address_in : ℕ → List ℕ → ℕ → Address
 address_in network host socket = record { network = network; host = host; socket = socket }
 
 -- with this number there is a connection of ours to the peer, which was made at this time and has done nothing yet: it has the identifier
--- that came next of these, and its packets go out by this way; it owes its opening packet, and the program was told nothing of it
+-- that came next of these, and its packets go out by this way; it owes its opening packet, the program was told nothing of it, and it has no
+-- tag
 pub record IsConnected (guests : List (Option Guest)) (number : ℕ) (settings : Settings) (ids : Ids) (own to : Address) (way now : ℕ)
     : Type 0 where
   pub guest : Guest
@@ -230,6 +231,7 @@ pub record IsConnected (guests : List (Option Guest)) (number : ℕ) (settings :
   pub opener : guest.opener ≡ None
   pub confirmed : guest.confirmed ≡ false
   pub heard_of : guest.heard_of ≡ false
+  pub tag : guest.tag ≡ 0
 
 -- each identifier is some connection's
 abbrev pub IsAllInUse : Ids → Type 0
@@ -262,7 +264,7 @@ abbrev pub confirms : SppPacketModel → Bool
 confirms p = not (p.header.target_id == 0)
 
 -- a peer, with this identifier, opened this connection at an address of ours at this time, and nothing was said in it: it has the
--- identifier that came next of these, and its packets go out by this way; one may be to go out, and the program was told nothing of it
+-- identifier that came next of these, and its packets go out by this way; one may be to go out, the program was told nothing of it, and it has no tag
 pub record IsAnswering (settings : Settings) (ids : Ids) (own opener : Address) (id way now : ℕ) (programs : List Program) (guest : Guest)
     : Type 0 where
   pub next : IsNext ids guest.id
@@ -274,3 +276,4 @@ pub record IsAnswering (settings : Settings) (ids : Ids) (own opener : Address) 
   pub known_by : guest.opener ≡ Some (peer_at opener id own.socket)
   pub confirmed : guest.confirmed ≡ false
   pub heard_of : guest.heard_of ≡ false
+  pub tag : guest.tag ≡ 0

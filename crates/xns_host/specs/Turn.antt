@@ -9,12 +9,12 @@ use Rattle.xns_host.specs.Coming.{Comes}
 use Rattle.xns_connection.specs.Deeds.{Deed}
 use Rattle.xns_host.specs.Hosting.{IsApart, IsConnected, IsFirstWant, IsPlace, address_in, facts_in}
 use Rattle.xns_host.specs.Identifiers.{StaysInOrder, TurnsOver}
-use Rattle.xns_host.specs.Places.{ActsAll, NextEvent, NextPacket, Places, places_with, taken_by, vacated}
+use Rattle.xns_host.specs.Places.{ActsAll, NextEvent, NextPacket, Places, Turns, places_with, taken_by, vacated}
 use Rattle.xns_host.specs.Refusing.{wrong_service}
 use Rattle.xns_host.specs.Registered.{HasLeft}
 use Rattle.xns_host.specs.Services.{Serves, most_services, programs_at}
 use Rattle.xns_host.specs.Standing.{StaysSetUpAt}
-use Rattle.xns_host.specs.Went.{Went}
+use Rattle.xns_host.specs.Went.{GuestTagged, Went}
 use Rattle.xns_host.specs.Whole.{Whole}
 use Rattle.xns_host.specs.declared.event.Event.{Event}
 use Rattle.xns_host.specs.declared.guest.Guest.{Guest}
@@ -96,6 +96,15 @@ pub record TellsNext (result : Option Event) (old new : Host) : Type 0 where
   pub next : NextEvent old.clock.latest (places_of old) result (places_of new)
   pub order : StaysInOrder old.register.identifiers new.register.identifiers
   pub rest : whole_of new ≡ record (whole_of old) { register = new.register; places = places_of new }
+  pub clock : new.clock ≡ old.clock
+
+-- ---- a tag
+
+-- the connection with this number has this tag from now on; or there is none. Nothing else changed
+pub record Tags (number tag : ℕ) (result : Result (Unit {0}) HostFault) (old new : Host) : Type 0 where
+  pub tagged : OnOk result (Turns (GuestTagged tag) number (places_of old) (places_of new))
+  pub unchanged : OnErr result (places_of new ≡ places_of old)
+  pub rest : whole_of new ≡ record (whole_of old) { places = places_of new }
   pub clock : new.clock ≡ old.clock
 
 -- ---- a connection that is abandoned

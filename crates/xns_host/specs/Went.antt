@@ -28,6 +28,10 @@ Went now deed (Some (Some g)) None = ⊥
 Went now deed (Some (Some g)) (Some None) = ⊥
 Went now deed (Some (Some g)) (Some (Some h)) = GuestStep now deed g h
 
+-- the program gave it this tag, and nothing else of it changed
+abbrev pub GuestTagged : (tag : ℕ) → (g h : Guest) → Type 0
+GuestTagged tag g h = h ≡ record g { tag = tag }
+
 -- ---- what comes
 
 -- these bytes came, and the connection is confirmed where they confirm it

@@ -13,6 +13,8 @@ pub enum Event {
     /// The peer calls: the program and version are listed at the socket. The next call comes when this one is answered.
     Call {
         number: usize,
+        /// The program's own number of the connection, by [`Host::set_tag`](crate::Host::set_tag).
+        tag: u64,
         program: u32,
         version: u16,
         procedure: u16,
@@ -22,6 +24,7 @@ pub enum Event {
     /// The peer has answered the call that was made.
     Answer {
         number: usize,
+        tag: u64,
         answer: Answer,
         /// The answer, whose words are the results, or the arguments of the error.
         message: PiecedMessage,
@@ -29,13 +32,14 @@ pub enum Event {
     /// The connection is closed, and nothing more comes of it. Its number may be another's from now on.
     Closed {
         number: usize,
+        tag: u64,
         why: Why,
     },
 }
 
-/// What the program is told of a message of the connection with this number.
-pub fn event_of(number: usize, message: PiecedMessage) -> Event
-    ensures { result ≡ event_of number message }
+/// What the program is told of a message of the connection with this number and this tag.
+pub fn event_of(number: usize, tag: u64, message: PiecedMessage) -> Event
+    ensures { result ≡ event_of number tag message }
 {
     let answer = match message.head() {
         Head::Call {
@@ -46,6 +50,7 @@ pub fn event_of(number: usize, message: PiecedMessage) -> Event
         } => {
             return Event::Call {
                 number,
+                tag,
                 program,
                 version,
                 procedure,
@@ -58,6 +63,7 @@ pub fn event_of(number: usize, message: PiecedMessage) -> Event
     };
     Event::Answer {
         number,
+        tag,
         answer,
         message,
     }

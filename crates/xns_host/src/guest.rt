@@ -14,7 +14,7 @@ ghost use Rattle.xns_host.specs.Quotes.{is_opened_by};
 ghost use Rattle.xns_connection.specs.Reasons.{call_fault_of, answer_fault_of};
 ghost use Rattle.xns_host.specs.Refusing.{TellsRefusal};
 ghost use Rattle.xns_connection.specs.Telling.{Goes};
-ghost use Rattle.xns_host.specs.Went.{GuestActs, GuestGives, GuestHears, GuestStep, GuestTells, GuestUnserved};
+ghost use Rattle.xns_host.specs.Went.{GuestActs, GuestGives, GuestHears, GuestStep, GuestTagged, GuestTells, GuestUnserved};
 
 use crate::event::{Event, event_of};
 use crate::host_fault::{HostFault, told};
@@ -44,6 +44,8 @@ pub struct Guest {
     pub confirmed: bool,
     /// Whether the program was told of a call of it.
     pub heard_of: bool,
+    /// The program's own number of it, which its events have. 0: none was set.
+    pub tag: u64,
 }
 
 impl Guest {
@@ -100,6 +102,13 @@ impl Guest {
         self.connection.close(alloc, now);
     }
 
+    /// Gives it a tag.
+    pub fn set_tag(&mut self, tag: u64)
+        ensures { GuestTagged tag self.old self.new }
+    {
+        self.tag = tag;
+    }
+
     /// Nobody hears the packet that was to open the connection: it is closed, unless it is open or closed.
     pub fn not_served(&mut self, now: u64)
         ensures unserved { GuestUnserved now self.old self.new }
@@ -120,16 +129,20 @@ impl Guest {
 
     /// What the program is told of the connection, which has this number, once. `None`: nothing.
     pub fn tell(&mut self, alloc: Global, now: u64, number: usize) -> Option<Event>
-        ensures event { result ≡ event_for number self.old.connection }
+        ensures event { result ≡ event_for number self.old }
         ensures tells { result ≢ None → GuestTells now self.old self.new }
         ensures none { result ≡ None → self.new ≡ self.old }
     {
         if let Some(message) = self.connection.take_message(alloc, now) {
             self.heard_of = true;
-            return Some(event_of(number, message));
+            return Some(event_of(number, self.tag, message));
         }
         let why = self.connection.take_why()?;
-        Some(Event::Closed { number, why })
+        Some(Event::Closed {
+            number,
+            tag: self.tag,
+            why,
+        })
     }
 
     /// The next packet that is to go out. `None`: there is none, until something is done again. The only error is

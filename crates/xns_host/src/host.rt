@@ -17,6 +17,7 @@ ghost use Rattle.xns_host.specs.declared.setting.Setting.{Setting};
 
 mod fetching;
 mod receiving;
+mod tagging;
 
 use crate::guest::Guest;
 use crate::host_fault::HostFault;
@@ -192,6 +193,7 @@ impl Host {
             opener: None,
             confirmed: false,
             heard_of: false,
+            tag: 0,
         };
         put_in(
             &mut self.register,

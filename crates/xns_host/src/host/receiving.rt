@@ -276,6 +276,7 @@ impl Host {
             opener: Some(opener),
             confirmed: false,
             heard_of: false,
+            tag: 0,
         };
         put_in(
             &mut self.register,

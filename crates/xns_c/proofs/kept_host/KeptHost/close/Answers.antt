@@ -7,9 +7,9 @@ use Rattle.xns_c.proofs.kept_host.KeptHost.close.Goals as goal
 
 pub returns : goal.returns
 returns c =
-    let host : c.let_go.new.self.host ≡ c.close.new.self = ap (λ (y : KeptHost). y.host) c.let_go.ensures in
+    let host : c.let_answer_go.new.self.host ≡ c.close.new.self = ap (λ (y : KeptHost). y.host) c.let_answer_go.ensures in
     record {
-      turns = turned c.args.self.now c.let_go.new.self c.close.new.self c.args.now c.args.number asked (λ t. None) c.close.result c.host_told-result.result host (search rules)
+      turns = turned c.args.self.now c.let_answer_go.new.self c.close.new.self c.args.now c.args.number asked (λ t. None) c.close.result c.host_told-result.result host (search rules)
           c.host_told-result.ensures c.close.ensures.turn c.close.ensures.none (λ g there. subst (TellsRefusal None) (sym (c.close.ensures.some g there)) (record { done = Ok tt; answers = refl; is = refl }));
       event = search rules;
     }

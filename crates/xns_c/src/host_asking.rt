@@ -1,0 +1,128 @@
+//! What a host that C holds is asked, which leaves it as it is.
+
+ghost use Rattle.std.specs.Prelude.{◌≡◌, ◌≢◌, false, count_by, Some, None};
+ghost use Rattle.std.specs.Option.{is_some};
+ghost use Rattle.xns_host.specs.Hosting.{has_guest};
+ghost use Rattle.xns_host.specs.declared.guest.Guest.{Guest};
+ghost use Rattle.xns_c.specs.Handle.{kept_of};
+ghost use Rattle.xns_c.specs.Hosts.{WalksOn, Wakes, guest_at};
+ghost use Rattle.xns_c.specs.Results.{ok, no_host, no_connection};
+ghost use Rattle.xns_c.specs.Settings.{never};
+ghost use Rattle.xns_c.specs.Structs.{address_in};
+ghost use Rattle.xns_c.specs.declared.kept_host.KeptHost.{KeptHost};
+
+use crate::address::XnsAddress;
+use crate::host_handle::XnsHost;
+use crate::kept_host::NEVER;
+use crate::results::{NO_CONNECTION, NO_HOST, NOTHING, OK};
+use std::alloc::Global;
+
+/// When the host wants to be asked at the latest, for events and then for packets: 0 at once, 2^64 - 1 never. Never where there is no host.
+#[unsafe(no_mangle)]
+pub extern "C" fn xns_host_wake(alloc: Global, handle: &mut XnsHost) -> u64
+    ensures wakes { (k : KeptHost) → kept_of handle.old ≡ Some k → Wakes k result }
+    ensures none { kept_of handle.old ≡ None → result ≡ never }
+    ensures same { kept_of handle.new ≡ kept_of handle.old }
+{
+    handle.ask(alloc, NEVER, |kept| kept.wake())
+}
+
+/// How many connections there are. 0 where there is no host.
+#[unsafe(no_mangle)]
+pub extern "C" fn xns_host_connections(alloc: Global, handle: &mut XnsHost) -> usize
+    ensures count { (k : KeptHost) → kept_of handle.old ≡ Some k → result ≡ count_by is_some k.host.guests.items }
+    ensures none { kept_of handle.old ≡ None → result ≡ 0 }
+    ensures same { kept_of handle.new ≡ kept_of handle.old }
+{
+    handle.ask(alloc, 0, |kept| kept.host.connections())
+}
+
+/// Tells the first number from this one on that a connection has.
+///
+/// `NO_HOST`; `NOTHING` where none has one.
+#[unsafe(no_mangle)]
+pub extern "C" fn xns_host_number_from(
+    alloc: Global,
+    handle: &mut XnsHost,
+    from: usize,
+    number: &mut usize,
+) -> u32
+    ensures walks { (k : KeptHost) → kept_of handle.old ≡ Some k → WalksOn k from number.old number.new result }
+    ensures none { kept_of handle.old ≡ None → (result ≡ no_host) × (number.new ≡ number.old) }
+    ensures same { kept_of handle.new ≡ kept_of handle.old }
+{
+    let Some(kept) = handle.take(alloc) else {
+        return NO_HOST;
+    };
+    let found = kept.host.number_from(from);
+    handle.put(kept);
+    match found {
+        Some(found) => {
+            *number = found;
+            OK
+        }
+        None => NOTHING,
+    }
+}
+
+/// Whom the connection with this number was opened to, or who opened it.
+///
+/// `NO_HOST`; `NO_CONNECTION`.
+#[unsafe(no_mangle)]
+pub extern "C" fn xns_host_peer(
+    alloc: Global,
+    handle: &mut XnsHost,
+    number: usize,
+    peer: &mut XnsAddress,
+) -> u32
+    ensures some { (k : KeptHost) (g : Guest) → kept_of handle.old ≡ Some k → guest_at k number ≡ Some (Some g)
+        → (result ≡ ok) × (address_in peer.new ≡ g.peer) }
+    ensures nobody { (k : KeptHost) → kept_of handle.old ≡ Some k → has_guest (guest_at k number) ≡ false → result ≡ no_connection }
+    ensures none { kept_of handle.old ≡ None → result ≡ no_host }
+    ensures same { kept_of handle.new ≡ kept_of handle.old }
+    ensures unchanged { result ≢ ok → peer.new ≡ peer.old }
+{
+    let Some(kept) = handle.take(alloc) else {
+        return NO_HOST;
+    };
+    let found = kept.host.peer(number);
+    handle.put(kept);
+    match found {
+        Some(found) => {
+            *peer = XnsAddress::of(&found);
+            OK
+        }
+        None => NO_CONNECTION,
+    }
+}
+
+/// The tag of the connection with this number.
+///
+/// `NO_HOST`; `NO_CONNECTION`.
+#[unsafe(no_mangle)]
+pub extern "C" fn xns_host_tag(
+    alloc: Global,
+    handle: &mut XnsHost,
+    number: usize,
+    tag: &mut u64,
+) -> u32
+    ensures some { (k : KeptHost) (g : Guest) → kept_of handle.old ≡ Some k → guest_at k number ≡ Some (Some g)
+        → (result ≡ ok) × (tag.new ≡ g.tag) }
+    ensures nobody { (k : KeptHost) → kept_of handle.old ≡ Some k → has_guest (guest_at k number) ≡ false → result ≡ no_connection }
+    ensures none { kept_of handle.old ≡ None → result ≡ no_host }
+    ensures same { kept_of handle.new ≡ kept_of handle.old }
+    ensures unchanged { result ≢ ok → tag.new ≡ tag.old }
+{
+    let Some(kept) = handle.take(alloc) else {
+        return NO_HOST;
+    };
+    let found = kept.host.tag(number);
+    handle.put(kept);
+    match found {
+        Some(found) => {
+            *tag = found;
+            OK
+        }
+        None => NO_CONNECTION,
+    }
+}
