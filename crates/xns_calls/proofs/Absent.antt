@@ -1,14 +1,15 @@
 -- A flow that has not begun stays so, where no packet of its own begins it.
-use Rattle.std.proofs.Common.{◌≡◌, ◌∙◌, ap, sym, ℕ, ◌==◌, Bool, true, false, cond, List, [], ◌∷◌, Option, Some, None}
+use Rattle.std.proofs.Common.{◌≡◌, ◌∙◌, ap, sym, ℕ, zero, suc, ◌+◌, ◌==◌, Bool, true, false, cond, List, [], ◌∷◌, Option, Some, None}
 use Rattle.std.specs.Prelude.{nat_lt, ◌-◌}
 use Rattle.courier_messages.specs.declared.message.Message.{Message}
 use Rattle.courier_messages.specs.declared.message.Message.TheVariants.{Call, Reject, Return, Abort}
 use Rattle.xns_idp.specs.Packet.{PacketModel}
 use Rattle.xns_lines.specs.declared.page.Page.{Page}
 use Rattle.xns_spp.specs.Header.{is_system}
-use Rattle.xns_spp.specs.Item.{item_with}
 use Rattle.xns_spp.specs.declared.header.Header.{Header}
 use Rattle.xns_spp.specs.declared.item.Item.{Item}
+use Rattle.xns_calls.specs.declared.carried.Carried.{Carried}
+use Rattle.xns_calls.specs.declared.given.Given.{Given}
 use Rattle.xns_calls.specs.declared.early.Early.{Early}
 use Rattle.xns_calls.specs.declared.due.Due.{Due}
 use Rattle.xns_calls.specs.declared.heading.Heading.{Heading}
@@ -18,9 +19,12 @@ use Rattle.xns_calls.specs.declared.side.Side.{Side}
 use Rattle.xns_calls.specs.declared.track.Track.{Track}
 use Rattle.xns_calls.specs.declared.unanswered.Calls.{Calls}
 use Rattle.xns_calls.specs.declared.waiting.Waiting.{Waiting}
-use Rattle.xns_calls.specs.Exchange.{Scene, advance_other, advance_own, advance_track, advanced, after_content, after_data, after_new, after_number, after_packet, begin_track, begun, behind_last, ended, new_number, no_side, of_other, other_reached, own_reached, reached, scene, seen_from_other, take_in_track, told_of}
+use Rattle.xns_calls.specs.Exchange.{Scene, advance_other, advance_own, advance_track, advanced, after_content, after_data, after_new, after_number, after_packet, begin_track, begun, behind_last, carried, ended, new_number, no_side, of_other, other_reached, own_reached, reached, scene, seen_from_other, take_in_track, told_of}
 use Rattle.xns_calls.specs.Numbers.{most_early}
-use Rattle.xns_calls.specs.Reading.{Told, after_heard, brought, brought_over, is_due, item_read, item_taken, passed, past, read_next, said_item, with_kept_item}
+use Rattle.xns_calls.specs.Reading.{Told, after_heard, brought, brought_over, first_read, first_read_over, item_read, item_taken, passed, past, read_next, said_item}
+use Rattle.xns_calls.specs.Read.{handled, kept_count, one_read, own_read, read_in_track, read_of, read_times, settled}
+use Rattle.xns_calls.specs.Turns.{next_turn}
+use Rattle.xns_calls.proofs.Packets.{read_none}
 use Rattle.xns_calls.specs.Speech.{heard_of}
 use Rattle.xns_calls.specs.Telling.{after_message, call_left, calls_after}
 
@@ -61,11 +65,11 @@ passed_asked h n t e = over (nat_lt t.track.next n)
 
 item_asked : (h : Heading) (early : Early) (t : Told) → t.calls.asked ≡ None → (item_read h early t).calls.asked ≡ None
 unfolding item_read
-item_asked h early t e = next_asked h _ early.item (passed h early.number t) (passed_asked h early.number t e)
+item_asked h early t e = next_asked h _ early.item.item (passed h early.number t) (passed_asked h early.number t e)
 
 over_asked : (h : Heading) (n : ℕ) (kept : List Early) (t : Told) → t.calls.asked ≡ None → (brought_over h n kept t).calls.asked ≡ None
 over_asked h n [] t e = passed_asked h n t e
-over_asked h n (early ∷ rest) t e = by_due (is_due n early t) (over_asked h n rest read (item_asked h early left e))
+over_asked h n (early ∷ rest) t e = by_due (nat_lt early.number n) (over_asked h n rest read (item_asked h early left e))
   where
     left : Told
     left = record t { track = record t.track { early = rest } }
@@ -81,9 +85,23 @@ brought_asked : (h : Heading) (n : ℕ) (t : Told) → t.calls.asked ≡ None �
 unfolding brought
 brought_asked h n t e = over_asked h n t.track.early t e
 
-taken_asked : (h : Heading) (n : ℕ) (item : Item) (t : Told) → t.calls.asked ≡ None → (item_taken h n item t).calls.asked ≡ None
-taken_asked h n item t e =
-    brought_asked h 0 (with_kept_item n item (brought h (n - most_early) t)) (brought_asked h (n - most_early) t e)
+first_over_asked : (h : Heading) (kept : List Early) (t : Told) → t.calls.asked ≡ None → (first_read_over h kept t).calls.asked ≡ None
+first_over_asked h [] t e = e
+first_over_asked h (early ∷ rest) t e = by_due (nat_lt t.track.next early.number)
+  where
+    left : Told
+    left = record t { track = record t.track { early = rest } }
+
+    by_due : (p : Bool) → (cond p t (item_read h early left)).calls.asked ≡ None
+    by_due true = e
+    by_due false = item_asked h early left e
+
+first_asked : (h : Heading) (t : Told) → t.calls.asked ≡ None → (first_read h t).calls.asked ≡ None
+unfolding first_read
+first_asked h t e = first_over_asked h t.track.early t e
+
+taken_asked : (h : Heading) (n : ℕ) (item : Carried) (t : Told) → t.calls.asked ≡ None → (item_taken h n item t).calls.asked ≡ None
+taken_asked h n item t e = brought_asked h (n - most_early) t e
 
 -- ---- where the flow behind has not begun
 
@@ -119,7 +137,7 @@ begun_none h packet f s none = by_track s.own.track
     by_track None = none
     by_track (Some track) = none
 
-new_none : (h : Heading) (n : ℕ) (item : Item) (s : Scene) → s.other ≡ no_side → (after_new h n item s).other ≡ no_side
+new_none : (h : Heading) (n : ℕ) (item : Carried) (s : Scene) → s.other ≡ no_side → (after_new h n item s).other ≡ no_side
 unfolding after_new
 new_none h n item s none = by_track s.own.track
   where
@@ -128,34 +146,73 @@ new_none h n item s none = by_track s.own.track
     by_track (Some track) =
         left_none s.other (item_taken h n item (told_of track s)).calls.asked none (taken_asked h n item (told_of track s) (ap (λ (x : Side). x.call) none))
 
-number_none : (h : Heading) (o : Option ℕ) (item : Item) (s : Scene) → s.other ≡ no_side → (after_number h o item s).other ≡ no_side
+number_none : (h : Heading) (o : Option ℕ) (item : Carried) (s : Scene) → s.other ≡ no_side → (after_number h o item s).other ≡ no_side
 number_none h None item s none = none
 number_none h (Some n) item s none = new_none h n item s none
 
-data_none : (h : Heading) (packet : PacketModel) (f : Header) (content : List ℕ) (s : Scene) → s.other ≡ no_side → (after_data h packet f content s).other ≡ no_side
+data_none : (h : Heading) (a : Option ℕ) (packet : PacketModel) (f : Header) (content : List ℕ) (s : Scene) → s.other ≡ no_side → (after_data h a packet f content s).other ≡ no_side
 unfolding after_data
-data_none h packet f content s none =
-    number_none h (new_number (begun h packet f s).own.track f.sequence) (item_with f content) (begun h packet f s) (begun_none h packet f s none)
+data_none h a packet f content s none =
+    number_none h (new_number (begun h packet f s).own.track f.sequence) (carried h a f content) (begun h packet f s) (begun_none h packet f s none)
 
-content_none : (h : Heading) (packet : PacketModel) (f : Header) (content : List ℕ) (s : Scene) → s.other ≡ no_side → (after_content h packet f content s).other ≡ no_side
+content_none : (h : Heading) (a : Option ℕ) (packet : PacketModel) (f : Header) (content : List ℕ) (s : Scene) → s.other ≡ no_side → (after_content h a packet f content s).other ≡ no_side
 unfolding after_content
-content_none h packet f content s none = over (is_system f)
+content_none h a packet f content s none = over (is_system f)
   where
-    over : (p : Bool) → (cond p s (after_data h packet f content s)).other ≡ no_side
+    over : (p : Bool) → (cond p s (after_data h a packet f content s)).other ≡ no_side
     over true = none
-    over false = data_none h packet f content s none
+    over false = data_none h a packet f content s none
 
 packet_none : (h : Heading) (due : Due) (packet : PacketModel) (f : Header) (content : List ℕ) (s : Scene) → s.other ≡ no_side → (after_packet h due packet f content s).other ≡ no_side
 unfolding after_packet
 packet_none h due packet f content s none =
     let known = other_reached h due.other s in
-    own_reached_none h due.own (after_content h packet f content known) (content_none h packet f content known (reached_none h due.other s none))
+    own_reached_none h due.own (after_content h due.acknowledged packet f content known) (content_none h due.acknowledged packet f content known (reached_none h due.other s none))
+
+-- nor does it begin where items are read
+read_other_none : (h : Heading) (s : Scene) → s.other ≡ no_side → (own_read h s).other ≡ no_side
+unfolding own_read
+read_other_none h s none = by_track s.own.track
+  where
+    by_track : (o : Option Track) → (read_in_track h o s).other ≡ no_side
+    by_track None = none
+    by_track (Some track) = left_none s.other (first_read h (told_of track s)).calls.asked none (first_asked h (told_of track s) (ap (λ (x : Side). x.call) none))
+
+read_own_none : (h : Heading) (s : Scene) → s.own ≡ no_side → (own_read h s).own ≡ no_side
+read_own_none h s none = ap (λ (x : Scene). x.own) (read_none h s (ap (λ (x : Side). x.track) none)) ∙ none
+
+turn_other_none : (h : Heading) (o : Option Bool) (s : Scene) → s.other ≡ no_side → (read_of h o s).other ≡ no_side
+turn_other_none h None s none = none
+turn_other_none h (Some false) s none = read_other_none h s none
+turn_other_none h (Some true) s none = read_own_none (of_other h) (seen_from_other s) none
+
+turn_own_none : (h : Heading) (o : Option Bool) (s : Scene) → s.own ≡ no_side → (read_of h o s).own ≡ no_side
+turn_own_none h None s none = none
+turn_own_none h (Some false) s none = read_own_none h s none
+turn_own_none h (Some true) s none = read_other_none (of_other h) (seen_from_other s) none
+
+times_other_none : (n : ℕ) (h : Heading) (given : Given) (s : Scene) → s.other ≡ no_side → (read_times n h given s).other ≡ no_side
+times_other_none zero h given s none = none
+times_other_none (suc n) h given s none = times_other_none n h given (one_read h given s) (turn_other_none h (next_turn given s.own.track s.other.track) s none)
+
+times_own_none : (n : ℕ) (h : Heading) (given : Given) (s : Scene) → s.own ≡ no_side → (read_times n h given s).own ≡ no_side
+times_own_none zero h given s none = none
+times_own_none (suc n) h given s none = times_own_none n h given (one_read h given s) (turn_own_none h (next_turn given s.own.track s.other.track) s none)
+
+settled_other_none : (h : Heading) (given : Given) (s : Scene) → s.other ≡ no_side → (settled h given s).other ≡ no_side
+unfolding settled
+settled_other_none h given s none = times_other_none (kept_count s.own.track + kept_count s.other.track) h given s none
+
+settled_own_none : (h : Heading) (given : Given) (s : Scene) → s.own ≡ no_side → (settled h given s).own ≡ no_side
+unfolding settled
+settled_own_none h given s none = times_own_none (kept_count s.own.track + kept_count s.other.track) h given s none
 
 pub alone : (h : Heading) (due : Due) (packet : PacketModel) (f : Header) (content : List ℕ) (own other own' other' : Side) (page page' : Page) → other ≡ no_side
-    → scene own' other' page' ≡ after_packet h due packet f content (scene own other page) → scene own' no_side page' ≡ after_packet h due packet f content (scene own no_side page)
+    → scene own' other' page' ≡ handled h due packet f content (scene own other page) → scene own' no_side page' ≡ handled h due packet f content (scene own no_side page)
 alone h due packet f content own other own' other' page page' is e =
-    let none : other' ≡ no_side = ap (λ (s : Scene). s.other) e ∙ packet_none h due packet f content (scene own other page) is in
-    ap (λ x. scene own' x page') (sym none) ∙ e ∙ ap (λ x. after_packet h due packet f content (scene own x page)) is
+    let s : Scene = scene own other page in
+    let none : other' ≡ no_side = ap (λ (x : Scene). x.other) e ∙ settled_other_none h due.given (after_packet h due packet f content s) (packet_none h due packet f content s is) in
+    ap (λ x. scene own' x page') (sym none) ∙ e ∙ ap (λ x. handled h due packet f content (scene own x page)) is
 
 pub ended_alone : (h : Heading) (own other own' other' : Side) (page page' : Page) → other ≡ no_side
     → scene own' other' page' ≡ ended h (scene own other page) → scene own' no_side page' ≡ ended h (scene own no_side page)
@@ -174,16 +231,18 @@ own_stays : (h : Heading) (number : Option ℕ) (s : Scene) → s.own ≡ no_sid
 unfolding own_reached
 own_stays h number s none = ap (λ (x : Side). (advance_own h (reached x.track number) s).own) none ∙ none
 
-system_stays : (h : Heading) (packet : PacketModel) (f : Header) (content : List ℕ) (s : Scene) → is_system f ≡ true → after_content h packet f content s ≡ s
+system_stays : (h : Heading) (a : Option ℕ) (packet : PacketModel) (f : Header) (content : List ℕ) (s : Scene) → is_system f ≡ true → after_content h a packet f content s ≡ s
 unfolding after_content
-system_stays h packet f content s system = ap (λ p. cond p s (after_data h packet f content s)) system
+system_stays h a packet f content s system = ap (λ p. cond p s (after_data h a packet f content s)) system
 
 pub before : (h : Heading) (due : Due) (packet : PacketModel) (f : Header) (content : List ℕ) (own other own' other' : Side) (page page' : Page) → own ≡ no_side → is_system f ≡ true
-    → scene own' other' page' ≡ after_packet h due packet f content (scene own other page) → scene no_side other' page' ≡ after_packet h due packet f content (scene no_side other page)
+    → scene own' other' page' ≡ handled h due packet f content (scene own other page) → scene no_side other' page' ≡ handled h due packet f content (scene no_side other page)
 unfolding after_packet other_reached
 before h due packet f content own other own' other' page page' is system e =
     let s : Scene = scene own other page in
     let known : Scene = other_reached h due.other s in
     let stays : known.own ≡ no_side = other_none h (reached other.track due.other) s is in
-    let none : own' ≡ no_side = ap (λ (x : Scene). x.own) (e ∙ ap (own_reached h due.own) (system_stays h packet f content known system)) ∙ own_stays h due.own known stays in
-    ap (λ x. scene x other' page') (sym none) ∙ e ∙ ap (λ x. after_packet h due packet f content (scene x other page)) is
+    let taken : (after_packet h due packet f content s).own ≡ no_side =
+    ap (λ (x : Scene). x.own) (ap (own_reached h due.own) (system_stays h due.acknowledged packet f content known system)) ∙ own_stays h due.own known stays in
+    let none : own' ≡ no_side = ap (λ (x : Scene). x.own) e ∙ settled_own_none h due.given (after_packet h due packet f content s) taken in
+    ap (λ x. scene x other' page') (sym none) ∙ e ∙ ap (λ x. handled h due packet f content (scene x other page)) is

@@ -4,14 +4,14 @@ use Rattle.std.specs.Prelude.{nat_lt}
 use Rattle.std.proofs.lemmas.Grind.{flat_map-append}
 use Rattle.xns_idp.specs.Packet.{PacketModel}
 use Rattle.xns_spp.specs.Header.{is_system}
-use Rattle.xns_spp.specs.Item.{item_with}
 use Rattle.xns_spp.specs.declared.header.Header.{Header}
 use Rattle.xns_spp.specs.declared.item.Item.{Item}
+use Rattle.xns_calls.specs.declared.carried.Carried.{Carried}
 use Rattle.xns_calls.specs.Events.{acknowledged_event, after_events, brought_if, captured_event}
-use Rattle.xns_calls.specs.Exchange.{Scene, advance_other, advance_own, advance_track, advanced, after_content, after_data, after_new, after_number, after_packet, begin_track, begun, behind_last, ended, is_repeat, new_number, of_other, other_reached, own_reached, reached, seen_from_other, take_in_track, told_of, up_to}
+use Rattle.xns_calls.specs.Exchange.{Scene, advance_other, advance_own, advance_track, advanced, after_content, after_data, after_new, after_number, after_packet, begin_track, begun, behind_last, carried, ended, is_repeat, new_number, of_other, other_reached, own_reached, reached, seen_from_other, take_in_track, told_of, up_to}
 use Rattle.xns_calls.specs.Input.{Said, begins, lacks, message, refuses, said_text, said_texts}
 use Rattle.xns_calls.specs.Numbers.{most_early}
-use Rattle.xns_calls.specs.Reading.{Told, after_heard, brought, brought_over, is_due, item_read, item_taken, passed, past, read_next, said_item, with_kept_item}
+use Rattle.xns_calls.specs.Reading.{Told, after_heard, brought, brought_over, first_read, first_read_over, item_read, item_taken, passed, past, read_next, said_item}
 use Rattle.xns_calls.specs.Speech.{heard_of}
 use Rattle.xns_calls.specs.Telling.{heard_text}
 use Rattle.xns_calls.specs.Queue.{last_number}
@@ -68,23 +68,30 @@ item_adds : (h : Heading) (early : Early) (t : Told) → Adds h t.text (item_rea
 unfolding item_read
 item_adds h early t =
     let u = passed h early.number t in
-    adds_on h t.text u.text (read_next h (early.number + 1) early.item u).text (passed_adds h early.number t) (next_adds h (early.number + 1) early.item u)
+    adds_on h t.text u.text (read_next h (early.number + 1) early.item.item u).text (passed_adds h early.number t) (next_adds h (early.number + 1) early.item.item u)
 
 over_adds : (h : Heading) (n : ℕ) (es : List Early) (t : Told) → Adds h t.text (brought_over h n es t).text
 over_adds h n [] t = passed_adds h n t
 over_adds h n (early ∷ rest) t =
     let u = item_read h early (with_early rest t) in
-    by_test (λ (v : Told). Adds h t.text v.text) (is_due n early t) (brought_over h n rest u) (passed h n t)
+    by_test (λ (v : Told). Adds h t.text v.text) (nat_lt early.number n) (brought_over h n rest u) (passed h n t)
     (λ e. adds_on h t.text u.text (brought_over h n rest u).text (item_adds h early (with_early rest t)) (over_adds h n rest u)) (λ e. passed_adds h n t)
 
 brought_adds : (h : Heading) (n : ℕ) (t : Told) → Adds h t.text (brought h n t).text
 unfolding brought
 brought_adds h n t = over_adds h n t.track.early t
 
-taken_adds : (h : Heading) (n : ℕ) (item : Item) (t : Told) → Adds h t.text (item_taken h n item t).text
-taken_adds h n item t =
-    let moved = brought h (n - most_early) t in
-    adds_on h t.text moved.text (brought h 0 (with_kept_item n item moved)).text (brought_adds h (n - most_early) t) (brought_adds h 0 (with_kept_item n item moved))
+taken_adds : (h : Heading) (n : ℕ) (item : Carried) (t : Told) → Adds h t.text (item_taken h n item t).text
+taken_adds h n item t = brought_adds h (n - most_early) t
+
+first_over_adds : (h : Heading) (es : List Early) (t : Told) → Adds h t.text (first_read_over h es t).text
+first_over_adds h [] t = adds_none h t.text
+first_over_adds h (early ∷ rest) t =
+    by_test (λ (v : Told). Adds h t.text v.text) (nat_lt t.track.next early.number) t (item_read h early (with_early rest t)) (λ e. adds_none h t.text) (λ e. item_adds h early (with_early rest t))
+
+pub first_adds : (h : Heading) (t : Told) → Adds h t.text (first_read h t).text
+unfolding first_read
+first_adds h t = first_over_adds h t.track.early t
 
 -- ---- a connection
 
@@ -113,31 +120,31 @@ begun_adds : (h : Heading) (packet : PacketModel) (f : Header) (s : Scene) → A
 unfolding begun
 begun_adds h packet f s = begin_adds h packet f s.own.track s
 
-in_track_adds : (h : Heading) (n : ℕ) (item : Item) (o : Option Track) (s : Scene) → Adds h s.text (take_in_track h n item o s).text
+in_track_adds : (h : Heading) (n : ℕ) (item : Carried) (o : Option Track) (s : Scene) → Adds h s.text (take_in_track h n item o s).text
 in_track_adds h n item None s = adds_none h s.text
 in_track_adds h n item (Some track) s = taken_adds h n item (told_of track s)
 
-pub number_adds : (h : Heading) (o : Option ℕ) (item : Item) (s : Scene) → Adds h s.text (after_number h o item s).text
+pub number_adds : (h : Heading) (o : Option ℕ) (item : Carried) (s : Scene) → Adds h s.text (after_number h o item s).text
 unfolding after_new
 number_adds h None item s = adds_none h s.text
 number_adds h (Some n) item s = in_track_adds h n item s.own.track s
 
-data_adds : (h : Heading) (packet : PacketModel) (f : Header) (content : List ℕ) (s : Scene) → Adds h s.text (after_data h packet f content s).text
+data_adds : (h : Heading) (a : Option ℕ) (packet : PacketModel) (f : Header) (content : List ℕ) (s : Scene) → Adds h s.text (after_data h a packet f content s).text
 unfolding after_data
-data_adds h packet f content s =
+data_adds h a packet f content s =
     let u = begun h packet f s in
-    adds_on h s.text u.text (after_number h (new_number u.own.track f.sequence) (item_with f content) u).text (begun_adds h packet f s)
-    (number_adds h (new_number u.own.track f.sequence) (item_with f content) u)
+    adds_on h s.text u.text (after_number h (new_number u.own.track f.sequence) (carried h a f content) u).text (begun_adds h packet f s)
+    (number_adds h (new_number u.own.track f.sequence) (carried h a f content) u)
 
 -- and the rest of its own flow
 own_adds : (h : Heading) (o : Option ℕ) (s : Scene) → Adds h s.text (advance_own h o s).text
 own_adds h None s = adds_none h s.text
 own_adds h (Some n) s = advanced_adds h n s
 
-content_adds : (h : Heading) (packet : PacketModel) (f : Header) (content : List ℕ) (s : Scene) → Adds h s.text (after_content h packet f content s).text
+content_adds : (h : Heading) (a : Option ℕ) (packet : PacketModel) (f : Header) (content : List ℕ) (s : Scene) → Adds h s.text (after_content h a packet f content s).text
 unfolding after_content
-content_adds h packet f content s =
-    by_test (λ (u : Scene). Adds h s.text u.text) (is_system f) s (after_data h packet f content s) (λ e. adds_none h s.text) (λ e. data_adds h packet f content s)
+content_adds h a packet f content s =
+    by_test (λ (u : Scene). Adds h s.text u.text) (is_system f) s (after_data h a packet f content s) (λ e. adds_none h s.text) (λ e. data_adds h a packet f content s)
 
 own_reached_adds : (h : Heading) (number : Option ℕ) (s : Scene) → Adds h s.text (own_reached h number s).text
 unfolding own_reached
@@ -148,8 +155,8 @@ pub packet_adds : (h : Heading) (due : Due) (packet : PacketModel) (f : Header) 
 unfolding after_packet
 packet_adds h due packet f content s =
     let known = other_reached h due.other s in
-    let new = after_content h packet f content known in
-    adds_on h known.text new.text (own_reached h due.own new).text (content_adds h packet f content known) (own_reached_adds h due.own new)
+    let new = after_content h due.acknowledged packet f content known in
+    adds_on h known.text new.text (own_reached h due.own new).text (content_adds h due.acknowledged packet f content known) (own_reached_adds h due.own new)
 
 -- ---- events
 
@@ -161,17 +168,17 @@ effect_adds : (h : Heading) (o : Option ℕ) (t : Told) → Adds h t.text (after
 effect_adds h None t = adds_none h t.text
 effect_adds h (Some n) t = if_adds h (up_to (last_number t.track.early) (Some n)) t
 
-captured_adds : (h : Heading) (o : Option ℕ) (item : Item) (t : Told) → Adds h t.text (after_events (captured_event h o item) t).text
+captured_adds : (h : Heading) (o : Option ℕ) (item : Carried) (t : Told) → Adds h t.text (after_events (captured_event h o item) t).text
 captured_adds h None item t = adds_none h t.text
 captured_adds h (Some n) item t =
     by_test (λ (u : Told). Adds h t.text u.text) (is_repeat n t.track) t (item_taken h n item t) (λ e. adds_none h t.text) (λ e. taken_adds h n item t)
 
-item_adds_to : (p : Bool) (h : Heading) (o : Option ℕ) (item : Item) (t : Told) → Adds h t.text (after_events (cond p [] (captured_event h o item)) t).text
+item_adds_to : (p : Bool) (h : Heading) (o : Option ℕ) (item : Carried) (t : Told) → Adds h t.text (after_events (cond p [] (captured_event h o item)) t).text
 item_adds_to true h o item t = adds_none h t.text
 item_adds_to false h o item t = captured_adds h o item t
 
 -- what an item says, and what takes effect says behind it
-pub both_add : (p : Bool) (h : Heading) (o : Option ℕ) (item : Item) (a : Option ℕ) (t : Told)
+pub both_add : (p : Bool) (h : Heading) (o : Option ℕ) (item : Carried) (a : Option ℕ) (t : Told)
     → Adds h t.text (after_events (cond p [] (captured_event h o item)) t).text
     × Adds h (after_events (cond p [] (captured_event h o item)) t).text (after_events (acknowledged_event h a) (after_events (cond p [] (captured_event h o item)) t)).text
 both_add p h o item a t = (item_adds_to p h o item t, effect_adds h a (after_events (cond p [] (captured_event h o item)) t))

@@ -1,6 +1,6 @@
--- The end of a whole input says nothing of a flow that keeps nothing.
-use Rattle.std.proofs.Common.{◌≡◌, ◌∙◌, ap, sym, refl, subst, inl, inr, ℕ, zero, suc, ◌+◌, ◌<◌, ◌==◌, Bool, true, false, List, [], ◌∷◌, ◌++◌, length, drop, append-nil, Option, Some, None}
-use Rattle.std.specs.Prelude.{option_map, slice_get}
+-- The end of a whole input reads what a flow keeps.
+use Rattle.std.proofs.Common.{◌≡◌, ◌∙◌, ap, sym, refl, subst, arith, inl, inr, ℕ, zero, suc, ◌+◌, ◌<◌, ◌≤◌, ◌==◌, ◌⊎◌, Bool, true, false, List, [], ◌∷◌, ◌++◌, length, append_assoc, append-nil, Option, Some, None}
+use Rattle.std.specs.Prelude.{nat_lt, slice_get, slice_set}
 use Rattle.std.proofs.lemmas.Grind.{flat_map-append}
 use Rattle.xns_spp.specs.Ends.{most_pending}
 use Rattle.xns_spp.specs.declared.item.Item.{Item}
@@ -13,134 +13,284 @@ use Rattle.xns_dump.specs.Laws.{FlowsAreToldApart}
 use Rattle.xns_calls.specs.Naming.{Programs}
 use Rattle.xns_calls.specs.Calls.{calls_text, end_count, known_from, known_of, known_with_end, line_taken, nothing_known, text_of, text_with_end}
 use Rattle.xns_calls.specs.Capture.{Known, after_end, ended_there, heading_at, scene_in, with_scene}
-use Rattle.xns_calls.specs.Events.{after_events}
-use Rattle.xns_calls.specs.Exchange.{Scene, advance_own, behind_last, both_ended, ended, of_other, seen_from_other}
+use Rattle.xns_calls.specs.Events.{Event, acknowledged_event, after_event, after_events, meanwhile}
+use Rattle.xns_calls.specs.Exchange.{Scene, after_told, behind_last, both_ended, ended, of_other, seen_from_other, told_of}
 use Rattle.xns_calls.specs.Input.{FlowName, Part, TellsConversation, events_in, first_field, part_text, parts_text, text_in, texts_in, told}
-use Rattle.xns_calls.specs.Over.{side_in}
-use Rattle.xns_calls.specs.Queue.{last_number}
 use Rattle.xns_calls.specs.Reading.{Told}
 use Rattle.xns_calls.specs.Texts.{flow_line}
 use Rattle.xns_calls.specs.Whole.{IsWhole, flow_text}
 use Rattle.xns_calls.specs.declared.connection.Connection.{Connection}
 use Rattle.xns_calls.specs.declared.heading.Heading.{Heading}
-use Rattle.xns_calls.specs.declared.track.Track.{Track}
+use Rattle.xns_calls.specs.declared.speech.Speech.TheVariants.{Hearing}
 use Rattle.xns_calls.proofs.Beginnings.{lines_met}
-use Rattle.xns_calls.proofs.Gaps.{equal_tells}
-use Rattle.xns_calls.proofs.Happenings.{IsOn, far_ended, side_track}
-use Rattle.xns_calls.proofs.Inputs.{numbered_line}
-use Rattle.xns_calls.proofs.Parts.{drop_all, ended_parts, ended_text, first_ended, first_ended_said, flow_at, number_tells, other_text, own_text, plain_whole, second_ended, second_ended_said, two_of}
-use Rattle.xns_calls.proofs.Numbered.{AllKeep, IsNumbered, keep_set, numbered_none}
+use Rattle.xns_calls.proofs.Gaps.{IsOrdered, equal_tells, events_ordered, le_tells, lt_tells}
+use Rattle.xns_calls.proofs.Happenings.{IsAt, IsGone, IsOn, ended_event, far_ended, first_ends, gone_set, other_place, others_plain, second_ends, second_others, still}
+use Rattle.xns_calls.proofs.Inputs.{from_front, numbered_line}
+use Rattle.xns_calls.proofs.Parts.{acknowledged_plain, ended_parts, ended_text, flow_append, flow_at, number_tells, plain, plain_one, plain_whole}
+use Rattle.xns_calls.proofs.Numbered.{AllKeep, IsNumbered, numbered_none, numbered_set}
+use Rattle.xns_calls.proofs.Others.{get_same, get_set}
 use Rattle.xns_calls.proofs.Packets.{ended_other}
 use Rattle.xns_calls.proofs.Places.{plain_places}
-use Rattle.xns_calls.proofs.Whole.{nothing_kept, whole_said}
+use Rattle.xns_calls.proofs.Whole.{after_append, end_bound, end_empty, first_of, get_below, whole_said, whole_with}
 use Rattle.xns_calls.specs.declared.origin.Origin.{Origin}
 use Rattle.xns_calls.specs.Origins.{line_origin}
 
--- the end of a connection, which says nothing of a flow of which nothing is kept
-record Closes (m : ℕ) (b : Bool) (before : List ℕ) (k : Known) (track : Track) : Type 0 where
-  is : AllKeep m b k.connections (Some track)
+-- ---- the end of one connection
+
+record EndStep (m i : ℕ) (b : Bool) (k k' : Known) (t : Told) : Type 0 where
+  events : List Event
+  stands : IsOn m b k' (after_events events t)
+  are : (plain events ≡ []) ⊎ ((h : Heading) × (plain events ≡ acknowledged_event h (behind_last (Some t.track))))
   parts : List Part
-  text : k.text ≡ before ++ parts_text parts
-  own : texts_in (flow_at m b) parts ≡ []
+  text : k'.text ≡ k.text ++ parts_text parts
+  own : texts_in (flow_at m b) parts ≡ flow_text events t
+  done : (c : Connection) → slice_get k'.connections i ≡ Some c → c.number ≡ m → (after_events events t).track.early ≡ []
+  keeps : t.track.early ≡ [] → (after_events events t).track.early ≡ []
 
--- nothing is kept
-ended_same : (h : Heading) (s : Scene) (track : Track) → s.own.track ≡ Some track → track.early ≡ [] → ended h s ≡ s
-unfolding ended
-ended_same h s track e none =
-    ap (λ o. advance_own h (behind_last o) s) e ∙ ap (λ es. advance_own h (option_map (λ number. number + 1) (last_number es)) s) none
+-- nothing happens to it
+step_far : (m i : ℕ) (b : Bool) (k k' : Known) (t : Told) (parts : List Part) → k'.text ≡ k.text ++ parts_text parts → texts_in (flow_at m b) parts ≡ []
+    → (a : IsAt m b k t) → slice_get k'.connections a.place ≡ slice_get k.connections a.place → ((c : Connection) → slice_get k'.connections i ≡ Some c → c.number ≡ m → ⊥) → EndStep m i b k k' t
+step_far m i b k k' t parts text own a same not_here = record {
+  events = meanwhile t.calls k'.text k'.is_refused ∷ [];
+  stands = inl (still m b k k' t a same);
+  are = inl refl;
+  parts = parts;
+  text = text;
+  own = own;
+  done = λ c there is. absurd (not_here c there is);
+  keeps = λ none. none;
+}
 
-unsaid : (n : Origin) (m : ℕ) (b : Bool) (c : Connection) (k : Known) (track : Track) → (side_in b c).track ≡ Some track → track.early ≡ [] → texts_in (flow_at m b) (ended_parts n m (scene_in false c k)) ≡ []
-unsaid n m false c k track is none =
-    let s = scene_in false c k in
-    let P = flow_at m false in
-    two_of (text_in P (told n P (first_ended_said n m s))) (text_in P (told n (flow_at m true) (second_ended_said n m s))) [] []
-    (own_text n m false (first_ended_said n m s) ∙ sym (first_ended n m s) ∙ ap (λ (x : Scene). drop (length s.text) x.text) (ended_same (heading_at n m false) s track is none) ∙ drop_all s.text)
-    (other_text n m false (second_ended_said n m s))
-unsaid n m true c k track is none =
-    let s = scene_in false c k in
-    let s' = seen_from_other (ended (heading_at n m false) s) in
-    let P = flow_at m true in
-    two_of (text_in P (told n (flow_at m false) (first_ended_said n m s))) (text_in P (told n P (second_ended_said n m s))) [] []
-    (other_text n m true (first_ended_said n m s))
-    (own_text n m true (second_ended_said n m s) ∙ sym (second_ended n m s)
-    ∙ ap (λ (x : Scene). drop (length s'.text) x.text) (ended_same (heading_at n m true) s' track (ended_other (heading_at n m false) s ∙ is) none) ∙ drop_all s'.text)
+step_gone : (m i : ℕ) (b : Bool) (k k' : Known) (t : Told) (parts : List Part) → k'.text ≡ k.text ++ parts_text parts → texts_in (flow_at m b) parts ≡ [] → IsGone m k' t → EndStep m i b k k' t
+step_gone m i b k k' t parts text own gone = record {
+  events = [];
+  stands = inr gone;
+  are = inl refl;
+  parts = parts;
+  text = text;
+  own = own;
+  done = λ c there is. gone.empty;
+  keeps = λ none. none;
+}
 
--- and the flow stays as it was
-keeps_track : (h : Heading) (b : Bool) (c : Connection) (k : Known) (track : Track) → (side_in b c).track ≡ Some track → track.early ≡ []
-    → (side_in b (with_scene false (both_ended h (scene_in false c k)) c)).track ≡ Some track
+-- the flow that began first
+first_step : (n : Origin) (i : ℕ) (c : Connection) (k : Known) (t : Told) → slice_get k.connections i ≡ Some c → IsOrdered t → (scene_in false c k).own.track ≡ Some t.track → t ≡ told_of t.track (scene_in false c k)
+    → EndStep c.number i false k (ended_there n i (Some c) k) t
 unfolding both_ended
-keeps_track h false c k track is none =
+first_step n i c k t there ordered track is =
+    let m = c.number in
+    let h = heading_at n m false in
     let s = scene_in false c k in
-    ended_other (of_other h) (seen_from_other (ended h s)) ∙ ap (λ (x : Scene). x.own.track) (ended_same h s track is none) ∙ is
-keeps_track h true c k track is none =
+    let acks = acknowledged_event h (behind_last (Some t.track)) in
+    let new = both_ended h s in
+    let c' = with_scene false new c in
+    let others = meanwhile (record { own = new.own.call; asked = new.other.call }) new.text new.is_refused in
+    let u = after_events acks t in
+    let after : ended h s ≡ after_told u s = ended_event h s t.track track ∙ ap (λ (x : Told). after_told (after_events acks x) s) (sym is) in
+    let joined = after_append acks (others ∷ []) t in
+    let empty : u.track.early ≡ [] = end_empty h t ordered in
+    let none : (after_events (acks ++ others ∷ []) t).track.early ≡ [] = ap (λ (x : Told). x.track.early) joined ∙ empty in record {
+      events = acks ++ others ∷ [];
+      stands = inl (subst (IsAt m false (ended_there n i (Some c) k)) (sym joined)
+          (record {
+            place = i;
+            connection = c';
+            there = get_same k.connections i c c' there;
+            number = refl;
+            track = ended_other (of_other h) (seen_from_other (ended h s)) ∙ ap (λ (x : Scene). x.own.track) after;
+            is = refl;
+            ordered = events_ordered acks t ordered;
+          }));
+      are = inr (h, acknowledged_plain h (behind_last (Some t.track)) others refl);
+      parts = ended_parts n m s;
+      text = ended_text n m s;
+      own = first_ends n c k t track is ∙ sym (append-nil (flow_text acks t)) ∙ sym (flow_append acks (others ∷ []) t);
+      done = λ d e same. none;
+      keeps = λ e. none;
+    }
+
+-- and the one behind it
+second_step : (n : Origin) (i : ℕ) (c : Connection) (k : Known) (t : Told) → slice_get k.connections i ≡ Some c → IsOrdered t → (scene_in true c k).own.track ≡ Some t.track
+    → EndStep c.number i true k (ended_there n i (Some c) k) t
+unfolding both_ended second_others
+second_step n i c k t there ordered track =
+    let m = c.number in
+    let h = heading_at n m false in
     let s = scene_in false c k in
     let s' = seen_from_other (ended h s) in
-    let there : s'.own.track ≡ Some track = ended_other h s ∙ is in
-    ap (λ (x : Scene). x.own.track) (ended_same (of_other h) s' track there none) ∙ there
+    let acks = acknowledged_event (of_other h) (behind_last (Some t.track)) in
+    let new = both_ended h s in
+    let c' = with_scene false new c in
+    let v = told_of t.track s' in
+    let u = after_events acks v in
+    let after : ended (of_other h) s' ≡ after_told u s' = ended_event (of_other h) s' t.track (ended_other h s ∙ track) in
+    let empty : u.track.early ≡ [] = end_empty (of_other h) v ordered in record {
+      events = second_others n c k ∷ acks;
+      stands = inl (record {
+        place = i;
+        connection = c';
+        there = get_same k.connections i c c' there;
+        number = refl;
+        track = ap (λ (x : Scene). x.own.track) after;
+        is = sym (ap (λ (x : Scene). told_of u.track x) after);
+        ordered = events_ordered acks v ordered;
+      });
+      are = inr (of_other h, others_plain n c k (of_other h) (behind_last (Some t.track)));
+      parts = ended_parts n m s;
+      text = ended_text n m s;
+      own = second_ends n c k t track;
+      done = λ d e same. empty;
+      keeps = λ e. empty;
+    }
 
-end_closes : (n : Origin) (m : ℕ) (b : Bool) (part : ℕ) (k : Known) (track : Track) → AllKeep m b k.connections (Some track) → track.early ≡ [] → Closes m b k.text (after_end n part k) track
-unfolding after_end
-end_closes n m b part k track all none = by_connection (slice_get k.connections part) refl
+near_end : (n : Origin) (i : ℕ) (b : Bool) (c : Connection) (k : Known) (t : Told) → slice_get k.connections i ≡ Some c → IsOrdered t → (scene_in b c k).own.track ≡ Some t.track → t ≡ told_of t.track (scene_in b c k)
+    → EndStep c.number i b k (ended_there n i (Some c) k) t
+near_end n i false c k t there ordered track is = first_step n i c k t there ordered track is
+near_end n i true c k t there ordered track is = second_step n i c k t there ordered track
+
+there_end : (n : Origin) (m i : ℕ) (b : Bool) (c : Connection) (k : Known) (t : Told) → IsNumbered k.connections k.count → slice_get k.connections i ≡ Some c → IsOn m b k t → EndStep m i b k (ended_there n i (Some c) k) t
+there_end n m i b c k t numbered there on = by_number (m == c.number) refl on
   where
-    by_connection : (o : Option Connection) → slice_get k.connections part ≡ o → Closes m b k.text (ended_there n part o k) track
-    by_connection None there = record { is = all; parts = []; text = sym (append-nil k.text); own = refl }
-    by_connection (Some c) there = by_number (m == c.number) refl
-      where
-        s : Scene
-        s = scene_in false c k
+    s : Scene
+    s = scene_in false c k
 
-        c' : Connection
-        c' = with_scene false (both_ended (heading_at n c.number false) s) c
+    c' : Connection
+    c' = with_scene false (both_ended (heading_at n c.number false) s) c
 
-        by_number : (p : Bool) → (m == c.number) ≡ p → Closes m b k.text (ended_there n part (Some c) k) track
-        by_number true e =
-            let same : m ≡ c.number = equal_tells m c.number e in
-            let is : (side_in b c).track ≡ Some track = all part c there (sym same) in record {
-              is = keep_set m b k.connections part c' (Some track) all (λ at. keeps_track (heading_at n c.number false) b c k track is none);
-              parts = ended_parts n c.number s;
-              text = ended_text n c.number s;
-              own = ap (λ g. texts_in (flow_at m b) (ended_parts n g s)) (sym same) ∙ unsaid n m b c k track is none;
-            }
-        by_number false e = record {
-          is = keep_set m b k.connections part c' (Some track) all (λ at. absurd (number_tells m c.number e (sym at)));
-          parts = ended_parts n c.number s;
-          text = ended_text n c.number s;
-          own = far_ended n m b c.number s e;
-        }
+    other_here : (m ≡ c.number → ⊥) → (d : Connection) → slice_get (slice_set k.connections i c') i ≡ Some d → d.number ≡ m → ⊥
+    other_here other d e is =
+        let some : Some c' ≡ Some d = sym (get_same k.connections i c c' there) ∙ e in
+        let one : c' ≡ d = (cc) in other (sym is ∙ sym (ap (λ (x : Connection). x.number) one))
+
+    by_number : (p : Bool) → (m == c.number) ≡ p → IsOn m b k t → EndStep m i b k (ended_there n i (Some c) k) t
+    by_number true e (inl a) =
+        let place : a.place ≡ i = numbered.alone a.place i a.connection c a.there there (a.number ∙ equal_tells m c.number e) in
+        let some : Some a.connection ≡ Some c = sym a.there ∙ ap (slice_get k.connections) place ∙ there in
+        let one : a.connection ≡ c = (cc) in
+        let track : (scene_in b c k).own.track ≡ Some t.track = ap (λ (x : Connection). (scene_in b x k).own.track) (sym one) ∙ a.track in
+        let is : t ≡ told_of t.track (scene_in b c k) = a.is ∙ ap (λ (x : Connection). told_of t.track (scene_in b x k)) one in
+        subst (λ g. EndStep g i b k (ended_there n i (Some c) k) t) (sym (equal_tells m c.number e)) (near_end n i b c k t there a.ordered track is)
+    by_number true e (inr gone) = absurd (gone.none i c there (sym (equal_tells m c.number e)))
+    by_number false e (inl a) =
+        step_far m i b k (ended_there n i (Some c) k) t (ended_parts n c.number s) (ended_text n c.number s) (far_ended n m b c.number s e) a
+        (get_set k.connections a.place i c' (other_place k a.place i a.connection c a.there there (λ same. number_tells m c.number e (sym a.number ∙ same))))
+        (other_here (number_tells m c.number e))
+    by_number false e (inr gone) =
+        step_gone m i b k (ended_there n i (Some c) k) t (ended_parts n c.number s) (ended_text n c.number s) (far_ended n m b c.number s e)
+        (record { counted = gone.counted; none = gone_set m i k c c' t gone there refl; empty = gone.empty })
+
+end_step : (n : Origin) (m i : ℕ) (b : Bool) (k : Known) (t : Told) → IsNumbered k.connections k.count → IsOn m b k t → EndStep m i b k (after_end n i k) t
+unfolding after_end
+end_step n m i b k t numbered on = by_connection (slice_get k.connections i) refl on
+  where
+    by_connection : (o : Option Connection) → slice_get k.connections i ≡ o → IsOn m b k t → EndStep m i b k (ended_there n i o k) t
+    by_connection None there (inl a) =
+        step_far m i b k k t [] (sym (append-nil k.text)) refl a refl (λ c e is. let wrong : None ≡ Some c = sym there ∙ e in (cc))
+    by_connection None there (inr gone) = step_gone m i b k k t [] (sym (append-nil k.text)) refl gone
+    by_connection (Some c) there on = there_end n m i b c k t numbered there on
 
 -- ---- all connections
 
-record Closed (m : ℕ) (b : Bool) (text own : List ℕ) (k : Known) (track : Track) : Type 0 where
-  is : AllKeep m b k.connections (Some track)
+set_length : (cs : List Connection) (i : ℕ) (c : Connection) → length (slice_set cs i c) ≡ length cs
+set_length [] i c = refl
+set_length (x ∷ cs) zero c = refl
+set_length (x ∷ cs) (suc i) c = ap suc (set_length cs i c)
+
+end_length : (n : Origin) (i : ℕ) (k : Known) → length (after_end n i k).connections ≡ length k.connections
+unfolding after_end
+end_length n i k = by_connection (slice_get k.connections i)
+  where
+    by_connection : (o : Option Connection) → length (ended_there n i o k).connections ≡ length k.connections
+    by_connection None = refl
+    by_connection (Some c) = set_length k.connections i _
+
+end_numbered : (n : Origin) (i : ℕ) (k : Known) → IsNumbered k.connections k.count → IsNumbered (after_end n i k).connections (after_end n i k).count
+unfolding after_end
+end_numbered n i k w = by_connection (slice_get k.connections i) refl
+  where
+    by_connection : (o : Option Connection) → slice_get k.connections i ≡ o → IsNumbered (ended_there n i o k).connections (ended_there n i o k).count
+    by_connection None there = w
+    by_connection (Some c) there = numbered_set k.connections k.count i c _ w there refl
+
+-- each connection below the place has been ended
+record Goes (items : List Item) (m : ℕ) (b : Bool) (start : Told) (line text : List ℕ) (k : Known) (count part : ℕ) : Type 0 where
+  events : List Event
+  whole : IsWhole items (plain events)
+  stands : IsOn m b k (after_events events start)
+  numbered : IsNumbered k.connections k.count
+  long : length k.connections ≡ count
   parts : List Part
   all : text ≡ parts_text parts
-  same : texts_in (flow_at m b) parts ≡ own
+  own : texts_in (flow_at m b) parts ≡ line ++ flow_text events start
+  done : (j : ℕ) (c : Connection) → slice_get k.connections j ≡ Some c → c.number ≡ m → j < part → (after_events events start).track.early ≡ []
+
+ended_whole : (items : List Item) (events more : List Event) (start : Told) → start.track ≡ record { next = 0; early = []; speech = Hearing (opening []) } → IsWhole items (plain events)
+    → (plain more ≡ []) ⊎ ((h : Heading) × (plain more ≡ acknowledged_event h (behind_last (Some (after_events events start).track)))) → IsWhole items (plain (events ++ more))
+ended_whole items events more start first w (inl none) =
+    subst (IsWhole items) (sym (flat_map-append plain_one events more ∙ ap (λ z. plain events ++ z) none ∙ append-nil (plain events))) w
+ended_whole items events more start first w (inr (h, is)) =
+    let o = behind_last (Some (after_events events start).track) in
+    subst (IsWhole items) (sym (flat_map-append plain_one events more ∙ ap (λ z. plain events ++ z) is))
+    (whole_with items (plain events) h o w (end_bound items events start first (plain_whole items events w)))
+
+end_others : (n : Origin) (i j : ℕ) (k : Known) → (j ≡ i → ⊥) → slice_get (after_end n i k).connections j ≡ slice_get k.connections j
+unfolding after_end
+end_others n i j k other = by_connection (slice_get k.connections i)
+  where
+    by_connection : (o : Option Connection) → slice_get (ended_there n i o k).connections j ≡ slice_get k.connections j
+    by_connection None = refl
+    by_connection (Some c) = get_set k.connections j i _ other
+
+less : (j i : ℕ) → j < suc i → (j ≡ i → ⊥) → j < i
+less j i lt other = by_order (nat_lt j i) refl
+  where
+    by_order : (p : Bool) → nat_lt j i ≡ p → j < i
+    by_order true e = lt_tells j i e
+    by_order false e = let le : i ≤ j = le_tells j i e in absurd (other (omega (arith, lt, le)))
+
+goes_one : (n : Origin) (items : List Item) (m : ℕ) (b : Bool) (start : Told) (line text : List ℕ) (before : Known) (count part : ℕ) → start.track ≡ record { next = 0; early = []; speech = Hearing (opening []) }
+    → Goes items m b start line text before count part
+    → Goes items m b start line (text ++ (after_end n part (record before { text = [] })).text) (after_end n part (record before { text = [] })) count (suc part)
+goes_one n items m b start line text before count part first w =
+    let k : Known = record before { text = [] } in
+    let k' = after_end n part k in
+    let t = after_events w.events start in
+    let front = meanwhile t.calls [] k.is_refused in
+    let u = after_event front t in
+    let v = end_step n m part b k u w.numbered (from_front m b before t w.stands) in
+    let more = front ∷ v.events in
+    let joined = after_append w.events more start in
+    let P = flow_at m b in record {
+      events = w.events ++ more;
+      whole = ended_whole items w.events more start first w.whole v.are;
+      stands = subst (IsOn m b k') (sym joined) v.stands;
+      numbered = end_numbered n part k w.numbered;
+      long = end_length n part k ∙ w.long;
+      parts = w.parts ++ v.parts;
+      all = ap (λ z. z ++ k'.text) w.all ∙ ap (λ z. parts_text w.parts ++ z) v.text ∙ sym (flat_map-append part_text w.parts v.parts);
+      own = flat_map-append (text_in P) w.parts v.parts ∙ ap (λ z. z ++ texts_in P v.parts) w.own ∙ ap (λ z. (line ++ flow_text w.events start) ++ z) v.own
+          ∙ append_assoc line (flow_text w.events start) (flow_text v.events u) ∙ ap (λ z. line ++ z) (sym (flow_append w.events more start));
+      done = λ j c there is lt. ap (λ (x : Told). x.track.early) joined ∙ by_place v j c (w.done j c) there is lt (j == part) refl;
+    }
+  where
+    by_place : {t : Told} (v : EndStep m part b (record before { text = [] }) (after_end n part (record before { text = [] })) t)
+        (j : ℕ) (c : Connection) → (slice_get before.connections j ≡ Some c → c.number ≡ m → j < part → t.track.early ≡ [])
+        → slice_get (after_end n part (record before { text = [] })).connections j ≡ Some c → c.number ≡ m → j < suc part → (p : Bool) → (j == part) ≡ p
+        → (after_events v.events t).track.early ≡ []
+    by_place v j c old there is lt true e = v.done c (subst (λ i. slice_get (after_end n part (record before { text = [] })).connections i ≡ Some c) (equal_tells j part e) there) is
+    by_place v j c old there is lt false e =
+        let other = number_tells j part e in
+        v.keeps (old (sym (end_others n part j (record before { text = [] }) other) ∙ there) is (less j part lt other))
 
 module _ (programs : Programs) where
-  all_closed : (m : ℕ) (b : Bool) (own : List ℕ) (lines : List (List ℕ)) (track : Track) → track.early ≡ [] → Closed m b (text_of programs lines) own (known_of programs lines) track → (part : ℕ)
-      → Closed m b (text_with_end programs lines part) own (known_with_end programs lines part) track
-  all_closed m b own lines track none first zero = first
-  all_closed m b own lines track none first (suc part) =
-      let w = all_closed m b own lines track none first part in
-      let k : Known = record (known_with_end programs lines part) { text = [] } in
-      let v = end_closes (line_origin programs (length lines)) m b part k track w.is none in
-      let P = flow_at m b in record {
-        is = v.is;
-        parts = w.parts ++ v.parts;
-        all = ap (λ z. z ++ (known_with_end programs lines (suc part)).text) w.all ∙ ap (λ z. parts_text w.parts ++ z) v.text ∙ sym (flat_map-append part_text w.parts v.parts);
-        same = flat_map-append (text_in P) w.parts v.parts ∙ ap (λ z. texts_in P w.parts ++ z) v.own ∙ append-nil (texts_in P w.parts) ∙ w.same;
-      }
+  goes_on : (items : List Item) (m : ℕ) (b : Bool) (start : Told) (line : List ℕ) (lines : List (List ℕ)) → start.track ≡ record { next = 0; early = []; speech = Hearing (opening []) }
+      → Goes items m b start line (text_of programs lines) (known_of programs lines) (end_count programs lines) 0 → (part : ℕ)
+      → Goes items m b start line (text_with_end programs lines part) (known_with_end programs lines part) (end_count programs lines) part
+  goes_on items m b start line lines first begun zero = begun
+  goes_on items m b start line lines first begun (suc part) =
+      goes_one (line_origin programs (length lines)) items m b start line (text_with_end programs lines part) (known_with_end programs lines part) (end_count programs lines) part first
+      (goes_on items m b start line lines first begun part)
 
--- a flow that has begun is kept so, or its connection was forgotten
-on_keeps : (m : ℕ) (b : Bool) (k : Known) (t : Told) → IsNumbered k.connections k.count → IsOn m b k t → AllKeep m b k.connections (Some t.track)
-on_keeps m b k t numbered (inl a) i c there is =
-    let place : a.place ≡ i = numbered.alone a.place i a.connection c a.there there (a.number ∙ sym is) in
-    let some : Some a.connection ≡ Some c = sym a.there ∙ ap (slice_get k.connections) place ∙ there in
-    let one : a.connection ≡ c = (cc) in
-    sym (side_track b c k) ∙ ap (λ (x : Connection). (scene_in b x k).own.track) (sym one) ∙ a.track
-on_keeps m b k t numbered (inr gone) i c there is = absurd (gone.none i c there is)
-
-module _ (programs : Programs) where
   -- the connections of all lines
   pub numbered_from : (n : ℕ) (k : Known) (lines : List (List ℕ)) → IsNumbered k.connections k.count → IsNumbered (known_from programs n k lines).connections (known_from programs n k lines).count
   numbered_from n k [] numbered = numbered
@@ -148,6 +298,12 @@ module _ (programs : Programs) where
 
 none_at_first : (m : ℕ) (b : Bool) → AllKeep m b [] None
 none_at_first m b i c there is = (cc)
+
+-- nothing is kept at the end
+all_ended : (m : ℕ) (b : Bool) (k : Known) (t : Told) (count : ℕ) → length k.connections ≡ count → IsOn m b k t
+    → ((j : ℕ) (c : Connection) → slice_get k.connections j ≡ Some c → c.number ≡ m → j < count → t.track.early ≡ []) → t.track.early ≡ []
+all_ended m b k t count long (inl a) done = done a.place a.connection a.there a.number (subst (λ x. a.place < x) long (get_below k.connections a.place a.connection a.there))
+all_ended m b k t count long (inr gone) done = gone.empty
 
 -- ---- the whole
 
@@ -157,18 +313,27 @@ pub input_told : FlowsAreToldApart → (runs : SignsRunOn) (law : OneItemMore) �
 input_told apart runs law messages ends programs input p items field has small whole =
     let lines = lines_of input in
     let w = lines_met programs (plain_places apart) 1 p.connection p.is_behind nothing_known numbered_none (none_at_first p.connection p.is_behind) lines field has in
-    let all : IsWhole items w.events = plain_whole items w.events (subst (IsWhole items) (sym w.are) whole) in
-    let last = after_events w.events w.start in
-    let own = flow_line w.heading w.packet w.header ++ flow_text w.events w.start in
-    let first : Closed p.connection p.is_behind (text_of programs lines) own (known_of programs lines) last.track =
-    record { is = on_keeps p.connection p.is_behind (known_of programs lines) last (numbered_from programs 1 nothing_known lines numbered_none) w.stands; parts = w.parts; all = w.is; same = w.own } in
-    let v = all_closed programs p.connection p.is_behind own lines last.track (nothing_kept items w.events field w.start small w.track all) first (end_count programs lines) in record {
+    let line = flow_line w.heading w.packet w.header in
+    let first = first_of field w.start small w.track in
+    let begun : Goes items p.connection p.is_behind w.start line (text_of programs lines) (known_of programs lines) (end_count programs lines) 0 = record {
+      events = w.events;
+      whole = subst (IsWhole items) (sym w.are) whole;
+      stands = w.stands;
+      numbered = numbered_from programs 1 nothing_known lines numbered_none;
+      long = refl;
+      parts = w.parts;
+      all = w.is;
+      own = w.own;
+      done = λ j c there is lt. absurd (omega (arith, lt));
+    } in
+    let v = goes_on programs items p.connection p.is_behind w.start line lines first begun (end_count programs lines) in
+    let left = all_ended p.connection p.is_behind (known_with_end programs lines (end_count programs lines)) (after_events v.events w.start) (end_count programs lines) v.long v.stands v.done in record {
       parts = v.parts;
       all = v.all;
       heading = w.heading;
       packet = w.packet;
       header = w.header;
-      said = flow_text w.events w.start;
-      own = v.same;
-      conversation = whole_said runs law messages ends items w.events field w.start small w.track all;
+      said = flow_text v.events w.start;
+      own = v.own;
+      conversation = whole_said runs law messages ends items v.events field w.start small w.track (plain_whole items v.events v.whole) left;
     }

@@ -4,33 +4,34 @@ use Rattle.std.specs.Prelude.{min, not, option_map, slice_get, slice_set}
 use Rattle.std.proofs.lemmas.Grind.{flat_map-append}
 use Rattle.xns_idp.specs.Packet.{PacketModel}
 use Rattle.xns_spp.specs.Header.{is_system}
-use Rattle.xns_spp.specs.Item.{item_with}
 use Rattle.xns_spp.specs.declared.header.Header.{Header}
 use Rattle.xns_dump.specs.Flows.{flow_of, is_place}
 use Rattle.xns_dump.specs.declared.flows.flow.Flow.{Flow}
-use Rattle.xns_calls.specs.Acknowledged.{due_in, due_of, noted}
+use Rattle.xns_calls.specs.Acknowledged.{acknowledged_in, due_in, due_of, given_in, noted}
 use Rattle.xns_calls.specs.Anew.{begins_anew}
-use Rattle.xns_calls.specs.Capture.{Known, after_at, after_in, after_new_flow, after_place, after_scene, after_sequenced, after_there, forgotten, heading_at, is_behind_in, new_connection, place_of, renewed, renewed_there, scene_in, with_new, with_scene}
+use Rattle.xns_calls.specs.Capture.{Known, after_at, after_in, after_new_flow, after_place, after_scene, after_sequenced, after_there, forgotten, heading_at, is_behind_in, new_connection, place_of, renewed, renewed_there, scene_in, settled_at, settled_there, taken_in, with_new, with_scene}
 use Rattle.xns_calls.specs.Events.{Event, acknowledged_event, after_event, after_events, brought_if, meanwhile, own_events, with_others}
-use Rattle.xns_calls.specs.Exchange.{Scene, advance_own, advance_track, advanced, after_packet, after_told, behind_last, ended, of_other, other_reached, seen_from_other, told_of, up_to}
+use Rattle.xns_calls.specs.Exchange.{Scene, advance_own, advance_track, advanced, after_packet, after_told, behind_last, carried, ended, of_other, other_reached, seen_from_other, told_of, up_to}
 use Rattle.xns_calls.specs.Input.{Part, connection_at, connection_of, ending_events, events_between, events_there, is_same, item_events, name_in, next_name, part_text, parts_text, text_in, texts_in, told}
 use Rattle.xns_calls.specs.Numbers.{near}
 use Rattle.xns_calls.specs.Over.{side_in}
 use Rattle.xns_calls.specs.Queue.{last_number}
+use Rattle.xns_calls.specs.Read.{settled}
 use Rattle.xns_calls.specs.Reading.{Told, brought}
 use Rattle.xns_calls.specs.Whole.{flow_text}
 use Rattle.xns_calls.specs.declared.connection.Connection.{Connection}
 use Rattle.xns_calls.specs.declared.due.Due.{Due}
 use Rattle.xns_calls.specs.declared.heading.Heading.{Heading}
 use Rattle.xns_calls.specs.declared.track.Track.{Track}
-use Rattle.xns_calls.proofs.Gaps.{equal_tells}
-use Rattle.xns_calls.proofs.Numbered.{IsNumbered, fresh_number, more_cases, numbered_more, numbered_renewed, scene_number, set_cases}
+use Rattle.xns_calls.proofs.Gaps.{IsOrdered, equal_tells, events_ordered}
+use Rattle.xns_calls.proofs.Numbered.{IsNumbered, fresh_number, more_cases, numbered_more, numbered_renewed, numbered_taken, same_number, scene_number, set_cases}
 use Rattle.xns_calls.proofs.Others.{get_front, get_last, get_same, get_set}
 use Rattle.xns_calls.proofs.Places.{place_there}
-use Rattle.xns_calls.proofs.Whole.{get_below}
+use Rattle.xns_calls.proofs.Onwards.{Says, other_settled, own_settled, settled_says}
+use Rattle.xns_calls.proofs.Whole.{after_append, end_empty, get_below, least_same}
 use Rattle.xns_calls.proofs.Packets.{reached_event, ended_other, packet_events, packet_other, put_back}
 use Rattle.xns_calls.specs.declared.origin.Origin.{Origin}
-use Rattle.xns_calls.proofs.Parts.{ack_plain, acknowledged_new, acknowledged_plain, after_append, behind_text, both_new, both_plain, ended_parts, ended_text, far_text, first_ended, first_ended_said, flow_append, flow_at, number_tells, other_number, other_text, own_text, packet_parts, packet_said, packet_text, plain, plain_one, reached_said, reached_text, said_text_of, scene_text, second_ended, second_ended_said, two_of}
+use Rattle.xns_calls.proofs.Parts.{ack_plain, acknowledged_new, acknowledged_plain, behind_text, both_new, both_plain, ended_parts, ended_text, far_text, first_ended, first_ended_said, flow_append, flow_at, number_tells, other_number, other_text, own_text, packet_parts, packet_said, packet_text, plain, plain_one, reached_said, reached_text, said_text_of, scene_text, second_ended, second_ended_said, two_of}
 
 -- ---- where a flow stands that has begun
 
@@ -41,26 +42,28 @@ pub record IsAt (m : ℕ) (b : Bool) (k : Known) (t : Told) : Type 0 where
   pub number : connection.number ≡ m
   pub track : (scene_in b connection k).own.track ≡ Some t.track
   pub is : t ≡ told_of t.track (scene_in b connection k)
+  pub ordered : IsOrdered t
 
--- its connection was forgotten
-pub record IsGone (m : ℕ) (k : Known) : Type 0 where
+-- its connection was forgotten, and nothing is kept any more
+pub record IsGone (m : ℕ) (k : Known) (t : Told) : Type 0 where
   pub counted : m ≤ k.count
   pub none : (i : ℕ) (c : Connection) → slice_get k.connections i ≡ Some c → c.number ≡ m → ⊥
+  pub empty : t.track.early ≡ []
 
 abbrev pub IsOn : ℕ → Bool → Known → Told → Type 0
-IsOn m b k t = IsAt m b k t ⊎ IsGone m k
+IsOn m b k t = IsAt m b k t ⊎ IsGone m k t
 
 -- behind a packet of its own
-pub stands_own : (i : ℕ) (b : Bool) (f : Header) (c : Connection) (s : Scene) (k : Known) → slice_get k.connections i ≡ Some c → (u : Told) → s.own.track ≡ Some u.track → u ≡ told_of u.track s
+pub stands_own : (i : ℕ) (b : Bool) (f : Header) (c : Connection) (s : Scene) (k : Known) → slice_get k.connections i ≡ Some c → (u : Told) → IsOrdered u → s.own.track ≡ Some u.track → u ≡ told_of u.track s
     → IsAt c.number b (after_scene i b (noted b f c) s k) u
-stands_own i true f c s k e u track is = record { place = i; connection = with_scene true s (noted true f c); there = get_same k.connections i c (with_scene true s (noted true f c)) e; number = refl; track = track; is = is }
-stands_own i false f c s k e u track is = record { place = i; connection = with_scene false s (noted false f c); there = get_same k.connections i c (with_scene false s (noted false f c)) e; number = refl; track = track; is = is }
+stands_own i true f c s k e u ordered track is = record { place = i; connection = with_scene true s (noted true f c); there = get_same k.connections i c (with_scene true s (noted true f c)) e; number = refl; track = track; is = is; ordered = ordered }
+stands_own i false f c s k e u ordered track is = record { place = i; connection = with_scene false s (noted false f c); there = get_same k.connections i c (with_scene false s (noted false f c)) e; number = refl; track = track; is = is; ordered = ordered }
 
 -- and behind one of the flow behind it
-pub stands_behind : (i : ℕ) (q : Bool) (f : Header) (c : Connection) (s : Scene) (k : Known) → slice_get k.connections i ≡ Some c → (u : Told) → s.other.track ≡ Some u.track
+pub stands_behind : (i : ℕ) (q : Bool) (f : Header) (c : Connection) (s : Scene) (k : Known) → slice_get k.connections i ≡ Some c → (u : Told) → IsOrdered u → s.other.track ≡ Some u.track
     → u ≡ told_of u.track (seen_from_other s) → IsAt c.number (not q) (after_scene i q (noted q f c) s k) u
-stands_behind i true f c s k e u track is = record { place = i; connection = with_scene true s (noted true f c); there = get_same k.connections i c (with_scene true s (noted true f c)) e; number = refl; track = track; is = is }
-stands_behind i false f c s k e u track is = record { place = i; connection = with_scene false s (noted false f c); there = get_same k.connections i c (with_scene false s (noted false f c)) e; number = refl; track = track; is = is }
+stands_behind i true f c s k e u ordered track is = record { place = i; connection = with_scene true s (noted true f c); there = get_same k.connections i c (with_scene true s (noted true f c)) e; number = refl; track = track; is = is; ordered = ordered }
+stands_behind i false f c s k e u ordered track is = record { place = i; connection = with_scene false s (noted false f c); there = get_same k.connections i c (with_scene false s (noted false f c)) e; number = refl; track = track; is = is; ordered = ordered }
 
 -- where its connection stays
 pub still : (m : ℕ) (b : Bool) (k k' : Known) (t : Told) → (a : IsAt m b k t) → slice_get k'.connections a.place ≡ slice_get k.connections a.place → IsAt m b k' (with_others t.calls k'.text k'.is_refused t)
@@ -71,6 +74,7 @@ still m true k k' t a same = record {
   number = a.number;
   track = a.track;
   is = ap (λ (x : Told). with_others x.calls k'.text k'.is_refused t) a.is;
+  ordered = a.ordered;
 }
 still m false k k' t a same = record {
   place = a.place;
@@ -79,6 +83,7 @@ still m false k k' t a same = record {
   number = a.number;
   track = a.track;
   is = ap (λ (x : Told). with_others x.calls k'.text k'.is_refused t) a.is;
+  ordered = a.ordered;
 }
 
 -- ---- a packet, for a flow that has begun
@@ -102,7 +107,7 @@ unchanged m b k k' t parts text own a same = record {
   own = own;
 }
 
-pub stays_gone : (m : ℕ) (b : Bool) (k k' : Known) (t : Told) (parts : List Part) → k'.text ≡ k.text ++ parts_text parts → texts_in (flow_at m b) parts ≡ [] → IsGone m k' → Stepped m b k k' t []
+pub stays_gone : (m : ℕ) (b : Bool) (k k' : Known) (t : Told) (parts : List Part) → k'.text ≡ k.text ++ parts_text parts → texts_in (flow_at m b) parts ≡ [] → IsGone m k' t → Stepped m b k k' t []
 stays_gone m b k k' t parts text own gone = record { events = []; are = refl; stands = inr gone; parts = parts; text = text; own = own }
 
 -- nothing happens
@@ -123,40 +128,40 @@ two_steps m b k k' k'' t xs ys w next =
       own = flat_map-append (text_in P) w.parts v.parts ∙ ap (λ z. z ++ texts_in P v.parts) w.own ∙ ap (λ z. flow_text w.events t ++ z) v.own ∙ sym (flow_append w.events v.events t);
     }
 
-pub own_step : (n : Origin) (i : ℕ) (b : Bool) (packet : PacketModel) (f : Header) (content : List ℕ) (c : Connection) (k : Known) (t : Told) → slice_get k.connections i ≡ Some c
+pub own_step : (n : Origin) (i : ℕ) (b : Bool) (packet : PacketModel) (f : Header) (content : List ℕ) (c : Connection) (k : Known) (t : Told) → slice_get k.connections i ≡ Some c → IsOrdered t
     → (scene_in b c k).own.track ≡ Some t.track → t ≡ told_of t.track (scene_in b c k)
-    → Stepped c.number b k (after_in n i b packet f content c k) t (item_events (heading_at n c.number b) f content (Some t.track) ++ acknowledged_event (heading_at n c.number b) (due_of b c))
-own_step n i b packet f content c k t e track is =
+    → Stepped c.number b k (taken_in n i b packet f content c k) t (item_events (heading_at n c.number b) f content (acknowledged_in b f c) (Some t.track) ++ acknowledged_event (heading_at n c.number b) (due_of b c))
+own_step n i b packet f content c k t e ordered track is =
     let m = c.number in
     let h = heading_at n m b in
     let s = scene_in b c k in
-    let due = due_in b c in
+    let due = due_in b f c in
     let known = other_reached h due.other s in
     let new = after_packet h due packet f content s in
-    let events = own_events h due.own f content t.track known in
+    let events = own_events h due f content t.track known in
     let u = after_events events t in
     let others = with_others (record { own = known.own.call; asked = known.other.call }) known.text known.is_refused t in
     let o = near t.track.next f.sequence in
     let after : new ≡ after_told u known = packet_events h due packet f content s t.track track ∙ ap (λ (x : Told). after_told (after_events events x) known) (sym is) in record {
       events = events;
-      are = both_plain (is_system f) h o (item_with f content) due.own;
-      stands = inl (stands_own i b f c new k e u (ap (λ (x : Scene). x.own.track) after) (sym (ap (λ (x : Scene). told_of u.track x) after)));
+      are = both_plain (is_system f) h o (carried h due.acknowledged f content) due.own;
+      stands = inl (stands_own i b f c new k e u (events_ordered events t ordered) (ap (λ (x : Scene). x.own.track) after) (sym (ap (λ (x : Scene). told_of u.track x) after)));
       parts = packet_parts n m b due packet f content s;
       text = packet_text n m b due packet f content s ∙ ap (λ z. z ++ parts_text (packet_parts n m b due packet f content s)) (scene_text b c k);
       own = two_of (text_in (flow_at m b) (told n (flow_at m (not b)) (reached_said n m b due s))) (text_in (flow_at m b) (told n (flow_at m b) (packet_said n m b due packet f content s))) [] (flow_text events t)
           (other_text n m b (reached_said n m b due s))
           (own_text n m b (packet_said n m b due packet f content s) ∙ sym (said_text_of n m b due packet f content s) ∙ ap (λ (x : Scene). drop (length known.text) x.text) after
-          ∙ sym (both_new (is_system f) h o (item_with f content) due.own others));
+          ∙ sym (both_new (is_system f) h o (carried h due.acknowledged f content) due.own others));
     }
 
-pub behind_step : (n : Origin) (i : ℕ) (q : Bool) (packet : PacketModel) (f : Header) (content : List ℕ) (c : Connection) (k : Known) (t : Told) → slice_get k.connections i ≡ Some c
+pub behind_step : (n : Origin) (i : ℕ) (q : Bool) (packet : PacketModel) (f : Header) (content : List ℕ) (c : Connection) (k : Known) (t : Told) → slice_get k.connections i ≡ Some c → IsOrdered t
     → (scene_in q c k).other.track ≡ Some t.track → t ≡ told_of t.track (seen_from_other (scene_in q c k))
-    → Stepped c.number (not q) k (after_in n i q packet f content c k) t (acknowledged_event (heading_at n c.number (not q)) (due_of (not q) c))
-behind_step n i q packet f content c k t e track is =
+    → Stepped c.number (not q) k (taken_in n i q packet f content c k) t (acknowledged_event (heading_at n c.number (not q)) (due_of (not q) c))
+behind_step n i q packet f content c k t e ordered track is =
     let m = c.number in
     let h = heading_at n m q in
     let s = scene_in q c k in
-    let due = due_in q c in
+    let due = due_in q f c in
     let known = other_reached h due.other s in
     let new = after_packet h due packet f content s in
     let acks = acknowledged_event (of_other h) due.other in
@@ -167,8 +172,8 @@ behind_step n i q packet f content c k t e track is =
     let P = flow_at m (not q) in record {
       events = acks ++ others ∷ [];
       are = acknowledged_plain (of_other h) due.other others refl;
-      stands = inl (subst (IsAt m (not q) (after_in n i q packet f content c k)) (sym (after_append acks (others ∷ []) t))
-          (stands_behind i q f c new k e (after_event others v) (packet_other h due packet f content s ∙ ap (λ (x : Scene). x.other.track) after) refl));
+      stands = inl (subst (IsAt m (not q) (taken_in n i q packet f content c k)) (sym (after_append acks (others ∷ []) t))
+          (stands_behind i q f c new k e (after_event others v) (events_ordered acks t ordered) (packet_other h due packet f content s ∙ ap (λ (x : Scene). x.other.track) after) refl));
       parts = packet_parts n m q due packet f content s;
       text = packet_text n m q due packet f content s ∙ ap (λ z. z ++ parts_text (packet_parts n m q due packet f content s)) (scene_text q c k);
       own = two_of (text_in P (told n P (reached_said n m q due s))) (text_in P (told n (flow_at m q) (packet_said n m q due packet f content s))) (flow_text acks t) []
@@ -190,21 +195,21 @@ far_ended n m b g s far =
     (far_text n m g b false (first_ended_said n g s) far) (far_text n m g b true (second_ended_said n g s) far)
 
 pub in_text : (n : Origin) (i : ℕ) (q : Bool) (packet : PacketModel) (f : Header) (content : List ℕ) (c : Connection) (k : Known)
-    → (after_in n i q packet f content c k).text ≡ k.text ++ parts_text (packet_parts n c.number q (due_in q c) packet f content (scene_in q c k))
+    → (taken_in n i q packet f content c k).text ≡ k.text ++ parts_text (packet_parts n c.number q (due_in q f c) packet f content (scene_in q c k))
 in_text n i q packet f content c k =
     let s = scene_in q c k in
-    packet_text n c.number q (due_in q c) packet f content s ∙ ap (λ z. z ++ parts_text (packet_parts n c.number q (due_in q c) packet f content s)) (scene_text q c k)
+    packet_text n c.number q (due_in q f c) packet f content s ∙ ap (λ z. z ++ parts_text (packet_parts n c.number q (due_in q f c) packet f content s)) (scene_text q c k)
 
-abbrev pub near_events : Origin → ℕ → Bool → Bool → Header → List ℕ → Option Track → Option ℕ → List Event
-near_events n m b q f content track due = cond (is_same b q) (item_events (heading_at n m b) f content track) [] ++ acknowledged_event (heading_at n m b) due
+abbrev pub near_events : Origin → ℕ → Bool → Bool → Header → List ℕ → Option ℕ → Option Track → Option ℕ → List Event
+near_events n m b q f content a track due = cond (is_same b q) (item_events (heading_at n m b) f content a track) [] ++ acknowledged_event (heading_at n m b) due
 
 -- a packet of its own connection
-pub near_step : (n : Origin) (i : ℕ) (b q : Bool) (packet : PacketModel) (f : Header) (content : List ℕ) (c : Connection) (k : Known) (t : Told) → slice_get k.connections i ≡ Some c
-    → (scene_in b c k).own.track ≡ Some t.track → t ≡ told_of t.track (scene_in b c k) → Stepped c.number b k (after_in n i q packet f content c k) t (near_events n c.number b q f content (Some t.track) (due_of b c))
-near_step n i true true packet f content c k t e track is = own_step n i true packet f content c k t e track is
-near_step n i false false packet f content c k t e track is = own_step n i false packet f content c k t e track is
-near_step n i true false packet f content c k t e track is = behind_step n i false packet f content c k t e track is
-near_step n i false true packet f content c k t e track is = behind_step n i true packet f content c k t e track is
+pub near_step : (n : Origin) (i : ℕ) (b q : Bool) (packet : PacketModel) (f : Header) (content : List ℕ) (c : Connection) (k : Known) (t : Told) → slice_get k.connections i ≡ Some c → IsOrdered t
+    → (scene_in b c k).own.track ≡ Some t.track → t ≡ told_of t.track (scene_in b c k) → Stepped c.number b k (taken_in n i q packet f content c k) t (near_events n c.number b q f content (acknowledged_in q f c) (Some t.track) (due_of b c))
+near_step n i true true packet f content c k t e ordered track is = own_step n i true packet f content c k t e ordered track is
+near_step n i false false packet f content c k t e ordered track is = own_step n i false packet f content c k t e ordered track is
+near_step n i true false packet f content c k t e ordered track is = behind_step n i false packet f content c k t e ordered track is
+near_step n i false true packet f content c k t e ordered track is = behind_step n i true packet f content c k t e ordered track is
 
 pub side_track : (b : Bool) (c : Connection) (k : Known) → (scene_in b c k).own.track ≡ (side_in b c).track
 side_track true c k = refl
@@ -217,25 +222,25 @@ other_place k i j c d at there other same =
     let is : c ≡ d = (cc) in other (ap (λ (x : Connection). x.number) is)
 
 -- a connection that is gone stays so where no other gets its number
-pub gone_set : (m i : ℕ) (k : Known) (c c' : Connection) → IsGone m k → slice_get k.connections i ≡ Some c → c'.number ≡ c.number → (j : ℕ) (d : Connection) → slice_get (slice_set k.connections i c') j ≡ Some d → d.number ≡ m → ⊥
-gone_set m i k c c' gone there same j d at is = by_case (set_cases k.connections i j c' d at)
+pub gone_set : (m i : ℕ) (k : Known) (c c' : Connection) (t : Told) → IsGone m k t → slice_get k.connections i ≡ Some c → c'.number ≡ c.number → (j : ℕ) (d : Connection) → slice_get (slice_set k.connections i c') j ≡ Some d → d.number ≡ m → ⊥
+gone_set m i k c c' t gone there same j d at is = by_case (set_cases k.connections i j c' d at)
   where
     by_case : ((i ≡ j) × (d ≡ c')) ⊎ ((i ≡ j → ⊥) × (slice_get k.connections j ≡ Some d)) → ⊥
     by_case (inl (e, one)) = gone.none i c there (sym same ∙ sym (ap (λ (x : Connection). x.number) one) ∙ is)
     by_case (inr (other, e)) = gone.none j d e is
 
-pub at_step : (n : Origin) (m i : ℕ) (b q : Bool) (packet : PacketModel) (f : Header) (content : List ℕ) (c : Connection) (k : Known) (t : Told) → IsNumbered k.connections k.count → slice_get k.connections i ≡ Some c → IsOn m b k t
-    → Stepped m b k (after_in n i q packet f content c k) t (events_between (flow_at m b) (flow_at c.number q) (heading_at n m b) f content (side_in b c).track (due_of b c))
-at_step n m i b q packet f content c k t numbered there on = by_number (m == c.number) refl on
+pub taken_step : (n : Origin) (m i : ℕ) (b q : Bool) (packet : PacketModel) (f : Header) (content : List ℕ) (c : Connection) (k : Known) (t : Told) → IsNumbered k.connections k.count → slice_get k.connections i ≡ Some c → IsOn m b k t
+    → Stepped m b k (taken_in n i q packet f content c k) t (events_between (flow_at m b) (flow_at c.number q) (heading_at n m b) f content (acknowledged_in q f c) (side_in b c).track (due_of b c))
+taken_step n m i b q packet f content c k t numbered there on = by_number (m == c.number) refl on
   where
     s : Scene
     s = scene_in q c k
 
     parts : List Part
-    parts = packet_parts n c.number q (due_in q c) packet f content s
+    parts = packet_parts n c.number q (due_in q f c) packet f content s
 
     Goal : Bool → Type 0
-    Goal p = Stepped m b k (after_in n i q packet f content c k) t (cond p (near_events n m b q f content (side_in b c).track (due_of b c)) [])
+    Goal p = Stepped m b k (taken_in n i q packet f content c k) t (cond p (near_events n m b q f content (acknowledged_in q f c) (side_in b c).track (due_of b c)) [])
 
     by_number : (p : Bool) → (m == c.number) ≡ p → IsOn m b k t → Goal p
     by_number true e (inl a) =
@@ -244,23 +249,90 @@ at_step n m i b q packet f content c k t numbered there on = by_number (m == c.n
         let one : a.connection ≡ c = (cc) in
         let track : (scene_in b c k).own.track ≡ Some t.track = ap (λ (x : Connection). (scene_in b x k).own.track) (sym one) ∙ a.track in
         let is : t ≡ told_of t.track (scene_in b c k) = a.is ∙ ap (λ (x : Connection). told_of t.track (scene_in b x k)) one in
-        subst (λ o. Stepped m b k (after_in n i q packet f content c k) t (near_events n m b q f content o (due_of b c))) (sym track ∙ side_track b c k)
-        (subst (λ g. Stepped g b k (after_in n i q packet f content c k) t (near_events n g b q f content (Some t.track) (due_of b c))) (sym (equal_tells m c.number e))
-        (near_step n i b q packet f content c k t there track is))
+        subst (λ o. Stepped m b k (taken_in n i q packet f content c k) t (near_events n m b q f content (acknowledged_in q f c) o (due_of b c))) (sym track ∙ side_track b c k)
+        (subst (λ g. Stepped g b k (taken_in n i q packet f content c k) t (near_events n g b q f content (acknowledged_in q f c) (Some t.track) (due_of b c))) (sym (equal_tells m c.number e))
+        (near_step n i b q packet f content c k t there a.ordered track is))
     by_number true e (inr gone) = absurd (gone.none i c there (sym (equal_tells m c.number e)))
     by_number false e (inl a) =
-        unchanged m b k (after_in n i q packet f content c k) t parts (in_text n i q packet f content c k) (far_texts n m b q (due_in q c) packet f content c.number s e) a
+        unchanged m b k (taken_in n i q packet f content c k) t parts (in_text n i q packet f content c k) (far_texts n m b q (due_in q f c) packet f content c.number s e) a
         (get_set k.connections a.place i _ (other_place k a.place i a.connection c a.there there (λ same. number_tells m c.number e (sym a.number ∙ same))))
     by_number false e (inr gone) =
-        stays_gone m b k (after_in n i q packet f content c k) t parts (in_text n i q packet f content c k) (far_texts n m b q (due_in q c) packet f content c.number s e)
-        (record { counted = gone.counted; none = gone_set m i k c _ gone there (scene_number q _ f c) })
+        stays_gone m b k (taken_in n i q packet f content c k) t parts (in_text n i q packet f content c k) (far_texts n m b q (due_in q f c) packet f content c.number s e)
+        (record { counted = gone.counted; none = gone_set m i k c _ t gone there (scene_number q _ f c); empty = gone.empty })
+
+-- ---- what is read then
+
+-- of its own connection
+near_settled : (n : Origin) (i : ℕ) (b q : Bool) (c : Connection) (k : Known) (t : Told) → slice_get k.connections i ≡ Some c → IsOrdered t → (scene_in b c k).own.track ≡ Some t.track → t ≡ told_of t.track (scene_in b c k)
+    → Stepped c.number b k (settled_there n i q (Some c) k) t []
+near_settled n i true true c k t there ordered track is =
+    let s = scene_in true c k in
+    let w = own_settled n c.number true (given_in true c) s t track is in
+    let c' = with_scene true (settled (heading_at n c.number true) (given_in true c) s) c in
+    record { events = w.events; are = w.are; stands = inl (record { place = i; connection = c'; there = get_same k.connections i c c' there; number = refl; track = w.track; is = w.is; ordered = events_ordered w.events t ordered }); parts = w.parts; text = w.text; own = w.own }
+near_settled n i false false c k t there ordered track is =
+    let s = scene_in false c k in
+    let w = own_settled n c.number false (given_in false c) s t track is in
+    let c' = with_scene false (settled (heading_at n c.number false) (given_in false c) s) c in
+    record { events = w.events; are = w.are; stands = inl (record { place = i; connection = c'; there = get_same k.connections i c c' there; number = refl; track = w.track; is = w.is; ordered = events_ordered w.events t ordered }); parts = w.parts; text = w.text; own = w.own }
+near_settled n i true false c k t there ordered track is =
+    let s = scene_in false c k in
+    let w = other_settled n c.number false (given_in false c) s t track is in
+    let c' = with_scene false (settled (heading_at n c.number false) (given_in false c) s) c in
+    record { events = w.events; are = w.are; stands = inl (record { place = i; connection = c'; there = get_same k.connections i c c' there; number = refl; track = w.track; is = w.is; ordered = events_ordered w.events t ordered }); parts = w.parts; text = w.text; own = w.own }
+near_settled n i false true c k t there ordered track is =
+    let s = scene_in true c k in
+    let w = other_settled n c.number true (given_in true c) s t track is in
+    let c' = with_scene true (settled (heading_at n c.number true) (given_in true c) s) c in
+    record { events = w.events; are = w.are; stands = inl (record { place = i; connection = c'; there = get_same k.connections i c c' there; number = refl; track = w.track; is = w.is; ordered = events_ordered w.events t ordered }); parts = w.parts; text = w.text; own = w.own }
+
+pub settled_text : (n : Origin) (i : ℕ) (q : Bool) (c : Connection) (k : Known)
+    → (settled_there n i q (Some c) k).text ≡ k.text ++ parts_text (settled_says n c.number q (given_in q c) (scene_in q c k)).parts
+settled_text n i true c k = (settled_says n c.number true (given_in true c) (scene_in true c k)).text
+settled_text n i false c k = (settled_says n c.number false (given_in false c) (scene_in false c k)).text
+
+there_settled : (n : Origin) (m i : ℕ) (b q : Bool) (c : Connection) (k : Known) (t : Told) → IsNumbered k.connections k.count → slice_get k.connections i ≡ Some c → IsOn m b k t → Stepped m b k (settled_there n i q (Some c) k) t []
+there_settled n m i b q c k t numbered there on = by_number (m == c.number) refl on
+  where
+    v : Says c.number (scene_in q c k) (settled (heading_at n c.number q) (given_in q c) (scene_in q c k))
+    v = settled_says n c.number q (given_in q c) (scene_in q c k)
+
+    by_number : (p : Bool) → (m == c.number) ≡ p → IsOn m b k t → Stepped m b k (settled_there n i q (Some c) k) t []
+    by_number true e (inl a) =
+        let place : a.place ≡ i = numbered.alone a.place i a.connection c a.there there (a.number ∙ equal_tells m c.number e) in
+        let some : Some a.connection ≡ Some c = sym a.there ∙ ap (slice_get k.connections) place ∙ there in
+        let one : a.connection ≡ c = (cc) in
+        let track : (scene_in b c k).own.track ≡ Some t.track = ap (λ (x : Connection). (scene_in b x k).own.track) (sym one) ∙ a.track in
+        let is : t ≡ told_of t.track (scene_in b c k) = a.is ∙ ap (λ (x : Connection). told_of t.track (scene_in b x k)) one in
+        subst (λ g. Stepped g b k (settled_there n i q (Some c) k) t []) (sym (equal_tells m c.number e)) (near_settled n i b q c k t there a.ordered track is)
+    by_number true e (inr gone) = absurd (gone.none i c there (sym (equal_tells m c.number e)))
+    by_number false e (inl a) =
+        unchanged m b k (settled_there n i q (Some c) k) t v.parts (settled_text n i q c k) (v.far m b e) a
+        (get_set k.connections a.place i _ (other_place k a.place i a.connection c a.there there (λ same. number_tells m c.number e (sym a.number ∙ same))))
+    by_number false e (inr gone) =
+        stays_gone m b k (settled_there n i q (Some c) k) t v.parts (settled_text n i q c k) (v.far m b e)
+        (record { counted = gone.counted; none = gone_set m i k c _ t gone there (same_number q _ c); empty = gone.empty })
+
+pub settled_step : (n : Origin) (m i : ℕ) (b q : Bool) (k : Known) (t : Told) → IsNumbered k.connections k.count → IsOn m b k t → Stepped m b k (settled_at n i q k) t []
+unfolding settled_at
+settled_step n m i b q k t numbered on = by_connection (slice_get k.connections i) refl
+  where
+    by_connection : (o : Option Connection) → slice_get k.connections i ≡ o → Stepped m b k (settled_there n i q o k) t []
+    by_connection None there = nothing_step m b k t on
+    by_connection (Some c) there = there_settled n m i b q c k t numbered there on
+
+pub at_step : (n : Origin) (m i : ℕ) (b q : Bool) (packet : PacketModel) (f : Header) (content : List ℕ) (c : Connection) (k : Known) (t : Told) → IsNumbered k.connections k.count → slice_get k.connections i ≡ Some c → IsOn m b k t
+    → Stepped m b k (after_in n i q packet f content c k) t (events_between (flow_at m b) (flow_at c.number q) (heading_at n m b) f content (acknowledged_in q f c) (side_in b c).track (due_of b c))
+at_step n m i b q packet f content c k t numbered there on =
+    let happened = events_between (flow_at m b) (flow_at c.number q) (heading_at n m b) f content (acknowledged_in q f c) (side_in b c).track (due_of b c) in
+    let k' = taken_in n i q packet f content c k in
+    subst (Stepped m b k (after_in n i q packet f content c k) t) (append-nil happened)
+    (two_steps m b k k' (settled_at n i q k') t happened [] (taken_step n m i b q packet f content c k t numbered there on)
+    (λ u on'. settled_step n m i b q k' u (numbered_taken n i q packet f content c k there numbered) on'))
 
 -- ---- the end of a connection that begins anew
 
 -- the end of a flow is its event
-pub least_same : (a : ℕ) → min a a ≡ a
-least_same a = omega arith
-
 pub ended_event : (h : Heading) (s : Scene) (track : Track) → s.own.track ≡ Some track → ended h s ≡ after_told (after_events (acknowledged_event h (behind_last (Some track))) (told_of track s)) s
 unfolding ended advanced
 ended_event h s track e = ap (λ o. advance_own h (behind_last o) s) e ∙ by_last (last_number track.early) refl
@@ -290,7 +362,7 @@ first_ends n c k t track is =
     (other_text n m false (second_ended_said n m s))
     ∙ append-nil (flow_text (acknowledged_event h o) t)
 
-pub second_others : Origin → Connection → Known → Event
+unfoldable pub second_others : Origin → Connection → Known → Event
 second_others n c k =
     let s = ended (heading_at n c.number false) (scene_in false c k) in
     meanwhile (record { own = s.other.call; asked = s.own.call }) s.text s.is_refused
@@ -319,6 +391,11 @@ pub others_plain : (n : Origin) (c : Connection) (k : Known) (h : Heading) (o : 
 unfolding second_others
 others_plain n c k h o = ack_plain h o
 
+others_empty : (n : Origin) (c : Connection) (k : Known) (h : Heading) (t : Told) → IsOrdered t
+    → (after_events (second_others n c k ∷ acknowledged_event h (behind_last (Some t.track))) t).track.early ≡ []
+unfolding second_others
+others_empty n c k h t ordered = end_empty h (after_event (second_others n c k) t) ordered
+
 abbrev pub forgotten_parts : Origin → Connection → Known → List Part
 forgotten_parts n c k = ended_parts n c.number (scene_in false c k)
 
@@ -326,8 +403,9 @@ forgotten_parts n c k = ended_parts n c.number (scene_in false c k)
 pub next_other : (m n : ℕ) → m ≤ n → (m == n + 1) ≡ false
 next_other m n le = other_number m (n + 1) (omega (arith, le))
 
-pub gone_now : (k : Known) (i : ℕ) (flow : Flow) (n : Origin) (c : Connection) → IsNumbered k.connections k.count → slice_get k.connections i ≡ Some c → IsGone c.number (forgotten n i flow c k)
-gone_now k i flow n c numbered there = record {
+pub gone_now : (k : Known) (i : ℕ) (flow : Flow) (n : Origin) (c : Connection) (u : Told) → IsNumbered k.connections k.count → slice_get k.connections i ≡ Some c → u.track.early ≡ [] → IsGone c.number (forgotten n i flow c k) u
+gone_now k i flow n c u numbered there empty = record {
+  empty = empty;
   counted = let le : c.number ≤ k.count = numbered.below i c there in omega (arith, le);
   none = λ j d at is. by_case j d is (set_cases k.connections i j (new_connection (k.count + 1) flow) d at);
 }
@@ -336,8 +414,9 @@ gone_now k i flow n c numbered there = record {
     by_case j d is (inl (e, one)) = fresh_number d.number c.number k.count (ap (λ (x : Connection). x.number) one) (numbered.below i c there) is
     by_case j d is (inr (other, at)) = other (numbered.alone i j c d there at (sym is))
 
-pub gone_renewed : (m i : ℕ) (flow : Flow) (n : Origin) (c : Connection) (k : Known) → IsGone m k → IsGone m (forgotten n i flow c k)
-gone_renewed m i flow n c k gone = record {
+pub gone_renewed : (m i : ℕ) (flow : Flow) (n : Origin) (c : Connection) (k : Known) (t : Told) → IsGone m k t → IsGone m (forgotten n i flow c k) t
+gone_renewed m i flow n c k t gone = record {
+  empty = gone.empty;
   counted = let le : m ≤ k.count = gone.counted in omega (arith, le);
   none = λ j d at is. by_case j d is (set_cases k.connections i j (new_connection (k.count + 1) flow) d at);
 }
@@ -346,27 +425,27 @@ gone_renewed m i flow n c k gone = record {
     by_case j d is (inl (e, one)) = fresh_number d.number m k.count (ap (λ (x : Connection). x.number) one) gone.counted is
     by_case j d is (inr (other, at)) = gone.none j d at is
 
-pub forget_near : (n : Origin) (i : ℕ) (b : Bool) (flow : Flow) (c : Connection) (k : Known) (t : Told) → IsNumbered k.connections k.count → slice_get k.connections i ≡ Some c
+pub forget_near : (n : Origin) (i : ℕ) (b : Bool) (flow : Flow) (c : Connection) (k : Known) (t : Told) → IsNumbered k.connections k.count → slice_get k.connections i ≡ Some c → IsOrdered t
     → (scene_in b c k).own.track ≡ Some t.track → t ≡ told_of t.track (scene_in b c k)
     → Stepped c.number b k (forgotten n i flow c k) t (acknowledged_event (heading_at n c.number b) (behind_last (side_in b c).track))
-forget_near n i false flow c k t numbered there track is =
+forget_near n i false flow c k t numbered there ordered track is =
     let h = heading_at n c.number false in
     subst (λ o. Stepped c.number false k (forgotten n i flow c k) t (acknowledged_event h (behind_last o))) (sym track)
     (record {
       events = acknowledged_event h (behind_last (Some t.track));
       are = ack_plain h (behind_last (Some t.track));
-      stands = inr (gone_now k i flow n c numbered there);
+      stands = inr (gone_now k i flow n c (after_events (acknowledged_event h (behind_last (Some t.track))) t) numbered there (end_empty h t ordered));
       parts = forgotten_parts n c k;
       text = ended_text n c.number (scene_in false c k);
       own = first_ends n c k t track is;
     })
-forget_near n i true flow c k t numbered there track is =
+forget_near n i true flow c k t numbered there ordered track is =
     let h = heading_at n c.number true in
     subst (λ o. Stepped c.number true k (forgotten n i flow c k) t (acknowledged_event h (behind_last o))) (sym track)
     (record {
       events = second_others n c k ∷ acknowledged_event h (behind_last (Some t.track));
       are = others_plain n c k h (behind_last (Some t.track));
-      stands = inr (gone_now k i flow n c numbered there);
+      stands = inr (gone_now k i flow n c (after_events (second_others n c k ∷ acknowledged_event h (behind_last (Some t.track))) t) numbered there (others_empty n c k h t ordered));
       parts = forgotten_parts n c k;
       text = ended_text n c.number (scene_in false c k);
       own = second_ends n c k t track;
@@ -384,14 +463,14 @@ forget_step n m i b flow c k t numbered there on = by_number (m == c.number) ref
         let track : (scene_in b c k).own.track ≡ Some t.track = ap (λ (x : Connection). (scene_in b x k).own.track) (sym one) ∙ a.track in
         let is : t ≡ told_of t.track (scene_in b c k) = a.is ∙ ap (λ (x : Connection). told_of t.track (scene_in b x k)) one in
         subst (λ g. Stepped g b k (forgotten n i flow c k) t (acknowledged_event (heading_at n g b) (behind_last (side_in b c).track))) (sym (equal_tells m c.number e))
-        (forget_near n i b flow c k t numbered there track is)
+        (forget_near n i b flow c k t numbered there a.ordered track is)
     by_number true e (inr gone) = absurd (gone.none i c there (sym (equal_tells m c.number e)))
     by_number false e (inl a) =
         unchanged m b k (forgotten n i flow c k) t (forgotten_parts n c k) (ended_text n c.number (scene_in false c k)) (far_ended n m b c.number (scene_in false c k) e) a
         (get_set k.connections a.place i _ (other_place k a.place i a.connection c a.there there (λ same. number_tells m c.number e (sym a.number ∙ same))))
     by_number false e (inr gone) =
         stays_gone m b k (forgotten n i flow c k) t (forgotten_parts n c k) (ended_text n c.number (scene_in false c k)) (far_ended n m b c.number (scene_in false c k) e)
-        (gone_renewed m i flow n c k gone)
+        (gone_renewed m i flow n c k t gone)
 
 -- ---- a connection that begins
 
@@ -402,6 +481,10 @@ IsPlain = (flow : Flow) → is_place flow.source flow.source ≡ true
 pub none_due : (b : Bool) (number : ℕ) (flow : Flow) → due_of b (new_connection number flow) ≡ None
 none_due true number flow = refl
 none_due false number flow = refl
+
+pub none_acknowledged : (q : Bool) (f : Header) (number : ℕ) (flow : Flow) → acknowledged_in q f (new_connection number flow) ≡ None
+none_acknowledged true f number flow = refl
+none_acknowledged false f number flow = refl
 
 pub none_new : (b : Bool) (number : ℕ) (flow : Flow) → (side_in b (new_connection number flow)).track ≡ None
 none_new true number flow = refl
@@ -417,13 +500,14 @@ new_there plain n i flow packet f content number k there =
 -- its first packet is nothing to a flow that has begun before
 pub fresh_step : IsPlain → (n : Origin) (m i : ℕ) (b : Bool) (flow : Flow) (packet : PacketModel) (f : Header) (content : List ℕ) (number : ℕ) (k : Known) (t : Told) → IsNumbered k.connections k.count
     → slice_get k.connections i ≡ Some (new_connection number flow) → IsOn m b k t
-    → Stepped m b k (after_at n i flow packet f content k) t (events_between (flow_at m b) (flow_at number false) (heading_at n m b) f content None None)
+    → Stepped m b k (after_at n i flow packet f content k) t (events_between (flow_at m b) (flow_at number false) (heading_at n m b) f content None None None)
 fresh_step plain n m i b flow packet f content number k t numbered there on =
     let c = new_connection number flow in
-    subst (λ k'. Stepped m b k k' t (events_between (flow_at m b) (flow_at number false) (heading_at n m b) f content None None)) (sym (new_there plain n i flow packet f content number k there))
-    (subst (λ o. Stepped m b k (after_in n i false packet f content c k) t (events_between (flow_at m b) (flow_at number false) (heading_at n m b) f content None o)) (none_due b number flow)
-    (subst (λ o. Stepped m b k (after_in n i false packet f content c k) t (events_between (flow_at m b) (flow_at number false) (heading_at n m b) f content o (due_of b c))) (none_new b number flow)
-    (at_step n m i b false packet f content c k t numbered there on)))
+    subst (λ k'. Stepped m b k k' t (events_between (flow_at m b) (flow_at number false) (heading_at n m b) f content None None None)) (sym (new_there plain n i flow packet f content number k there))
+    (subst (λ o. Stepped m b k (after_in n i false packet f content c k) t (events_between (flow_at m b) (flow_at number false) (heading_at n m b) f content None None o)) (none_due b number flow)
+    (subst (λ o. Stepped m b k (after_in n i false packet f content c k) t (events_between (flow_at m b) (flow_at number false) (heading_at n m b) f content None o (due_of b c))) (none_new b number flow)
+    (subst (λ o. Stepped m b k (after_in n i false packet f content c k) t (events_between (flow_at m b) (flow_at number false) (heading_at n m b) f content o (side_in b c).track (due_of b c))) (none_acknowledged false f number flow)
+    (at_step n m i b false packet f content c k t numbered there on))))
 
 pub with_more : (m : ℕ) (b : Bool) (flow : Flow) (k : Known) (t : Told) → IsOn m b k t → IsOn m b (with_new flow k) t
 with_more m true flow k t (inl a) = inl (record {
@@ -433,6 +517,7 @@ with_more m true flow k t (inl a) = inl (record {
   number = a.number;
   track = a.track;
   is = a.is;
+  ordered = a.ordered;
 })
 with_more m false flow k t (inl a) = inl (record {
   place = a.place;
@@ -441,8 +526,10 @@ with_more m false flow k t (inl a) = inl (record {
   number = a.number;
   track = a.track;
   is = a.is;
+  ordered = a.ordered;
 })
 with_more m b flow k t (inr gone) = inr (record {
+  empty = gone.empty;
   counted = let le : m ≤ k.count = gone.counted in omega (arith, le);
   none = λ j d at is. by_case j d is (more_cases k.connections j (new_connection (k.count + 1) flow) d at);
 })
@@ -457,18 +544,18 @@ begun_before m b k t numbered (inr gone) = gone.counted
 
 -- a packet that begins a connection, or that is a system packet of none
 pub new_step : IsPlain → (n : Origin) (m : ℕ) (b : Bool) (flow : Flow) (packet : PacketModel) (f : Header) (content : List ℕ) (k : Known) (t : Told) → IsNumbered k.connections k.count → IsOn m b k t
-    → Stepped m b k (after_new_flow n flow packet f content k) t (events_between (flow_at m b) (next_name k) (heading_at n m b) f content None None)
+    → Stepped m b k (after_new_flow n flow packet f content k) t (events_between (flow_at m b) (next_name k) (heading_at n m b) f content None None None)
 new_step plain n m b flow packet f content k t numbered on = over (is_system f)
   where
     more : Known
     more = with_new flow k
 
     happened : List Event
-    happened = events_between (flow_at m b) (next_name k) (heading_at n m b) f content None None
+    happened = events_between (flow_at m b) (next_name k) (heading_at n m b) f content None None None
 
     none : happened ≡ []
     none =
-        ap (λ (p : Bool). cond p (near_events n m b false f content None None) [])
+        ap (λ (p : Bool). cond p (near_events n m b false f content None None None) [])
         (next_other m k.count (begun_before m b k t numbered on))
 
     over : (p : Bool) → Stepped m b k (cond p k (after_at n (length k.connections) flow packet f content more)) t happened
@@ -491,20 +578,20 @@ place_step plain n m i b packet f content c k t numbered there on =
 
     by_anew : (p : Bool)
         → Stepped m b k (after_at n i flow packet f content (cond p (forgotten n i flow c k) k)) t
-        (cond p (ending_events (flow_at m b) (heading_at n m b) c ++ events_between (flow_at m b) (next_name k) (heading_at n m b) f content None None)
-        (events_between (flow_at m b) (name_in flow c) (heading_at n m b) f content (side_in b c).track (due_of b c)))
+        (cond p (ending_events (flow_at m b) (heading_at n m b) c ++ events_between (flow_at m b) (next_name k) (heading_at n m b) f content None None None)
+        (events_between (flow_at m b) (name_in flow c) (heading_at n m b) f content (acknowledged_in (is_behind_in flow c) f c) (side_in b c).track (due_of b c)))
     by_anew true =
         two_steps m b k (forgotten n i flow c k) (after_at n i flow packet f content (forgotten n i flow c k)) t (ending_events (flow_at m b) (heading_at n m b) c)
-        (events_between (flow_at m b) (next_name k) (heading_at n m b) f content None None)
+        (events_between (flow_at m b) (next_name k) (heading_at n m b) f content None None None)
         (forget_step n m i b flow c k t numbered there on)
         (λ u on'. fresh_step plain n m i b flow packet f content (k.count + 1) (forgotten n i flow c k) u
         (numbered_renewed k.connections k.count i (new_connection (k.count + 1) flow) numbered refl)
         (get_same k.connections i c (new_connection (k.count + 1) flow) there) on')
     by_anew false = there_step
       where
-        there_step : Stepped m b k (after_at n i flow packet f content k) t (events_between (flow_at m b) (name_in flow c) (heading_at n m b) f content (side_in b c).track (due_of b c))
+        there_step : Stepped m b k (after_at n i flow packet f content k) t (events_between (flow_at m b) (name_in flow c) (heading_at n m b) f content (acknowledged_in (is_behind_in flow c) f c) (side_in b c).track (due_of b c))
         there_step =
-            subst (λ o. Stepped m b k (after_there n i flow packet f content o k) t (events_between (flow_at m b) (name_in flow c) (heading_at n m b) f content (side_in b c).track (due_of b c))) (sym there)
+            subst (λ o. Stepped m b k (after_there n i flow packet f content o k) t (events_between (flow_at m b) (name_in flow c) (heading_at n m b) f content (acknowledged_in (is_behind_in flow c) f c) (side_in b c).track (due_of b c))) (sym there)
             (at_step n m i b (is_behind_in flow c) packet f content c k t numbered there on)
 
 pub sequenced_step : IsPlain → (n : Origin) (m : ℕ) (b : Bool) (packet : PacketModel) (f : Header) (content : List ℕ) (k : Known) (t : Told) → IsNumbered k.connections k.count → IsOn m b k t

@@ -22,7 +22,8 @@ use Rattle.xns_calls.specs.declared.heading.Heading.{Heading}
 use Rattle.xns_calls.proofs.Numbered.{IsNumbered, numbered_sequenced}
 use Rattle.xns_calls.specs.declared.origin.Origin.{Origin}
 use Rattle.xns_calls.specs.Origins.{line_origin}
-use Rattle.xns_calls.proofs.Parts.{after_append, flow_append, flow_at, plain, plain_one}
+use Rattle.xns_calls.proofs.Whole.{after_append}
+use Rattle.xns_calls.proofs.Parts.{flow_append, flow_at, plain, plain_one}
 use Rattle.xns_calls.proofs.Happenings.{IsOn, IsPlain, Stepped, nothing_step, sequenced_step, stays_gone, still, unchanged}
 
 -- ---- a line
@@ -55,7 +56,7 @@ module _ (programs : Programs) where
   refused_step m b k t part none (inl a) =
       unchanged m b k (refuse (part_text part) k) t (part ∷ []) (ap (λ z. k.text ++ z) (sym (append-nil (part_text part)))) (ap (λ z. z ++ []) none) a refl
   refused_step m b k t part none (inr gone) =
-      stays_gone m b k (refuse (part_text part) k) t (part ∷ []) (ap (λ z. k.text ++ z) (sym (append-nil (part_text part)))) (ap (λ z. z ++ []) none) (record { counted = gone.counted; none = gone.none })
+      stays_gone m b k (refuse (part_text part) k) t (part ∷ []) (ap (λ z. k.text ++ z) (sym (append-nil (part_text part)))) (ap (λ z. z ++ []) none) (record { counted = gone.counted; none = gone.none; empty = gone.empty })
 
   line_step : IsPlain → (n m : ℕ) (b : Bool) (k : Known) (t : Told) → IsNumbered k.connections k.count → IsOn m b k t → (line : List ℕ) → Stepped m b k (after_line programs n line k) t (events_at (flow_at m b) (line_origin programs n) (arrival line) k)
   line_step plain n m b k t numbered on line =
@@ -91,9 +92,9 @@ pub events_front : (p : FlowName) (n : Origin) (o : Option Arrival) (k : Known) 
 events_front p n None k = refl
 events_front p n (Some a) k = there_front p (heading_at n p.connection p.is_behind) a (connection_of a.0 a.1 k.connections) k
 
-from_front : (m : ℕ) (b : Bool) (k : Known) (t : Told) → IsOn m b k t → IsOn m b (record k { text = [] }) (with_others t.calls [] k.is_refused t)
+pub from_front : (m : ℕ) (b : Bool) (k : Known) (t : Told) → IsOn m b k t → IsOn m b (record k { text = [] }) (with_others t.calls [] k.is_refused t)
 from_front m b k t (inl a) = inl (still m b k (record k { text = [] }) t a refl)
-from_front m b k t (inr gone) = inr (record { counted = gone.counted; none = gone.none })
+from_front m b k t (inr gone) = inr (record { counted = gone.counted; none = gone.none; empty = gone.empty })
 
 module _ (programs : Programs) where
   pub lines_ran : IsPlain → (n m : ℕ) (b : Bool) (k : Known) (t : Told) → IsNumbered k.connections k.count → IsOn m b k t → (lines : List (List ℕ)) → Ran m b (text_from programs n k lines) (known_from programs n k lines) t (events_from programs (flow_at m b) n k lines)

@@ -6,14 +6,15 @@ use Rattle.xns_spp.specs.declared.header.Header.{Header}
 use Rattle.xns_dump.specs.Flows.{flow_of}
 use Rattle.xns_dump.specs.declared.flows.flow.Flow.{Flow}
 use Rattle.xns_calls.specs.Naming.{Programs}
-use Rattle.xns_calls.specs.Acknowledged.{due_in, noted}
+use Rattle.xns_calls.specs.Acknowledged.{due_in, given_in, noted}
 use Rattle.xns_calls.specs.Anew.{begins_anew, begins_items}
 use Rattle.xns_calls.specs.Calls.{known_from, line_taken}
-use Rattle.xns_calls.specs.Capture.{Known, after_at, after_in, after_sequenced, after_there, forgotten, heading_at, is_behind_in, place_of, renewed, renewed_there, scene_in, with_scene}
+use Rattle.xns_calls.specs.Capture.{Known, after_at, after_in, after_sequenced, after_there, forgotten, heading_at, is_behind_in, place_of, renewed, renewed_there, scene_in, settled_at, settled_there, taken_in, with_scene}
 use Rattle.xns_calls.specs.Exchange.{Scene, after_packet}
 use Rattle.xns_calls.specs.Input.{Arrival, arrival}
 use Rattle.xns_calls.specs.Living.{AnswersNothing, IsNotAnswered, is_answered}
 use Rattle.xns_calls.specs.Origins.{line_origin}
+use Rattle.xns_calls.specs.Read.{settled}
 use Rattle.xns_calls.specs.Over.{brings_item, closed_with, closes, closing_in, closing_with, has_ended, has_replied, with_end}
 use Rattle.xns_calls.specs.declared.closing.Closing.{Closing}
 use Rattle.xns_calls.specs.declared.closing.Closing.TheVariants.{Open, End, EndReply}
@@ -22,7 +23,7 @@ use Rattle.xns_calls.specs.declared.origin.Origin.{Origin}
 use Rattle.xns_calls.proofs.Gaps.{equal_tells}
 use Rattle.xns_calls.proofs.Inputs.{line_is}
 use Rattle.xns_calls.proofs.Parts.{number_tells}
-use Rattle.xns_calls.proofs.Numbered.{scene_number}
+use Rattle.xns_calls.proofs.Numbered.{same_number, scene_number}
 use Rattle.xns_calls.proofs.Others.{get_same, others_same}
 use Rattle.xns_calls.proofs.Standing.{after_there as after_there_at}
 use Rattle.xns_calls.proofs.Whole.{get_below}
@@ -58,6 +59,14 @@ answered_same : (q : Bool) (f : Header) (c : Connection) (s : Scene) → (f.stre
 answered_same true f c s other = ap (λ p. has_replied c.first_closing || p) (closing_replies true f c other)
 answered_same false f c s other = ap (λ p. p || has_replied c.second_closing) (closing_replies false f c other)
 
+still_answered : (q : Bool) (s : Scene) (c : Connection) → is_answered (with_scene q s c) ≡ is_answered c
+still_answered true s c = refl
+still_answered false s c = refl
+
+settled_with : (n : Origin) (i : ℕ) (q : Bool) (k : Known) (c : Connection) → slice_get k.connections i ≡ Some c → settled_at n i q k ≡ settled_there n i q (Some c) k
+unfolding settled_at
+settled_with n i q k c there = ap (λ o. settled_there n i q o k) there
+
 -- ---- a connection that is not answered is not over
 
 and_false : (p : Bool) → (p && false) ≡ false
@@ -77,13 +86,18 @@ own_stays : (n : Origin) (i number : ℕ) (flow : Flow) (packet : PacketModel) (
 unfolding Stays renewed after_at
 own_stays n i number flow packet f content k other (c, there, is, quiet) =
     let q = is_behind_in flow c in
-    let s = after_packet (heading_at n c.number q) (due_in q c) packet f content (scene_in q c k) in
+    let s = after_packet (heading_at n c.number q) (due_in q f c) packet f content (scene_in q c k) in
     let c' = with_scene q s (noted q f c) in
+    let k' = taken_in n i q packet f content c k in
+    let there' : slice_get k'.connections i ≡ Some c' = get_same k.connections i c c' there in
+    let z = settled (heading_at n c'.number q) (given_in q c') (scene_in q c' k') in
+    let c'' = with_scene q z c' in
+    let reads : settled_at n i q k' ≡ settled_there n i q (Some c') k' = settled_with n i q k' c' there' in
     let same : renewed_there n i flow f (slice_get k.connections i) k ≡ k =
     ap (λ o. renewed_there n i flow f o k) there ∙ ap (λ p. cond p (forgotten n i flow c k) k) (never_anew f c quiet) in
     let takes : after_there n i flow packet f content (slice_get k.connections i) k ≡ after_in n i q packet f content c k = ap (λ o. after_there n i flow packet f content o k) there in
     subst (λ (x : Known). (d : Connection) × (slice_get (after_there n i flow packet f content (slice_get x.connections i) x).connections i ≡ Some d) × (d.number ≡ number) × (is_answered d ≡ false)) (sym same)
-    (c', ap (λ (x : Known). slice_get x.connections i) takes ∙ get_same k.connections i c c' there, scene_number q s f c ∙ is, answered_same q f c s other ∙ quiet)
+    (c'', ap (λ (x : Known). slice_get x.connections i) (takes ∙ reads) ∙ get_same k'.connections i c' c'' there', same_number q z c' ∙ scene_number q s f c ∙ is, still_answered q z c' ∙ answered_same q f c s other ∙ quiet)
 
 other_stays : (n : Origin) (i number : ℕ) (packet : PacketModel) (f : Header) (content : List ℕ) (k : Known) → (place_of (flow_of packet f) k.connections ≡ Some i → ⊥) → Stays i number k
     → Stays i number (after_sequenced n packet f content k)

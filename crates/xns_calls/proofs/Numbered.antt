@@ -8,7 +8,7 @@ use Rattle.xns_dump.specs.Flows.{flow_of}
 use Rattle.xns_dump.specs.declared.flows.flow.Flow.{Flow}
 use Rattle.xns_calls.specs.Acknowledged.{noted}
 use Rattle.xns_calls.specs.Anew.{begins_anew}
-use Rattle.xns_calls.specs.Capture.{Known, after_at, after_place, after_sequenced, after_there, forgotten, is_behind_in, new_connection, place_of, renewed, renewed_there, with_new, with_scene}
+use Rattle.xns_calls.specs.Capture.{Known, after_at, after_place, after_sequenced, after_there, forgotten, is_behind_in, new_connection, place_of, renewed, renewed_there, settled_at, settled_there, taken_in, with_new, with_scene}
 use Rattle.xns_calls.specs.Exchange.{Scene}
 use Rattle.xns_calls.specs.Over.{side_in}
 use Rattle.xns_calls.specs.declared.connection.Connection.{Connection}
@@ -133,7 +133,7 @@ keep_more m b cs c' o all new j d e is = by_case (more_cases cs j c' d e)
 
 -- ---- a packet
 
-AreNumbered : Known → Type 0
+abbrev pub AreNumbered : Known → Type 0
 AreNumbered k = IsNumbered k.connections k.count
 
 -- a flow that changes leaves the number
@@ -141,18 +141,34 @@ pub scene_number : (b : Bool) (s : Scene) (f : Header) (c : Connection) → (wit
 scene_number true s f c = refl
 scene_number false s f c = refl
 
+pub same_number : (b : Bool) (s : Scene) (c : Connection) → (with_scene b s c).number ≡ c.number
+same_number true s c = refl
+same_number false s c = refl
+
+pub numbered_settled : (n : Origin) (i : ℕ) (q : Bool) (k : Known) → AreNumbered k → AreNumbered (settled_at n i q k)
+unfolding settled_at
+numbered_settled n i q k w = by_connection (slice_get k.connections i) refl
+  where
+    by_connection : (o : Option Connection) → slice_get k.connections i ≡ o → AreNumbered (settled_there n i q o k)
+    by_connection None there = w
+    by_connection (Some c) there = numbered_set k.connections k.count i c _ w there (same_number q _ c)
+
+pub numbered_taken : (n : Origin) (i : ℕ) (q : Bool) (packet : PacketModel) (f : Header) (content : List ℕ) (c : Connection) (k : Known) → slice_get k.connections i ≡ Some c → AreNumbered k
+    → AreNumbered (taken_in n i q packet f content c k)
+numbered_taken n i q packet f content c k there w = numbered_set k.connections k.count i c _ w there (scene_number q _ f c)
+
 numbered_there : (n : Origin) (i : ℕ) (flow : Flow) (packet : PacketModel) (f : Header) (content : List ℕ) (o : Option Connection) (k : Known) → slice_get k.connections i ≡ o → AreNumbered k
     → AreNumbered (after_there n i flow packet f content o k)
-unfolding AreNumbered
 numbered_there n i flow packet f content None k there w = w
-numbered_there n i flow packet f content (Some c) k there w = numbered_set k.connections k.count i c _ w there (scene_number (is_behind_in flow c) _ f c)
+numbered_there n i flow packet f content (Some c) k there w =
+    let q = is_behind_in flow c in numbered_settled n i q (taken_in n i q packet f content c k) (numbered_taken n i q packet f content c k there w)
 
 numbered_at : (n : Origin) (i : ℕ) (flow : Flow) (packet : PacketModel) (f : Header) (content : List ℕ) (k : Known) → AreNumbered k → AreNumbered (after_at n i flow packet f content k)
 unfolding after_at
 numbered_at n i flow packet f content k w = numbered_there n i flow packet f content (slice_get k.connections i) k refl w
 
 numbered_place : (n : Origin) (flow : Flow) (packet : PacketModel) (f : Header) (content : List ℕ) (o : Option ℕ) (k : Known) → AreNumbered k → AreNumbered (after_place n flow packet f content o k)
-unfolding AreNumbered renewed
+unfolding renewed
 numbered_place n flow packet f content (Some i) k w = numbered_at n i flow packet f content (renewed n i flow f k) (by_connection (slice_get k.connections i))
   where
     by_anew : (c : Connection) (p : Bool) → AreNumbered (cond p (forgotten n i flow c k) k)
@@ -171,5 +187,5 @@ numbered_place n flow packet f content None k w = by_system (is_system f)
 
 pub numbered_sequenced : (n : Origin) (packet : PacketModel) (f : Header) (content : List ℕ) (k : Known) → IsNumbered k.connections k.count
     → IsNumbered (after_sequenced n packet f content k).connections (after_sequenced n packet f content k).count
-unfolding after_sequenced AreNumbered
+unfolding after_sequenced
 numbered_sequenced n packet f content k w = numbered_place n (flow_of packet f) packet f content (place_of (flow_of packet f) k.connections) k w

@@ -2,21 +2,22 @@
 use Rattle.std.proofs.Common.{◌≡◌, ◌∙◌, ap, sym, refl, ℕ, ◌%◌, ◌+◌, ◌<◌, ◌≤◌, Bool, true, false, cond, List, [], Option, Some, None}
 use Rattle.xns_idp.specs.Packet.{PacketModel}
 use Rattle.xns_spp.specs.Header.{is_system}
-use Rattle.xns_spp.specs.Item.{item_with}
 use Rattle.xns_spp.specs.Laws.{NearestNumberIsReadBack}
 use Rattle.xns_spp.specs.Nearest.{field_round, half_round, nearest}
 use Rattle.xns_spp.specs.Numbers.{most_items}
 use Rattle.xns_spp.specs.declared.header.Header.{Header}
-use Rattle.xns_spp.specs.declared.item.Item.{Item}
+use Rattle.xns_calls.specs.declared.carried.Carried.{Carried}
 use Rattle.xns_calls.specs.declared.due.Due.{Due}
 use Rattle.xns_calls.specs.declared.heading.Heading.{Heading}
 use Rattle.xns_calls.specs.declared.track.Track.{Track}
 use Rattle.xns_calls.specs.Events.{acknowledged_event, after_events, brought_if, captured_event, own_events}
-use Rattle.xns_calls.specs.Exchange.{Scene, advance_other, advance_own, advance_track, advanced, after_content, after_data, after_new, after_number, after_packet, after_told, begin_track, begun, behind_last, ended, new_number, of_other, other_reached, own_reached, reached, seen_from_other, take_in_track, take_number, told_of, unless_repeat, up_to}
+use Rattle.xns_calls.specs.Exchange.{Scene, advance_other, advance_own, advance_track, advanced, after_content, after_data, after_new, after_number, after_packet, after_told, begin_track, begun, behind_last, carried, ended, new_number, of_other, other_reached, own_reached, reached, seen_from_other, take_in_track, take_number, told_of, unless_repeat, up_to}
 use Rattle.xns_calls.specs.Numbers.{near}
 use Rattle.xns_calls.specs.Queue.{last_number}
+use Rattle.xns_calls.specs.Read.{own_read, read_in_track}
+use Rattle.xns_calls.specs.Reading.{first_read}
+use Rattle.xns_calls.proofs.Whole.{after_append}
 use Rattle.xns_calls.proofs.Gaps.{item_event, lt_false}
-use Rattle.xns_calls.proofs.Parts.{after_append}
 
 -- a flow that is put back as it was
 pub put_back : (s : Scene) (track : Track) → s.own.track ≡ Some track → after_told (told_of track s) s ≡ s
@@ -41,11 +42,11 @@ pub ended_other : (h : Heading) (s : Scene) → (ended h s).other.track ≡ s.ot
 unfolding ended
 ended_other h s = own_other h (behind_last s.own.track) s
 
-taken_other : (h : Heading) (n : ℕ) (item : Item) (o : Option Track) (s : Scene) → (take_in_track h n item o s).other.track ≡ s.other.track
+taken_other : (h : Heading) (n : ℕ) (item : Carried) (o : Option Track) (s : Scene) → (take_in_track h n item o s).other.track ≡ s.other.track
 taken_other h n item None s = refl
 taken_other h n item (Some track) s = refl
 
-number_other : (h : Heading) (o : Option ℕ) (item : Item) (s : Scene) → (after_number h o item s).other.track ≡ s.other.track
+number_other : (h : Heading) (o : Option ℕ) (item : Carried) (s : Scene) → (after_number h o item s).other.track ≡ s.other.track
 unfolding after_new
 number_other h None item s = refl
 number_other h (Some n) item s = taken_other h n item s.own.track s
@@ -54,18 +55,18 @@ begin_other : (h : Heading) (packet : PacketModel) (f : Header) (o : Option Trac
 begin_other h packet f None s = refl
 begin_other h packet f (Some track) s = refl
 
-data_other : (h : Heading) (packet : PacketModel) (f : Header) (content : List ℕ) (s : Scene) → (after_data h packet f content s).other.track ≡ s.other.track
+data_other : (h : Heading) (a : Option ℕ) (packet : PacketModel) (f : Header) (content : List ℕ) (s : Scene) → (after_data h a packet f content s).other.track ≡ s.other.track
 unfolding after_data begun
-data_other h packet f content s =
-    number_other h (new_number (begun h packet f s).own.track f.sequence) (item_with f content) (begun h packet f s) ∙ begin_other h packet f s.own.track s
+data_other h a packet f content s =
+    number_other h (new_number (begun h packet f s).own.track f.sequence) (carried h a f content) (begun h packet f s) ∙ begin_other h packet f s.own.track s
 
-content_other : (h : Heading) (packet : PacketModel) (f : Header) (content : List ℕ) (s : Scene) → (after_content h packet f content s).other.track ≡ s.other.track
+pub content_other : (h : Heading) (a : Option ℕ) (packet : PacketModel) (f : Header) (content : List ℕ) (s : Scene) → (after_content h a packet f content s).other.track ≡ s.other.track
 unfolding after_content
-content_other h packet f content s = over (is_system f)
+content_other h a packet f content s = over (is_system f)
   where
-    over : (p : Bool) → (cond p s (after_data h packet f content s)).other.track ≡ s.other.track
+    over : (p : Bool) → (cond p s (after_data h a packet f content s)).other.track ≡ s.other.track
     over true = refl
-    over false = data_other h packet f content s
+    over false = data_other h a packet f content s
 
 reached_other : (h : Heading) (number : Option ℕ) (s : Scene) → (own_reached h number s).other.track ≡ s.other.track
 unfolding own_reached
@@ -75,7 +76,7 @@ pub packet_other : (h : Heading) (due : Due) (packet : PacketModel) (f : Header)
 unfolding after_packet
 packet_other h due packet f content s =
     let known = other_reached h due.other s in
-    reached_other h due.own (after_content h packet f content known) ∙ content_other h packet f content known
+    reached_other h due.own (after_content h due.acknowledged packet f content known) ∙ content_other h due.acknowledged packet f content known
 
 -- ---- what takes effect with it
 
@@ -133,7 +134,7 @@ pub reached_own : (h : Heading) (number : Option ℕ) (s : Scene) → (other_rea
 unfolding other_reached
 reached_own h number s = other_own h (reached s.other.track number) s
 
-pub number_event : (h : Heading) (f : Header) (item : Item) (s : Scene) (track : Track) (o : Option ℕ) → s.own.track ≡ Some track → near track.next f.sequence ≡ o
+pub number_event : (h : Heading) (f : Header) (item : Carried) (s : Scene) (track : Track) (o : Option ℕ) → s.own.track ≡ Some track → near track.next f.sequence ≡ o
     → take_number h f item s ≡ after_told (after_events (captured_event h o item) (told_of track s)) s
 number_event h f item s track None e at =
     ap (λ o. after_number h o item s) (ap (λ o. new_number o f.sequence) e ∙ ap (unless_repeat track) at) ∙ sym (put_back s track e)
@@ -143,35 +144,54 @@ begun_same : (h : Heading) (packet : PacketModel) (f : Header) (s : Scene) (trac
 unfolding begun
 begun_same h packet f s track e = ap (λ o. begin_track h packet f o s) e
 
-data_event : (h : Heading) (packet : PacketModel) (f : Header) (content : List ℕ) (s : Scene) (track : Track) → s.own.track ≡ Some track
-    → after_data h packet f content s ≡ after_told (after_events (captured_event h (near track.next f.sequence) (item_with f content)) (told_of track s)) s
+data_event : (h : Heading) (a : Option ℕ) (packet : PacketModel) (f : Header) (content : List ℕ) (s : Scene) (track : Track) → s.own.track ≡ Some track
+    → after_data h a packet f content s ≡ after_told (after_events (captured_event h (near track.next f.sequence) (carried h a f content)) (told_of track s)) s
 unfolding after_data
-data_event h packet f content s track e =
-    ap (take_number h f (item_with f content)) (begun_same h packet f s track e) ∙ number_event h f (item_with f content) s track (near track.next f.sequence) e refl
+data_event h a packet f content s track e =
+    ap (take_number h f (carried h a f content)) (begun_same h packet f s track e) ∙ number_event h f (carried h a f content) s track (near track.next f.sequence) e refl
 
-content_events : (h : Heading) (packet : PacketModel) (f : Header) (content : List ℕ) (s : Scene) (track : Track) → s.own.track ≡ Some track
-    → after_content h packet f content s
-    ≡ after_told (after_events (cond (is_system f) [] (captured_event h (near track.next f.sequence) (item_with f content))) (told_of track s)) s
+pub content_events : (h : Heading) (a : Option ℕ) (packet : PacketModel) (f : Header) (content : List ℕ) (s : Scene) (track : Track) → s.own.track ≡ Some track
+    → after_content h a packet f content s
+    ≡ after_told (after_events (cond (is_system f) [] (captured_event h (near track.next f.sequence) (carried h a f content))) (told_of track s)) s
 unfolding after_content
-content_events h packet f content s track e = over (is_system f)
+content_events h a packet f content s track e = over (is_system f)
   where
-    over : (p : Bool) → cond p s (after_data h packet f content s)
-        ≡ after_told (after_events (cond p [] (captured_event h (near track.next f.sequence) (item_with f content))) (told_of track s)) s
+    over : (p : Bool) → cond p s (after_data h a packet f content s)
+        ≡ after_told (after_events (cond p [] (captured_event h (near track.next f.sequence) (carried h a f content))) (told_of track s)) s
     over true = sym (put_back s track e)
-    over false = data_event h packet f content s track e
+    over false = data_event h a packet f content s track e
 
 pub packet_events : (h : Heading) (due : Due) (packet : PacketModel) (f : Header) (content : List ℕ) (s : Scene) (track : Track) → s.own.track ≡ Some track
     → after_packet h due packet f content s
-    ≡ after_told (after_events (own_events h due.own f content track (other_reached h due.other s)) (told_of track s)) (other_reached h due.other s)
+    ≡ after_told (after_events (own_events h due f content track (other_reached h due.other s)) (told_of track s)) (other_reached h due.other s)
 unfolding after_packet
 packet_events h due packet f content s track e =
     let known = other_reached h due.other s in
-    let items = cond (is_system f) [] (captured_event h (near track.next f.sequence) (item_with f content)) in
+    let items = cond (is_system f) [] (captured_event h (near track.next f.sequence) (carried h due.acknowledged f content)) in
     let acks = acknowledged_event h due.own in
     let u = after_events items (told_of track known) in
-    ap (own_reached h due.own) (content_events h packet f content known track (reached_own h due.other s ∙ e))
+    ap (own_reached h due.own) (content_events h due.acknowledged packet f content known track (reached_own h due.other s ∙ e))
     ∙ own_reached_event h due.own (after_told u known) u.track refl
     ∙ ap (λ t. after_told t known) (sym (after_append items acks (told_of track known)))
+
+-- ---- what is read then
+
+-- the first item of a flow is read: that is an event of the flow
+pub read_event : (h : Heading) (s : Scene) (track : Track) → s.own.track ≡ Some track → own_read h s ≡ after_told (first_read h (told_of track s)) s
+unfolding own_read
+read_event h s track e = ap (λ o. read_in_track h o s) e
+
+pub read_other : (h : Heading) (s : Scene) → (own_read h s).other.track ≡ s.other.track
+unfolding own_read
+read_other h s = by_track s.own.track
+  where
+    by_track : (o : Option Track) → (read_in_track h o s).other.track ≡ s.other.track
+    by_track None = refl
+    by_track (Some track) = refl
+
+pub read_none : (h : Heading) (s : Scene) → s.own.track ≡ None → own_read h s ≡ s
+unfolding own_read
+read_none h s e = ap (λ o. read_in_track h o s) e
 
 -- ---- the numbers of items
 

@@ -8,8 +8,9 @@ use Rattle.std.proofs.Math.Seq.{drop-append_seam}
 use Rattle.xns_idp.specs.Packet.{PacketModel}
 use Rattle.xns_spp.specs.declared.header.Header.{Header}
 use Rattle.xns_spp.specs.declared.item.Item.{Item}
+use Rattle.xns_calls.specs.declared.carried.Carried.{Carried}
 use Rattle.xns_calls.specs.Capture.{Known, heading_at, scene_in}
-use Rattle.xns_calls.specs.Events.{AreWithinReach, Event, IsAmong, acknowledged, acknowledged_event, after_event, after_events, captured, captured_event, captured_in, meanwhile}
+use Rattle.xns_calls.specs.Events.{AreWithinReach, Event, IsAmong, acknowledged, acknowledged_event, after_event, after_events, captured, captured_event, captured_in, meanwhile, read}
 use Rattle.xns_calls.specs.Exchange.{Scene, after_packet, both_ended, ended, of_other, other_reached, seen_from_other}
 use Rattle.xns_calls.specs.Input.{FlowName, Part, Said, is_same, parts_text, said_texts, text_in, told}
 use Rattle.xns_calls.specs.Reading.{Told}
@@ -18,6 +19,7 @@ use Rattle.xns_calls.specs.declared.connection.Connection.{Connection}
 use Rattle.xns_calls.specs.declared.due.Due.{Due}
 use Rattle.xns_calls.specs.declared.heading.Heading.{Heading}
 use Rattle.xns_calls.proofs.Adding.{Adds, both_add, ended_adds, packet_adds, reached_adds}
+use Rattle.xns_calls.proofs.Whole.{after_append}
 use Rattle.xns_calls.specs.declared.origin.Origin.{Origin}
 
 -- ---- texts
@@ -29,7 +31,7 @@ pub added : (h : Heading) (a b : List ℕ) → (x : Adds h a b) → drop (length
 added h a b x = ap (drop (length a)) x.is ∙ drop-append_seam a (said_texts h x.said)
 
 -- what an event prints is what is new in the text
-pub captured_new : (h : Heading) (o : Option ℕ) (item : Item) (t : Told)
+pub captured_new : (h : Heading) (o : Option ℕ) (item : Carried) (t : Told)
     → flow_text (captured_event h o item) t ≡ drop (length t.text) (after_events (captured_event h o item) t).text
 captured_new h None item t = sym (drop_all t.text)
 captured_new h (Some n) item t = append-nil (new_text (captured h n item) t)
@@ -39,7 +41,7 @@ pub acknowledged_new : (h : Heading) (o : Option ℕ) (t : Told)
 acknowledged_new h None t = sym (drop_all t.text)
 acknowledged_new h (Some n) t = append-nil (new_text (acknowledged h n) t)
 
-pub item_new : (p : Bool) (h : Heading) (o : Option ℕ) (item : Item) (t : Told)
+pub item_new : (p : Bool) (h : Heading) (o : Option ℕ) (item : Carried) (t : Told)
     → flow_text (cond p [] (captured_event h o item)) t ≡ drop (length t.text) (after_events (cond p [] (captured_event h o item)) t).text
 item_new true h o item t = sym (drop_all t.text)
 item_new false h o item t = captured_new h o item t
@@ -50,12 +52,8 @@ flow_append (e ∷ xs) ys t =
     ap (λ z. new_text e t ++ z) (flow_append xs ys (after_event e t))
     ∙ sym (append_assoc (new_text e t) (flow_text xs (after_event e t)) (flow_text ys (after_events xs (after_event e t))))
 
-pub after_append : (xs ys : List Event) (t : Told) → after_events (xs ++ ys) t ≡ after_events ys (after_events xs t)
-after_append [] ys t = refl
-after_append (e ∷ xs) ys t = after_append xs ys (after_event e t)
-
 -- so do an item, and what takes effect behind it
-pub both_new : (p : Bool) (h : Heading) (o : Option ℕ) (item : Item) (a : Option ℕ) (t : Told)
+pub both_new : (p : Bool) (h : Heading) (o : Option ℕ) (item : Carried) (a : Option ℕ) (t : Told)
     → flow_text (cond p [] (captured_event h o item) ++ acknowledged_event h a) t ≡ drop (length t.text) (after_events (cond p [] (captured_event h o item) ++ acknowledged_event h a) t).text
 both_new p h o item a t =
     let items = cond p [] (captured_event h o item) in
@@ -70,11 +68,12 @@ both_new p h o item a t =
     ∙ ap (drop (length t.text)) (sym (x.1.is ∙ ap (λ z. z ++ said_texts h x.1.said) x.0.is ∙ append_assoc t.text (said_texts h x.0.said) (said_texts h x.1.said)))
     ∙ ap (λ (w : Told). drop (length t.text) w.text) (sym (after_append items acks t))
 
--- ---- what others do meanwhile is nothing to whether a flow is whole
+-- ---- what others do meanwhile, and when items are read, is nothing to whether a flow is whole
 
 abbrev pub plain_one : Event → List Event
 plain_one (captured h n item) = captured h n item ∷ []
 plain_one (acknowledged h n) = acknowledged h n ∷ []
+plain_one (read h) = []
 plain_one (meanwhile calls text is_refused) = []
 
 abbrev pub plain : List Event → List Event
@@ -84,18 +83,21 @@ pub plain_of : (items : List Item) (events : List Event) → AreOf items (plain 
 plain_of items [] h = tt
 plain_of items (captured heading n item ∷ more) h = (h.0, plain_of items more h.1)
 plain_of items (acknowledged heading n ∷ more) h = (h.0, plain_of items more h.1)
+plain_of items (read heading ∷ more) h = (tt, plain_of items more h)
 plain_of items (meanwhile calls text is_refused ∷ more) h = (tt, plain_of items more h)
 
 pub plain_captured : (events : List Event) (before : List ℕ) → captured_in (plain events) before ≡ captured_in events before
 plain_captured [] before = refl
 plain_captured (captured h n item ∷ more) before = plain_captured more (n ∷ before)
 plain_captured (acknowledged h n ∷ more) before = plain_captured more before
+plain_captured (read h ∷ more) before = plain_captured more before
 plain_captured (meanwhile calls text is_refused ∷ more) before = plain_captured more before
 
 pub plain_reach : (first : ℕ) (before : List ℕ) (events : List Event) → AreWithinReach first before (plain events) → AreWithinReach first before events
 plain_reach first before [] h = tt
 plain_reach first before (captured heading n item ∷ more) h = (h.0, plain_reach first (n ∷ before) more h.1)
 plain_reach first before (acknowledged heading n ∷ more) h = (h.0, plain_reach first before more h.1)
+plain_reach first before (read heading ∷ more) h = (λ n le late. absurd late, plain_reach first before more h)
 plain_reach first before (meanwhile calls text is_refused ∷ more) h = (λ n le late. absurd late, plain_reach first before more h)
 
 pub plain_whole : (items : List Item) (events : List Event) → IsWhole items (plain events) → IsWhole items events
@@ -105,11 +107,11 @@ plain_whole items events w = record {
   reach = plain_reach 0 [] events w.reach;
 }
 
-pub captured_plain : (h : Heading) (o : Option ℕ) (item : Item) → plain (captured_event h o item) ≡ captured_event h o item
+pub captured_plain : (h : Heading) (o : Option ℕ) (item : Carried) → plain (captured_event h o item) ≡ captured_event h o item
 captured_plain h None item = refl
 captured_plain h (Some n) item = refl
 
-pub item_plain : (p : Bool) (h : Heading) (o : Option ℕ) (item : Item) → plain (cond p [] (captured_event h o item)) ≡ cond p [] (captured_event h o item)
+pub item_plain : (p : Bool) (h : Heading) (o : Option ℕ) (item : Carried) → plain (cond p [] (captured_event h o item)) ≡ cond p [] (captured_event h o item)
 item_plain true h o item = refl
 item_plain false h o item = captured_plain h o item
 
@@ -117,7 +119,7 @@ pub ack_plain : (h : Heading) (o : Option ℕ) → plain (acknowledged_event h o
 ack_plain h None = refl
 ack_plain h (Some n) = refl
 
-pub both_plain : (p : Bool) (h : Heading) (o : Option ℕ) (item : Item) (a : Option ℕ)
+pub both_plain : (p : Bool) (h : Heading) (o : Option ℕ) (item : Carried) (a : Option ℕ)
     → plain (cond p [] (captured_event h o item) ++ acknowledged_event h a) ≡ cond p [] (captured_event h o item) ++ acknowledged_event h a
 both_plain p h o item a =
     let items = cond p [] (captured_event h o item) in

@@ -12,9 +12,10 @@ use Rattle.xns_idp.specs.Reading.{packet_of}
 use Rattle.xns_idp.specs.declared.address.Address.{Address}
 use Rattle.xns_idp.specs.declared.fault.IdpFault.{IdpFault}
 use Rattle.xns_spp.specs.Header.{header_of, is_system}
-use Rattle.xns_spp.specs.Item.{item_with}
 use Rattle.xns_spp.specs.declared.header.Header.{Header}
 use Rattle.xns_spp.specs.declared.item.Item.{Item}
+use Rattle.xns_calls.specs.declared.carried.Carried.{Carried}
+use Rattle.xns_calls.specs.declared.given.Given.{Given}
 use Rattle.xns_spp.specs.declared.spp_fault.SppFault.{SppFault}
 use Rattle.xns_lines.specs.Lines.{lines_of}
 use Rattle.xns_dump.specs.Dump.Line.{digits_of}
@@ -26,9 +27,11 @@ use Rattle.xns_dump.specs.Layers.Courier.{callee_text}
 use Rattle.xns_calls.specs.Numbers.{most_early}
 use Rattle.xns_calls.specs.Calls.{after_body, after_bytes, after_digits, after_found, after_header, after_line, calls_text, end_count, has_refusal, has_refused, known_from, known_with_end, line_taken, nothing_known, text_from, text_with_end}
 use Rattle.xns_calls.specs.Anew.{begins_anew}
-use Rattle.xns_calls.specs.Capture.{Known, after_at, after_end, after_in, after_place, after_sequenced, after_there, ended_there, forgotten, heading_at, is_behind_in, place_of, renewed, renewed_there, scene_in, with_new}
-use Rattle.xns_calls.specs.Exchange.{Scene, advance_other, advance_own, behind_last, ended, advance_track, advanced, after_content, after_data, after_new, after_number, after_packet, begin_track, begun, both_ended, new_number, of_other, other_reached, own_reached, reached, seen_from_other, take_in_track, told_of}
-use Rattle.xns_calls.specs.Reading.{Told, after_heard, brought, brought_over, is_due, item_read, passed, past, read_next, said_item, with_kept_item}
+use Rattle.xns_calls.specs.Capture.{Known, after_at, after_end, after_in, after_place, after_sequenced, after_there, ended_there, forgotten, heading_at, is_behind_in, place_of, renewed, renewed_there, scene_in, settled_at, settled_there, taken_in, with_new}
+use Rattle.xns_calls.specs.Exchange.{Scene, advance_other, advance_own, behind_last, ended, advance_track, advanced, after_content, after_data, after_new, after_number, after_packet, begin_track, begun, both_ended, carried, new_number, of_other, other_reached, own_reached, reached, seen_from_other, take_in_track, told_of}
+use Rattle.xns_calls.specs.Reading.{Told, after_heard, brought, brought_over, first_read, first_read_over, item_read, passed, past, read_next, said_item}
+use Rattle.xns_calls.specs.Read.{kept_count, one_read, own_read, read_in_track, read_of, read_times, settled}
+use Rattle.xns_calls.specs.Turns.{next_turn}
 use Rattle.xns_calls.specs.Speech.{heard_of}
 use Rattle.xns_calls.specs.Naming.{Programs, named_abort, named_call, named_return}
 use Rattle.xns_calls.specs.Telling.{answer_line, call_line, call_of, heard_text, is_fault, message_line}
@@ -37,7 +40,7 @@ use Rattle.xns_calls.specs.declared.unanswered.Calls.{Calls}
 use Rattle.xns_calls.specs.declared.connection.Connection.{Connection}
 use Rattle.xns_calls.specs.declared.early.Early.{Early}
 use Rattle.xns_dump.specs.declared.flows.flow.Flow.{Flow}
-use Rattle.xns_calls.specs.Acknowledged.{due_in}
+use Rattle.xns_calls.specs.Acknowledged.{due_in, given_in}
 use Rattle.xns_calls.specs.declared.due.Due.{Due}
 use Rattle.xns_calls.specs.declared.heading.Heading.{Heading}
 use Rattle.xns_calls.specs.declared.heard.Heard.{Heard}
@@ -267,17 +270,27 @@ module _ (joined : JoinedTextsSayRefused) (only : OnlyRefusalsSayRefused) where
 
   read_says : (b : Bool) (h : Heading) (plain : IsPlain h) (early : Early) (t : Told) → SaysTold b t → SaysTold b (item_read h early t)
   unfolding item_read
-  read_says b h plain early t s = next_says b h plain (early.number + 1) early.item (passed h early.number t) (passed_says b h early.number t s)
+  read_says b h plain early t s = next_says b h plain (early.number + 1) early.item.item (passed h early.number t) (passed_says b h early.number t s)
 
   over_says : (b : Bool) (h : Heading) (plain : IsPlain h) (n : ℕ) (es : List Early) (t : Told) → SaysTold b t → SaysTold b (brought_over h n es t)
   over_says b h plain n [] t s = passed_says b h n t s
   over_says b h plain n (early ∷ rest) t s =
       let left : Told = record t { track = record t.track { early = rest } } in
-      cases (SaysTold b) (is_due n early t) (brought_over h n rest (item_read h early left)) (passed h n t) (over_says b h plain n rest (item_read h early left) (read_says b h plain early left s)) (passed_says b h n t s)
+      cases (SaysTold b) (nat_lt early.number n) (brought_over h n rest (item_read h early left)) (passed h n t) (over_says b h plain n rest (item_read h early left) (read_says b h plain early left s)) (passed_says b h n t s)
 
   brought_says : (b : Bool) (h : Heading) (plain : IsPlain h) (n : ℕ) (t : Told) → SaysTold b t → SaysTold b (brought h n t)
   unfolding brought
   brought_says b h plain n t s = over_says b h plain n t.track.early t s
+
+  first_over_says : (b : Bool) (h : Heading) (plain : IsPlain h) (es : List Early) (t : Told) → SaysTold b t → SaysTold b (first_read_over h es t)
+  first_over_says b h plain [] t s = s
+  first_over_says b h plain (early ∷ rest) t s =
+      let left : Told = record t { track = record t.track { early = rest } } in
+      cases (SaysTold b) (nat_lt t.track.next early.number) t (item_read h early left) s (read_says b h plain early left s)
+
+  first_says : (b : Bool) (h : Heading) (plain : IsPlain h) (t : Told) → SaysTold b t → SaysTold b (first_read h t)
+  unfolding first_read
+  first_says b h plain t s = first_over_says b h plain t.track.early t s
 
   -- ---- a connection
 
@@ -316,47 +329,79 @@ module _ (joined : JoinedTextsSayRefused) (only : OnlyRefusalsSayRefused) where
   unfolding begun
   begun_says b h p f s k = begin_says b h p f s.own.track s k
 
-  taken_says : (b : Bool) (h : Heading) (plain : IsPlain h) (n : ℕ) (item : Item) (o : Option Track) (s : Scene) → SaysScene b s → SaysScene b (take_in_track h n item o s)
+  taken_says : (b : Bool) (h : Heading) (plain : IsPlain h) (n : ℕ) (item : Carried) (o : Option Track) (s : Scene) → SaysScene b s → SaysScene b (take_in_track h n item o s)
   taken_says b h plain n item None s k = k
   taken_says b h plain n item (Some track) s k =
-      let moved = brought h (n - most_early) (told_of track s) in brought_says b h plain 0 (with_kept_item n item moved) (brought_says b h plain (n - most_early) (told_of track s) k)
+      brought_says b h plain (n - most_early) (told_of track s) k
 
-  new_says : (b : Bool) (h : Heading) (plain : IsPlain h) (n : ℕ) (item : Item) (s : Scene) → SaysScene b s → SaysScene b (after_new h n item s)
+  new_says : (b : Bool) (h : Heading) (plain : IsPlain h) (n : ℕ) (item : Carried) (s : Scene) → SaysScene b s → SaysScene b (after_new h n item s)
   unfolding after_new
   new_says b h plain n item s k = taken_says b h plain n item s.own.track s k
 
-  number_says : (b : Bool) (h : Heading) (plain : IsPlain h) (o : Option ℕ) (item : Item) (s : Scene) → SaysScene b s → SaysScene b (after_number h o item s)
+  number_says : (b : Bool) (h : Heading) (plain : IsPlain h) (o : Option ℕ) (item : Carried) (s : Scene) → SaysScene b s → SaysScene b (after_number h o item s)
   number_says b h plain None item s k = k
   number_says b h plain (Some n) item s k = new_says b h plain n item s k
 
-  data_says : (b : Bool) (h : Heading) (plain : IsPlain h) (p : PacketModel) (f : Header) (content : List ℕ) (s : Scene) → SaysScene b s → SaysScene b (after_data h p f content s)
+  data_says : (b : Bool) (h : Heading) (plain : IsPlain h) (a : Option ℕ) (p : PacketModel) (f : Header) (content : List ℕ) (s : Scene) → SaysScene b s → SaysScene b (after_data h a p f content s)
   unfolding after_data
-  data_says b h plain p f content s k =
-      let u = begun h p f s in number_says b h plain (new_number u.own.track f.sequence) (item_with f content) u (begun_says b h p f s k)
+  data_says b h plain a p f content s k =
+      let u = begun h p f s in number_says b h plain (new_number u.own.track f.sequence) (carried h a f content) u (begun_says b h p f s k)
 
-  content_says : (b : Bool) (h : Heading) (plain : IsPlain h) (p : PacketModel) (f : Header) (content : List ℕ) (s : Scene) → SaysScene b s → SaysScene b (after_content h p f content s)
+  content_says : (b : Bool) (h : Heading) (plain : IsPlain h) (a : Option ℕ) (p : PacketModel) (f : Header) (content : List ℕ) (s : Scene) → SaysScene b s → SaysScene b (after_content h a p f content s)
   unfolding after_content
-  content_says b h plain p f content s k = cases (SaysScene b) (is_system f) s (after_data h p f content s) k (data_says b h plain p f content s k)
+  content_says b h plain a p f content s k = cases (SaysScene b) (is_system f) s (after_data h a p f content s) k (data_says b h plain a p f content s k)
 
   packet_says : (b : Bool) (h : Heading) (plain : IsPlain h) (due : Due) (p : PacketModel) (f : Header) (content : List ℕ) (s : Scene) → SaysScene b s → SaysScene b (after_packet h due p f content s)
   unfolding after_packet
   packet_says b h plain due p f content s k =
       let u = other_reached h due.other s in
-      let v = after_content h p f content u in
-      own_reached_says b h plain due.own v (content_says b h plain p f content u (reached_says b h plain due.other s k))
+      let v = after_content h due.acknowledged p f content u in
+      own_reached_says b h plain due.own v (content_says b h plain due.acknowledged p f content u (reached_says b h plain due.other s k))
+
+  read_in_says : (b : Bool) (h : Heading) (plain : IsPlain h) (o : Option Track) (s : Scene) → SaysScene b s → SaysScene b (read_in_track h o s)
+  read_in_says b h plain None s k = k
+  read_in_says b h plain (Some track) s k = first_says b h plain (told_of track s) k
+
+  own_read_says : (b : Bool) (h : Heading) (plain : IsPlain h) (s : Scene) → SaysScene b s → SaysScene b (own_read h s)
+  unfolding own_read
+  own_read_says b h plain s k = read_in_says b h plain s.own.track s k
+
+  turn_says : (b : Bool) (h : Heading) (plain : IsPlain h) (o : Option Bool) (s : Scene) → SaysScene b s → SaysScene b (read_of h o s)
+  turn_says b h plain None s k = k
+  turn_says b h plain (Some false) s k = own_read_says b h plain s k
+  turn_says b h plain (Some true) s k = own_read_says b (of_other h) plain (seen_from_other s) k
+
+  times_say : (b : Bool) (h : Heading) (plain : IsPlain h) (n : ℕ) (given : Given) (s : Scene) → SaysScene b s → SaysScene b (read_times n h given s)
+  times_say b h plain zero given s k = k
+  times_say b h plain (suc n) given s k = times_say b h plain n given (one_read h given s) (turn_says b h plain (next_turn given s.own.track s.other.track) s k)
+
+  settled_says : (b : Bool) (h : Heading) (plain : IsPlain h) (given : Given) (s : Scene) → SaysScene b s → SaysScene b (settled h given s)
+  unfolding settled
+  settled_says b h plain given s k = times_say b h plain (kept_count s.own.track + kept_count s.other.track) given s k
 
   -- ---- a line
 
   abbrev SaysKnown : Bool → Known → Type 0
   SaysKnown b k = Says b k.text k.is_refused
 
+  at_settled : (b : Bool) (n : Origin) (plain : n.programs ≡ None) (i : ℕ) (q : Bool) (k : Known) → SaysKnown b k → SaysKnown b (settled_at n i q k)
+  unfolding settled_at
+  at_settled b n plain i q k s = by_connection q (slice_get k.connections i)
+    where
+      by_connection : (q : Bool) (o : Option Connection) → SaysKnown b (settled_there n i q o k)
+      by_connection q None = s
+      by_connection true (Some c) = settled_says b (heading_at n c.number true) plain (given_in true c) (scene_in true c k) s
+      by_connection false (Some c) = settled_says b (heading_at n c.number false) plain (given_in false c) (scene_in false c k) s
+
   there_says : (b : Bool) (n : Origin) (plain : n.programs ≡ None) (i : ℕ) (flow : Flow) (p : PacketModel) (f : Header) (content : List ℕ) (o : Option Connection) (k : Known) → SaysKnown b k → SaysKnown b (after_there n i flow p f content o k)
   there_says b n plain i flow p f content None k s = s
   there_says b n plain i flow p f content (Some c) k s = in_says (is_behind_in flow c)
     where
       in_says : (q : Bool) → SaysKnown b (after_in n i q p f content c k)
-      in_says true = packet_says b (heading_at n c.number true) plain (due_in true c) p f content (scene_in true c k) s
-      in_says false = packet_says b (heading_at n c.number false) plain (due_in false c) p f content (scene_in false c k) s
+      in_says true =
+          at_settled b n plain i true (taken_in n i true p f content c k) (packet_says b (heading_at n c.number true) plain (due_in true f c) p f content (scene_in true c k) s)
+      in_says false =
+          at_settled b n plain i false (taken_in n i false p f content c k) (packet_says b (heading_at n c.number false) plain (due_in false f c) p f content (scene_in false c k) s)
 
   at_says : (b : Bool) (n : Origin) (plain : n.programs ≡ None) (i : ℕ) (flow : Flow) (p : PacketModel) (f : Header) (content : List ℕ) (k : Known) → SaysKnown b k → SaysKnown b (after_at n i flow p f content k)
   unfolding after_at

@@ -1,22 +1,49 @@
 -- A packet, where its connection is noted first.
-use Rattle.std.proofs.Common.{◌≡◌, ◌∙◌, ap, sym, ℕ, Bool, true, false, List, Some}
+use Rattle.std.proofs.Common.{◌≡◌, ◌∙◌, ap, sym, refl, ℕ, zero, suc, Bool, true, false, List, [], ◌∷◌, Some}
 use Rattle.std.specs.Prelude.{slice_get, slice_set}
 use Rattle.xns_idp.specs.Packet.{PacketModel}
 use Rattle.xns_lines.specs.declared.page.Page.{Page}
 use Rattle.xns_spp.specs.declared.header.Header.{Header}
 use Rattle.xns_dump.specs.declared.flows.flow.Flow.{Flow}
 use Rattle.xns_calls.specs.Acknowledged.{due_in, noted}
-use Rattle.xns_calls.specs.Capture.{after_at, after_in, after_scene, after_there, heading_at, is_behind_in, known, scene_in, wants_at, wants_in}
+use Rattle.xns_calls.specs.Capture.{Known, after_at, after_in, after_scene, after_there, heading_at, is_behind_in, known, scene_in, settled_at, settled_there, taken_in, wants_at, wants_in, with_scene}
+use Rattle.xns_calls.specs.Read.{handled, settled}
 use Rattle.xns_calls.specs.Exchange.{Scene, after_packet, scene, wants_memory}
 use Rattle.xns_calls.specs.declared.connection.Connection.{Connection}
 use Rattle.xns_calls.specs.declared.due.Due.{Due}
 use Rattle.xns_calls.specs.declared.origin.Origin.{Origin}
 use Rattle.xns_calls.specs.declared.side.Side.{Side}
+use Rattle.xns_calls.proofs.Others.{get_same}
 use Rattle.xns_calls.proofs.Wanted.{in_wants, memory_wants}
 
+set_set : (cs : List Connection) (i : ℕ) (c d : Connection) → slice_set (slice_set cs i c) i d ≡ slice_set cs i d
+set_set [] i c d = refl
+set_set (x ∷ cs) zero c d = refl
+set_set (x ∷ cs) (suc i) c d = ap (λ xs. x ∷ xs) (set_set cs i c d)
+
+-- what is read then is read of the same connection
+read_there : (n : Origin) (i : ℕ) (b : Bool) (k : Known) (c : Connection) → slice_get k.connections i ≡ Some c → settled_at n i b k ≡ settled_there n i b (Some c) k
+unfolding settled_at
+read_there n i b k c there = ap (λ o. settled_there n i b o k) there
+
+fused : (n : Origin) (i : ℕ) (b : Bool) (packet : PacketModel) (f : Header) (content : List ℕ) (c : Connection) (k : Known) → slice_get k.connections i ≡ Some c
+    → after_in n i b packet f content c k ≡ after_scene i b (noted b f c) (handled (heading_at n c.number b) (due_in b f c) packet f content (scene_in b c k)) k
+fused n i true packet f content c k there =
+    let s = after_packet (heading_at n c.number true) (due_in true f c) packet f content (scene_in true c k) in
+    let c' = with_scene true s (noted true f c) in
+    let z = settled (heading_at n c.number true) (due_in true f c).given s in
+    read_there n i true (taken_in n i true packet f content c k) c' (get_same k.connections i c c' there)
+    ∙ ap (λ cs. record k { connections = cs; text = z.text; is_refused = z.is_refused }) (set_set k.connections i c' (with_scene true z (noted true f c)))
+fused n i false packet f content c k there =
+    let s = after_packet (heading_at n c.number false) (due_in false f c) packet f content (scene_in false c k) in
+    let c' = with_scene false s (noted false f c) in
+    let z = settled (heading_at n c.number false) (due_in false f c).given s in
+    read_there n i false (taken_in n i false packet f content c k) c' (get_same k.connections i c c' there)
+    ∙ ap (λ cs. record k { connections = cs; text = z.text; is_refused = z.is_refused }) (set_set k.connections i c' (with_scene false z (noted false f c)))
+
 pub behind_taken : (n : Origin) (i : ℕ) (flow : Flow) (packet : PacketModel) (f : Header) (content : List ℕ) (cs : List Connection) (count : ℕ) (page page' : Page) (c note : Connection) (due : Due) (first second : Side) (b : Bool)
-    → slice_get cs i ≡ Some c → b ≡ is_behind_in flow c → b ≡ true → note ≡ noted b f c → due ≡ due_in b c
-    → scene second first page' ≡ after_packet (heading_at n note.number b) due packet f content (scene note.second note.first page)
+    → slice_get cs i ≡ Some c → b ≡ is_behind_in flow c → b ≡ true → note ≡ noted b f c → due ≡ due_in b f c
+    → scene second first page' ≡ handled (heading_at n note.number b) due packet f content (scene note.second note.first page)
     → known (slice_set cs i (record note { first = first; second = second })) count page' ≡ after_at n i flow packet f content (known cs count page)
 unfolding after_at
 behind_taken n i flow packet f content cs count page page' c note due first second false there side is noted_is due_is e = (cc)
@@ -24,14 +51,15 @@ behind_taken n i flow packet f content cs count page page' c note due first seco
     let k = known cs count page in
     ap (λ (x : Connection). known (slice_set cs i (record x { first = first; second = second })) count page') noted_is
     ∙ ap (λ (s : Scene). after_scene i true (noted true f c) s k)
-    (e ∙ ap (λ d. after_packet (heading_at n note.number true) d packet f content (scene note.second note.first page)) due_is
-    ∙ ap (λ (x : Connection). after_packet (heading_at n x.number true) (due_in true c) packet f content (scene x.second x.first page)) noted_is)
+    (e ∙ ap (λ d. handled (heading_at n note.number true) d packet f content (scene note.second note.first page)) due_is
+    ∙ ap (λ (x : Connection). handled (heading_at n x.number true) (due_in true f c) packet f content (scene x.second x.first page)) noted_is)
+    ∙ sym (fused n i true packet f content c k there)
     ∙ ap (λ p. after_in n i p packet f content c k) side
     ∙ sym (ap (λ o. after_there n i flow packet f content o k) there)
 
 pub first_taken : (n : Origin) (i : ℕ) (flow : Flow) (packet : PacketModel) (f : Header) (content : List ℕ) (cs : List Connection) (count : ℕ) (page page' : Page) (c note : Connection) (due : Due) (first second : Side) (b : Bool)
-    → slice_get cs i ≡ Some c → b ≡ is_behind_in flow c → b ≡ false → note ≡ noted b f c → due ≡ due_in b c
-    → scene first second page' ≡ after_packet (heading_at n note.number b) due packet f content (scene note.first note.second page)
+    → slice_get cs i ≡ Some c → b ≡ is_behind_in flow c → b ≡ false → note ≡ noted b f c → due ≡ due_in b f c
+    → scene first second page' ≡ handled (heading_at n note.number b) due packet f content (scene note.first note.second page)
     → known (slice_set cs i (record note { first = first; second = second })) count page' ≡ after_at n i flow packet f content (known cs count page)
 unfolding after_at
 first_taken n i flow packet f content cs count page page' c note due first second true there side is noted_is due_is e = (cc)
@@ -39,29 +67,30 @@ first_taken n i flow packet f content cs count page page' c note due first secon
     let k = known cs count page in
     ap (λ (x : Connection). known (slice_set cs i (record x { first = first; second = second })) count page') noted_is
     ∙ ap (λ (s : Scene). after_scene i false (noted false f c) s k)
-    (e ∙ ap (λ d. after_packet (heading_at n note.number false) d packet f content (scene note.first note.second page)) due_is
-    ∙ ap (λ (x : Connection). after_packet (heading_at n x.number false) (due_in false c) packet f content (scene x.first x.second page)) noted_is)
+    (e ∙ ap (λ d. handled (heading_at n note.number false) d packet f content (scene note.first note.second page)) due_is
+    ∙ ap (λ (x : Connection). handled (heading_at n x.number false) (due_in false f c) packet f content (scene x.first x.second page)) noted_is)
+    ∙ sym (fused n i false packet f content c k there)
     ∙ ap (λ p. after_in n i p packet f content c k) side
     ∙ sym (ap (λ o. after_there n i flow packet f content o k) there)
 
 pub behind_packet_wants : (i : ℕ) (flow : Flow) (f : Header) (cs : List Connection) (count : ℕ) (page : Page) (c note : Connection) (due : Due) (b : Bool)
-    → slice_get cs i ≡ Some c → b ≡ is_behind_in flow c → b ≡ true → note ≡ noted b f c → due ≡ due_in b c
+    → slice_get cs i ≡ Some c → b ≡ is_behind_in flow c → b ≡ true → note ≡ noted b f c → due ≡ due_in b f c
     → wants_memory due f (scene note.second note.first page) ≡ true → wants_at i flow f (known cs count page) ≡ true
 behind_packet_wants i flow f cs count page c note due false there side is noted_is due_is wants = (cc)
 behind_packet_wants i flow f cs count page c note due true there side is noted_is due_is wants =
     let k = known cs count page in
-    let before : wants_memory due f (scene note.second note.first page) ≡ wants_memory (due_in true c) f (scene_in true c k) =
+    let before : wants_memory due f (scene note.second note.first page) ≡ wants_memory (due_in true f c) f (scene_in true c k) =
     ap (λ d. wants_memory d f (scene note.second note.first page)) due_is
-    ∙ ap (λ (x : Connection). wants_memory (due_in true c) f (scene x.second x.first page)) noted_is in
+    ∙ ap (λ (x : Connection). wants_memory (due_in true f c) f (scene x.second x.first page)) noted_is in
     in_wants i flow f c k there (sym (ap (λ p. wants_in p f c k) side) ∙ memory_wants true f c k (sym before ∙ wants))
 
 pub first_packet_wants : (i : ℕ) (flow : Flow) (f : Header) (cs : List Connection) (count : ℕ) (page : Page) (c note : Connection) (due : Due) (b : Bool)
-    → slice_get cs i ≡ Some c → b ≡ is_behind_in flow c → b ≡ false → note ≡ noted b f c → due ≡ due_in b c
+    → slice_get cs i ≡ Some c → b ≡ is_behind_in flow c → b ≡ false → note ≡ noted b f c → due ≡ due_in b f c
     → wants_memory due f (scene note.first note.second page) ≡ true → wants_at i flow f (known cs count page) ≡ true
 first_packet_wants i flow f cs count page c note due true there side is noted_is due_is wants = (cc)
 first_packet_wants i flow f cs count page c note due false there side is noted_is due_is wants =
     let k = known cs count page in
-    let before : wants_memory due f (scene note.first note.second page) ≡ wants_memory (due_in false c) f (scene_in false c k) =
+    let before : wants_memory due f (scene note.first note.second page) ≡ wants_memory (due_in false f c) f (scene_in false c k) =
     ap (λ d. wants_memory d f (scene note.first note.second page)) due_is
-    ∙ ap (λ (x : Connection). wants_memory (due_in false c) f (scene x.first x.second page)) noted_is in
+    ∙ ap (λ (x : Connection). wants_memory (due_in false f c) f (scene x.first x.second page)) noted_is in
     in_wants i flow f c k there (sym (ap (λ p. wants_in p f c k) side) ∙ memory_wants false f c k (sym before ∙ wants))

@@ -5,20 +5,20 @@ use Rattle.std.specs.Prelude.{OnErr, not, slice_get, ◌||◌, ◌&&◌}
 use Rattle.xns_idp.specs.Packet.{PacketModel}
 use Rattle.xns_lines.specs.declared.page.Page.{Page}
 use Rattle.xns_spp.specs.Header.{is_system}
-use Rattle.xns_spp.specs.Item.{item_with}
-use Rattle.xns_spp.specs.declared.item.Item.{Item}
+use Rattle.xns_calls.specs.declared.carried.Carried.{Carried}
 use Rattle.xns_spp.specs.declared.header.Header.{Header}
 use Rattle.xns_calls.specs.Acknowledged.{ahead_of, due_in}
 use Rattle.xns_calls.specs.Anew.{begins_anew}
 use Rattle.xns_calls.specs.Capture.{Known, is_behind_in, scene_in, wants_at, wants_end, wants_in, wants_there}
-use Rattle.xns_calls.specs.Exchange.{Scene, after_content, after_data, after_number, begin_track, begun, behind_last, brings_new, brings_on, ended, new_number, other_reached, reached, scene, wants_memory}
+use Rattle.xns_calls.specs.Exchange.{Scene, advance_other, advance_own, after_content, after_data, after_number, after_packet, begin_track, begun, behind_last, brings_data, brings_new, brings_on, carried, ended, new_number, other_reached, own_reached, reached, scene, wants_memory, wants_to_take}
+use Rattle.xns_calls.specs.Turns.{next_turn}
 use Rattle.xns_calls.specs.declared.connection.Connection.{Connection}
 use Rattle.xns_dump.specs.declared.flows.flow.Flow.{Flow}
 use Rattle.xns_calls.specs.declared.due.Due.{Due}
 use Rattle.xns_calls.specs.declared.heading.Heading.{Heading}
 use Rattle.xns_calls.specs.declared.side.Side.{Side}
 use Rattle.xns_calls.specs.declared.track.Track.{Track}
-use Rattle.xns_calls.proofs.Packets.{ended_other, reached_own}
+use Rattle.xns_calls.proofs.Packets.{content_other, ended_other, reached_own}
 
 -- a flow that has not begun does so
 pub none_brings : (own : Side) (field : ℕ) → own.track ≡ None → brings_new own.track field ≡ true
@@ -48,9 +48,9 @@ or_right true q e = refl
 or_right false q e = e
 
 -- the flow behind is brought to a number
-pub other_wants : (due : Due) (f : Header) (own other : Side) (page : Page) → is_some (reached other.track due.other) ≡ true → wants_memory due f (scene own other page) ≡ true
+pub other_wants : (due : Due) (f : Header) (own other : Side) (page : Page) → is_some (reached other.track due.other) ≡ true → wants_to_take due f (scene own other page) ≡ true
 other_wants due f own other page e =
-    or_left (brings_on due (scene own other page)) (not (is_system f) && brings_new own.track f.sequence) (or_left (is_some (reached other.track due.other)) (is_some (reached own.track due.own)) e)
+    or_left (brings_on due (scene own other page)) (brings_data f own.track) (or_left (is_some (reached other.track due.other)) (is_some (reached own.track due.own)) e)
 
 -- so does one to the connection at a place
 pub in_wants : (i : ℕ) (flow : Flow) (f : Header) (connection : Connection) (k : Known) → slice_get k.connections i ≡ Some connection
@@ -60,10 +60,10 @@ in_wants i flow f connection k at e =
 
 -- what it acknowledges is kept
 pub ahead_wants : (b : Bool) (f : Header) (connection : Connection) (k : Known) → is_some (ahead_of b f connection) ≡ true → wants_in b f connection k ≡ true
-ahead_wants b f connection k e = or_left (is_some (ahead_of b f connection)) (wants_memory (due_in b connection) f (scene_in b connection k)) e
+ahead_wants b f connection k e = or_left (is_some (ahead_of b f connection)) (wants_memory (due_in b f connection) f (scene_in b connection k)) e
 
-pub memory_wants : (b : Bool) (f : Header) (connection : Connection) (k : Known) → wants_memory (due_in b connection) f (scene_in b connection k) ≡ true → wants_in b f connection k ≡ true
-memory_wants b f connection k e = or_right (is_some (ahead_of b f connection)) (wants_memory (due_in b connection) f (scene_in b connection k)) e
+pub memory_wants : (b : Bool) (f : Header) (connection : Connection) (k : Known) → wants_memory (due_in b f connection) f (scene_in b connection k) ≡ true → wants_in b f connection k ≡ true
+memory_wants b f connection k e = or_right (is_some (ahead_of b f connection)) (wants_memory (due_in b f connection) f (scene_in b connection k)) e
 
 -- so does the end of a connection of which a flow keeps items
 pub end_wants : (connection : Connection) (o : Option Connection) → o ≡ Some connection
@@ -82,22 +82,22 @@ second_wants h first second first' second' page page' e wants =
 
 -- what is new behind that was new before
 pub content_wants : (h : Heading) (due : Due) (f : Header) (own other own' other' : Side) (page page' : Page) → scene own' other' page' ≡ other_reached h due.other (scene own other page)
-    → (not (is_system f) && brings_new own'.track f.sequence) ≡ true → wants_memory due f (scene own other page) ≡ true
+    → brings_data f own'.track ≡ true → wants_to_take due f (scene own other page) ≡ true
 content_wants h due f own other own' other' page page' e new =
     let same : own'.track ≡ own.track = ap (λ (x : Scene). x.own.track) e ∙ reached_own h due.other (scene own other page) in
-    or_right (brings_on due (scene own other page)) (not (is_system f) && brings_new own.track f.sequence) (ap (λ o. not (is_system f) && brings_new o f.sequence) (sym same) ∙ new)
+    or_right (brings_on due (scene own other page)) (brings_data f own.track) (ap (brings_data f) (sym same) ∙ new)
 
 -- where nothing is new the flow stays as it was
-number_stays : (h : Heading) (o : Option ℕ) (item : Item) (s : Scene) → is_some o ≡ false → (after_number h o item s).own.track ≡ s.own.track
+number_stays : (h : Heading) (o : Option ℕ) (item : Carried) (s : Scene) → is_some o ≡ false → (after_number h o item s).own.track ≡ s.own.track
 number_stays h None item s e = refl
 number_stays h (Some n) item s e = (cc)
 
-data_stays : (h : Heading) (packet : PacketModel) (f : Header) (content : List ℕ) (s : Scene) → brings_new s.own.track f.sequence ≡ false → (after_data h packet f content s).own.track ≡ s.own.track
+data_stays : (h : Heading) (a : Option ℕ) (packet : PacketModel) (f : Header) (content : List ℕ) (s : Scene) → brings_new s.own.track f.sequence ≡ false → (after_data h a packet f content s).own.track ≡ s.own.track
 unfolding after_data begun
-data_stays h packet f content s e = by_track s.own.track refl
+data_stays h a packet f content s e = by_track s.own.track refl
   where
-    item : Item
-    item = item_with f content
+    item : Carried
+    item = carried h a f content
 
     by_track : (o : Option Track) → s.own.track ≡ o
         → (after_number h (new_number (begin_track h packet f s.own.track s).own.track f.sequence) item (begin_track h packet f s.own.track s)).own.track ≡ s.own.track
@@ -107,28 +107,97 @@ data_stays h packet f content s e = by_track s.own.track refl
         let old : is_some (new_number s.own.track f.sequence) ≡ false = ap (λ o. is_some (new_number o f.sequence)) at ∙ sym (ap (λ o. brings_new o f.sequence) at) ∙ e in
         ap (λ x. (after_number h (new_number x.own.track f.sequence) item x).own.track) same ∙ number_stays h (new_number s.own.track f.sequence) item s old
 
-content_stays : (h : Heading) (packet : PacketModel) (f : Header) (content : List ℕ) (s : Scene) → (not (is_system f) && brings_new s.own.track f.sequence) ≡ false
-    → (after_content h packet f content s).own.track ≡ s.own.track
+content_stays : (h : Heading) (a : Option ℕ) (packet : PacketModel) (f : Header) (content : List ℕ) (s : Scene) → brings_data f s.own.track ≡ false
+    → (after_content h a packet f content s).own.track ≡ s.own.track
 unfolding after_content
-content_stays h packet f content s = over (is_system f)
+content_stays h a packet f content s = over (is_system f)
   where
-    over : (p : Bool) → (not p && brings_new s.own.track f.sequence) ≡ false → (cond p s (after_data h packet f content s)).own.track ≡ s.own.track
+    over : (p : Bool) → (not p && brings_new s.own.track f.sequence) ≡ false → (cond p s (after_data h a packet f content s)).own.track ≡ s.own.track
     over true e = refl
-    over false e = data_stays h packet f content s e
+    over false e = data_stays h a packet f content s e
 
 -- the packet's own flow is brought to a number
 pub own_wants : (h : Heading) (due : Due) (packet : PacketModel) (f : Header) (content : List ℕ) (own other own' other' own'' other'' : Side) (page page' page'' : Page)
-    → scene own' other' page' ≡ other_reached h due.other (scene own other page) → scene own'' other'' page'' ≡ after_content h packet f content (scene own' other' page')
-    → is_some (reached own''.track due.own) ≡ true → wants_memory due f (scene own other page) ≡ true
-own_wants h due packet f content own other own' other' own'' other'' page page' page'' e e' wants = by_new (not (is_system f) && brings_new own'.track f.sequence) refl
+    → scene own' other' page' ≡ other_reached h due.other (scene own other page) → scene own'' other'' page'' ≡ after_content h due.acknowledged packet f content (scene own' other' page')
+    → is_some (reached own''.track due.own) ≡ true → wants_to_take due f (scene own other page) ≡ true
+own_wants h due packet f content own other own' other' own'' other'' page page' page'' e e' wants = by_new (brings_data f own'.track) refl
   where
-    by_new : (p : Bool) → (not (is_system f) && brings_new own'.track f.sequence) ≡ p → wants_memory due f (scene own other page) ≡ true
+    by_new : (p : Bool) → brings_data f own'.track ≡ p → wants_to_take due f (scene own other page) ≡ true
     by_new true new = content_wants h due f own other own' other' page page' e new
     by_new false old =
         let first : own'.track ≡ own.track = ap (λ (x : Scene). x.own.track) e ∙ reached_own h due.other (scene own other page) in
-        let second : own''.track ≡ own'.track = ap (λ (x : Scene). x.own.track) e' ∙ content_stays h packet f content (scene own' other' page') old in
-        or_left (brings_on due (scene own other page)) (not (is_system f) && brings_new own.track f.sequence)
+        let second : own''.track ≡ own'.track = ap (λ (x : Scene). x.own.track) e' ∙ content_stays h due.acknowledged packet f content (scene own' other' page') old in
+        or_left (brings_on due (scene own other page)) (brings_data f own.track)
         (or_right (is_some (reached other.track due.other)) (is_some (reached own.track due.own)) (ap (λ o. is_some (reached o due.own)) (sym (second ∙ first)) ∙ wants))
+
+-- ---- where an item can be read
+
+left_false : (p q : Bool) → (p || q) ≡ false → p ≡ false
+left_false true q e = (cc)
+left_false false q e = refl
+
+right_false : (p q : Bool) → (p || q) ≡ false → q ≡ false
+right_false true q e = (cc)
+right_false false q e = e
+
+none_reached_own : (h : Heading) (number : Option ℕ) (s : Scene) → is_some (reached s.own.track number) ≡ false → own_reached h number s ≡ s
+unfolding own_reached
+none_reached_own h number s e = by_number (reached s.own.track number) e
+  where
+    by_number : (o : Option ℕ) → is_some o ≡ false → advance_own h o s ≡ s
+    by_number None e = refl
+    by_number (Some n) e = (cc)
+
+none_reached_other : (h : Heading) (number : Option ℕ) (s : Scene) → is_some (reached s.other.track number) ≡ false → other_reached h number s ≡ s
+unfolding other_reached
+none_reached_other h number s e = by_number (reached s.other.track number) e
+  where
+    by_number : (o : Option ℕ) → is_some o ≡ false → advance_other h o s ≡ s
+    by_number None e = refl
+    by_number (Some n) e = (cc)
+
+-- a packet that wants no memory leaves what is kept of both flows
+packet_stays : (h : Heading) (due : Due) (packet : PacketModel) (f : Header) (content : List ℕ) (s : Scene) → wants_to_take due f s ≡ false
+    → ((after_packet h due packet f content s).own.track ≡ s.own.track) × ((after_packet h due packet f content s).other.track ≡ s.other.track)
+unfolding after_packet
+packet_stays h due packet f content s e =
+    let on = left_false (brings_on due s) (brings_data f s.own.track) e in
+    let new = right_false (brings_on due s) (brings_data f s.own.track) e in
+    let first : other_reached h due.other s ≡ s = none_reached_other h due.other s (left_false (is_some (reached s.other.track due.other)) (is_some (reached s.own.track due.own)) on) in
+    let u = after_content h due.acknowledged packet f content s in
+    let own : u.own.track ≡ s.own.track = content_stays h due.acknowledged packet f content s new in
+    let other : u.other.track ≡ s.other.track = content_other h due.acknowledged packet f content s in
+    let last : own_reached h due.own u ≡ u = none_reached_own h due.own u (ap (λ o. is_some (reached o due.own)) own ∙ right_false (is_some (reached s.other.track due.other)) (is_some (reached s.own.track due.own)) on) in
+    let all : own_reached h due.own (after_content h due.acknowledged packet f content (other_reached h due.other s)) ≡ u =
+    ap (λ x. own_reached h due.own (after_content h due.acknowledged packet f content x)) first ∙ last in
+    (ap (λ (x : Scene). x.own.track) all ∙ own, ap (λ (x : Scene). x.other.track) all ∙ other)
+
+-- an item that can be read behind a packet could be read before, or the packet wants memory itself
+pub turn_wants : (h : Heading) (due : Due) (packet : PacketModel) (f : Header) (content : List ℕ) (own other own' other' : Side) (page page' : Page)
+    → scene own' other' page' ≡ after_packet h due packet f content (scene own other page) → is_some (next_turn due.given own'.track other'.track) ≡ true
+    → wants_memory due f (scene own other page) ≡ true
+turn_wants h due packet f content own other own' other' page page' e turn = by_wants (wants_to_take due f s) refl
+  where
+    s : Scene
+    s = scene own other page
+
+    by_wants : (p : Bool) → wants_to_take due f s ≡ p → wants_memory due f s ≡ true
+    by_wants true w = or_left (wants_to_take due f s) (is_some (next_turn due.given own.track other.track)) w
+    by_wants false w =
+        let same = packet_stays h due packet f content s w in
+        or_right (wants_to_take due f s) (is_some (next_turn due.given own.track other.track))
+        (ap (λ o. is_some (next_turn due.given o other.track)) (sym (ap (λ (x : Scene). x.own.track) e ∙ same.0))
+        ∙ ap (λ o. is_some (next_turn due.given own'.track o)) (sym (ap (λ (x : Scene). x.other.track) e ∙ same.1)) ∙ turn)
+
+-- a data packet brings something new
+pub data_wants : (due : Due) (f : Header) (own other : Side) (page : Page) → is_system f ≡ false → brings_new own.track f.sequence ≡ true → wants_memory due f (scene own other page) ≡ true
+data_wants due f own other page plain new =
+    let s : Scene = scene own other page in
+    or_left (wants_to_take due f s) (is_some (next_turn due.given own.track other.track))
+    (or_right (brings_on due s) (brings_data f own.track) (ap (λ p. not p && brings_new own.track f.sequence) plain ∙ new))
+
+pub take_wants : (due : Due) (f : Header) (s : Scene) → wants_to_take due f s ≡ true → wants_memory due f s ≡ true
+take_wants due f s e = or_left (wants_to_take due f s) (is_some (next_turn due.given s.own.track s.other.track)) e
 
 pub on_err : {T E : Type 0} (r : Result T E) (A : Type 0) → A → OnErr r A
 on_err (Ok x) A a = tt

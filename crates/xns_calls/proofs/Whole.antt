@@ -1,6 +1,6 @@
 -- A flow of which each item is captured is read whole.
-use Rattle.std.proofs.Common.{◌≡◌, ◌∙◌, ap, sym, refl, subst, arith, ℕ, zero, suc, ◌+◌, ◌<◌, ◌≤◌, ◌==◌, true, false, cond, List, [], ◌∷◌, ◌++◌, length, take, drop, append_assoc, append-nil, Some, Ok, Err}
-use Rattle.std.specs.Prelude.{IfOk, Result, map, nat_lt, slice_get}
+use Rattle.std.proofs.Common.{◌≡◌, ◌∙◌, ap, sym, refl, subst, arith, ℕ, zero, suc, ◌+◌, ◌<◌, ◌≤◌, ◌==◌, true, false, cond, List, [], ◌∷◌, ◌++◌, length, take, drop, append_assoc, append-nil, inl, inr, ◌-◌, Option, Some, None, Ok, Err}
+use Rattle.std.specs.Prelude.{IfOk, IfSome, Result, map, min, nat_lt, option_map, slice_get}
 use Rattle.std.proofs.lemmas.Bool.Decides.{nat_tests}
 use Rattle.std.specs.List.{flat_map}
 use Rattle.std.proofs.lemmas.Grind.{flat_map-append}
@@ -14,13 +14,15 @@ use Rattle.courier_messages.specs.Phases.{onwards, run, said, ◌then◌}
 use Rattle.courier_messages.specs.Text.{signs, written}
 use Rattle.courier_messages.specs.declared.fault.SessionFault.{SessionFault}
 use Rattle.courier_messages.specs.declared.message.Message.{Message}
-use Rattle.xns_calls.specs.Events.{AreWithinReach, Event, IsAmong, acknowledged, after_event, after_events, after_whole_event, captured, meanwhile, read_on, read_on_over, with_captured}
-use Rattle.xns_calls.specs.Exchange.{first_track, is_repeat}
-use Rattle.xns_calls.specs.Queue.{kept}
-use Rattle.xns_calls.specs.Reading.{Told, after_heard, read_next, said_item, with_kept_item}
+use Rattle.xns_calls.specs.Events.{AreWithinReach, Event, IsAmong, IsLate, acknowledged, acknowledged_event, after_event, after_events, brought_if, captured, captured_in, meanwhile, read, read_below, read_below_if, read_below_over, read_first_over, with_captured}
+use Rattle.xns_calls.specs.Exchange.{behind_last, first_track, is_repeat, up_to}
+use Rattle.xns_calls.specs.Numbers.{most_early}
+use Rattle.xns_calls.specs.Queue.{kept, last_number}
+use Rattle.xns_calls.specs.Reading.{Told, after_heard, brought, brought_over, item_read, passed, read_next, said_item, with_kept_item}
 use Rattle.xns_calls.specs.Speech.{after_item, heard_at, heard_of, speech_at}
 use Rattle.xns_calls.specs.Telling.{heard_text}
 use Rattle.xns_calls.specs.Whole.{AreOf, IsOf, IsWhole, SaysConversation, ToldMessage, flow_text, new_text, of_courier, told_lines}
+use Rattle.xns_calls.specs.declared.carried.Carried.{Carried}
 use Rattle.xns_calls.specs.declared.early.Early.{Early}
 use Rattle.xns_calls.specs.declared.heading.Heading.{Heading}
 use Rattle.xns_calls.specs.declared.heard.Heard.{Heard}
@@ -29,12 +31,12 @@ use Rattle.xns_calls.specs.declared.speech.Speech.{Speech}
 use Rattle.xns_calls.specs.declared.speech.Speech.TheVariants.{Hearing, Waiting}
 use Rattle.xns_calls.specs.declared.track.Track.{Track}
 use Rattle.xns_calls.specs.declared.unanswered.Calls.{Calls}
-use Rattle.xns_calls.proofs.Gaps.{AreFrom, IsKnown, IsOrdered, by_test, captured_in_known, equal_tells, event_ordered, event_whole, events_ordered, kept_cases, known_step, event_known, new_ordered, next_of, no_known_next, not_less}
-use Rattle.xns_calls.proofs.Steps.{early_of, next_early, with_early}
+use Rattle.xns_calls.proofs.Gaps.{AreFrom, AreKept, IsKnown, IsOrdered, Kept, by_test, captured_in_known, event_ordered, event_whole, events_ordered, kept_cases, kept_next, known_step, event_known, late_kept, le_tells, lt_tells, lt_true, new_ordered, next_of, not_less, read_next_of, rest_kept}
+use Rattle.xns_calls.proofs.Steps.{early_of, next_early, passed_early, read_early, with_early}
 
 -- ---- what is heard of items
 
-abbrev start : Speech
+abbrev pub start : Speech
 start = Hearing (opening [])
 
 abbrev pub speech_behind : Speech → List Item → Speech
@@ -72,7 +74,7 @@ take_one (y ∷ xs) (suc n) x e = let one : suc n + 1 ≡ suc (n + 1) = omega ar
 
 abbrev AreItems : List Item → List Early → Type 0
 AreItems items [] = Unit {0}
-AreItems items (e ∷ rest) = (slice_get items e.number ≡ Some e.item) × AreItems items rest
+AreItems items (e ∷ rest) = (slice_get items e.number ≡ Some e.item.item) × AreItems items rest
 
 -- the items below the next one were said, and this was heard of them
 record Stands (items : List Item) (t : Told) (hs : List Heard) : Type 0 where
@@ -142,39 +144,48 @@ read_one items h item t hs is kept s = by_test (λ u. Went items t u hs) (item.s
           kept = kept;
         }
 
--- and those behind it that are kept
-over_went : (items : List Item) (h : Heading) (es : List Early) (t : Told) (hs : List Heard) → early_of t ≡ es → AreItems items es → Stands items t hs → Went items t (read_on_over h es t) hs
-over_went items h [] t hs same are s = stayed items t hs (subst (AreItems items) (sym same) tt) s
-over_went items h (e ∷ rest) t hs same are s =
-    by_test (λ u. Went items t u hs) (e.number == next_of t) (read_on_over h rest u) t
-    (λ first. went_on items t u (read_on_over h rest u) hs (one (equal_tells e.number (next_of t) first)) (more (over_went items h rest) (equal_tells e.number (next_of t) first)))
-    (λ later. stayed items t hs (subst (AreItems items) (sym same) are) s)
+-- the first that is kept, and comes next
+one_went : (items : List Item) (h : Heading) (e : Early) (rest : List Early) (t : Told) (hs : List Heard) → early_of t ≡ e ∷ rest → e.number ≡ next_of t → AreItems items (e ∷ rest) → Stands items t hs
+    → Went items t (read_next h (e.number + 1) e.item.item (with_early rest t)) hs
+one_went items h e rest t hs same first are s =
+    let left : Told = with_early rest t in
+    let stands_left : Stands items left hs = record { speech = s.speech; heard = s.heard } in
+    let read : Went items left (read_next h (next_of t + 1) e.item.item left) hs = read_one items h e.item.item left hs (subst (λ n. slice_get items n ≡ Some e.item.item) first are.0) are.1 stands_left in
+    let w = subst (λ n. Went items left (read_next h (n + 1) e.item.item left) hs) (sym first) read in
+    record { told = w.told; text = w.text; stands = w.stands; kept = w.kept }
+
+-- and those below a number, where none of them is missing
+below_went : (items : List Item) (h : Heading) (n : ℕ) (es : List Early) (t : Told) (hs : List Heard) → early_of t ≡ es → AreKept (next_of t) n es → AreFrom (next_of t) es → AreItems items es → Stands items t hs
+    → Went items t (read_below_over h n es t) hs
+below_went items h n [] t hs same all from are s = stayed items t hs (subst (AreItems items) (sym same) tt) s
+below_went items h n (e ∷ rest) t hs same all from are s =
+    by_test (λ u. Went items t u hs) (nat_lt e.number n) (read_below_over h n rest u) t
+    (λ below.
+    let lt : e.number < n = lt_tells e.number n below in
+    let is : e.number ≡ next_of t = kept_next (next_of t) e rest from (all (next_of t) (omega arith) (omega (arith, lt, from.0))) in
+    let w = one_went items h e rest t hs same is are s in
+    let next : next_of u ≡ e.number + 1 = read_next_of h (e.number + 1) e.item.item left in
+    went_on items t u (read_below_over h n rest u) hs w
+    (below_went items h n rest u (hs ++ what w.told) (next_early h (e.number + 1) e.item.item left)
+    (subst (λ k. AreKept k n rest) (sym next) (rest_kept n e rest (subst (λ k. AreKept k n (e ∷ rest)) (sym is) all)))
+    (subst (λ k. AreFrom k rest) (sym next) from.1) are.1 w.stands))
+    (λ above. stayed items t hs (subst (AreItems items) (sym same) are) s)
   where
     left : Told
     left = with_early rest t
 
     u : Told
-    u = read_next h (e.number + 1) e.item left
+    u = read_next h (e.number + 1) e.item.item left
 
-    stands_left : Stands items left hs
-    stands_left = record { speech = s.speech; heard = s.heard }
+-- and the first that is kept, if it comes next
+first_went : (items : List Item) (h : Heading) (es : List Early) (t : Told) (hs : List Heard) → early_of t ≡ es → AreFrom (next_of t) es → AreItems items es → Stands items t hs → Went items t (read_first_over h es t) hs
+first_went items h [] t hs same from are s = stayed items t hs (subst (AreItems items) (sym same) tt) s
+first_went items h (e ∷ rest) t hs same from are s =
+    by_test (λ u. Went items t u hs) (nat_lt (next_of t) e.number) t (read_next h (e.number + 1) e.item.item (with_early rest t))
+    (λ later. stayed items t hs (subst (AreItems items) (sym same) are) s)
+    (λ due. let le : e.number ≤ next_of t = le_tells (next_of t) e.number due in one_went items h e rest t hs same (omega (arith, le, from.0)) are s)
 
-    read : e.number ≡ next_of t → Went items left (read_next h (next_of t + 1) e.item left) hs
-    read first = read_one items h e.item left hs (subst (λ n. slice_get items n ≡ Some e.item) first are.0) are.1 stands_left
-
-    one : e.number ≡ next_of t → Went items t u hs
-    one first =
-        let w = subst (λ n. Went items left (read_next h (n + 1) e.item left) hs) (sym first) (read first) in
-        record { told = w.told; text = w.text; stands = w.stands; kept = w.kept }
-
-    left_early : early_of u ≡ rest
-    left_early = next_early h (e.number + 1) e.item left
-
-    more : ((v : Told) (gs : List Heard) → early_of v ≡ rest → AreItems items rest → Stands items v gs → Went items v (read_on_over h rest v) gs) → (first : e.number ≡ next_of t)
-        → Went items u (read_on_over h rest u) (hs ++ what (one first).told)
-    more again first = again u (hs ++ what (one first).told) left_early are.1 (one first).stands
-
-kept_items : (items : List Item) (k : ℕ) (item : Item) (es : List Early) → slice_get items k ≡ Some item → AreItems items es → AreItems items (kept k item es)
+kept_items : (items : List Item) (k : ℕ) (item : Carried) (es : List Early) → slice_get items k ≡ Some item.item → AreItems items es → AreItems items (kept k item es)
 kept_items items k item [] is are = (is, tt)
 kept_items items k item (e ∷ rest) is are =
     subst (AreItems items) (sym (kept_cases (nat_lt e.number k) k item e rest refl))
@@ -197,23 +208,35 @@ of_went items t u hs w = record {
   kept = w.kept;
 }
 
-event_went : (items : List Item) (e : Event) (t : Told) (hs : List Heard) → after_event e t ≡ after_whole_event e t → IsOf items e → AreItems items (early_of t) → Stands items t hs
-    → Printed items (new_text e t) (after_event e t) hs
-event_went items (captured h k item) t hs same is are s =
-    of_went items t (after_event (captured h k item) t) hs
-    (subst (λ u. Went items t u hs) (sym same)
-    (by_test (λ u. Went items t u hs) (is_repeat k t.track) t (read_on h (with_kept_item k item t)) (λ old. stayed items t hs are s) (λ new. taken)))
-  where
-    u : Told
-    u = with_kept_item k item t
+-- what takes effect, or moves the flow on, reads what is kept
+brought_went : (items : List Item) (h : Heading) (n : ℕ) (t : Told) (hs : List Heard) → IsOrdered t → AreKept (next_of t) n (early_of t) → AreItems items (early_of t) → Stands items t hs → Went items t (read_below h n t) hs
+brought_went items h n t hs ordered all are s = below_went items h n t.track.early t hs refl all ordered are s
 
-    taken : Went items t (read_on h u) hs
+acknowledged_went : (items : List Item) (h : Heading) (o : Option ℕ) (n : ℕ) (t : Told) (hs : List Heard) → IsOrdered t → AreKept (next_of t) n (early_of t) → AreItems items (early_of t) → Stands items t hs
+    → Went items t (read_below_if h (up_to o (Some n)) t) hs
+acknowledged_went items h None n t hs ordered all are s = stayed items t hs are s
+acknowledged_went items h (Some last) n t hs ordered all are s = brought_went items h (min n (last + 1)) t hs ordered (λ m le lt. all m le (omega (arith, lt))) are s
+
+event_went : (items : List Item) (first : ℕ) (before : List ℕ) (e : Event) (t : Told) (hs : List Heard) → IsOrdered t → ((n : ℕ) → n < first → IsKnown n t) → ((n : ℕ) → IsAmong n before → IsKnown n t)
+    → ((n : ℕ) → first ≤ n → IsLate e n → IsAmong n before) → IsOf items e → AreItems items (early_of t) → Stands items t hs
+    → Printed items (new_text e t) (after_event e t) hs
+event_went items first before (captured h k item) t hs ordered low known late is are s =
+    of_went items t (after_event (captured h k item) t) hs
+    (subst (λ u. Went items t u hs) (sym (event_whole first before (captured h k item) t ordered low known late))
+    (by_test (λ u. Went items t u hs) (is_repeat k t.track) t (with_kept_item k item (read_below h (k - most_early) t)) (λ old. stayed items t hs are s) (λ new. taken)))
+  where
+    taken : Went items t (with_kept_item k item (read_below h (k - most_early) t)) hs
     taken =
-        let w = over_went items h (early_of u) u hs refl (kept_items items k item (early_of t) is are) (record { speech = s.speech; heard = s.heard }) in
-        record { told = w.told; text = w.text; stands = w.stands; kept = w.kept }
-event_went items (acknowledged h n) t hs same is are s =
-    of_went items t (after_event (acknowledged h n) t) hs (subst (λ u. Went items t u hs) (sym same) (stayed items t hs are s))
-event_went items (meanwhile calls text is_refused) t hs same is are s = record {
+        let w = brought_went items h (k - most_early) t hs ordered (λ m le lt. late_kept first before t low known (λ n. n + most_early < k) late m le (omega (arith, lt))) are s in
+        record { told = w.told; text = w.text; stands = record { speech = w.stands.speech; heard = w.stands.heard }; kept = kept_items items k item (early_of (read_below h (k - most_early) t)) is w.kept }
+event_went items first before (acknowledged h n) t hs ordered low known late is are s =
+    of_went items t (after_event (acknowledged h n) t) hs
+    (subst (λ u. Went items t u hs) (sym (event_whole first before (acknowledged h n) t ordered low known late))
+    (acknowledged_went items h (last_number t.track.early) n t hs ordered (λ m le lt. late_kept first before t low known (λ i. i < n) late m le lt) are s))
+event_went items first before (read h) t hs ordered low known late is are s =
+    of_went items t (after_event (read h) t) hs
+    (subst (λ u. Went items t u hs) (sym (event_whole first before (read h) t ordered low known late)) (first_went items h t.track.early t hs refl ordered are s))
+event_went items first before (meanwhile calls text is_refused) t hs ordered low known late is are s = record {
   told = [];
   text = refl;
   stands = record { speech = s.speech; heard = append-nil hs ∙ s.heard };
@@ -235,17 +258,33 @@ events_went : (items : List Item) (first : ℕ) (before : List ℕ) (events : Li
     → AreWithinReach first before events → AreOf items events → AreItems items (early_of t) → Stands items t hs → Printed items (flow_text events t) (after_events events t) hs
 events_went items first before [] t hs ordered low known within are kept s = record { told = []; text = refl; stands = record { speech = s.speech; heard = append-nil hs ∙ s.heard }; kept = kept }
 events_went items first before (e ∷ more) t hs ordered low known within are kept s =
-    let p = event_went items e t hs (event_whole first before e t ordered low known within.0) are.0 kept s in
+    let p = event_went items first before e t hs ordered low known within.0 are.0 kept s in
     printed_on items (new_text e t) (flow_text more (after_event e t)) (after_event e t) (after_events more (after_event e t)) hs p
     (events_went items first (with_captured e before) more (after_event e t) (hs ++ what p.told) (event_ordered e t ordered) (λ n lt. event_known n e t ordered (low n lt)) (known_step before e t ordered known) within.1 are.1 p.kept p.stands)
 
+abbrev AreBelow : ℕ → List Early → Type 0
+AreBelow n [] = Unit {0}
+AreBelow n (e ∷ rest) = (e.number < n) × AreBelow n rest
+
+pub least_same : (a : ℕ) → min a a ≡ a
+least_same a = omega arith
+
+pub after_append : (xs ys : List Event) (t : Told) → after_events (xs ++ ys) t ≡ after_events ys (after_events xs t)
+after_append [] ys t = refl
+after_append (e ∷ xs) ys t = after_append xs ys (after_event e t)
+
 -- ---- all items are read
 
-all_read : (items : List Item) (events : List Event) (t : Told) → early_of t ≡ [] → next_of t ≡ 0 → IsWhole items events → length items ≤ next_of (after_events events t)
-all_read items events t none at w =
+-- where none is kept any more
+all_read : (items : List Item) (events : List Event) (t : Told) → early_of t ≡ [] → IsWhole items events → early_of (after_events events t) ≡ [] → length items ≤ next_of (after_events events t)
+all_read items events t none w left =
     not_less (next_of (after_events events t)) (length items)
-    (λ lt. no_known_next (after_events events t) (events_ordered events t (new_ordered t none))
+    (λ lt. not_kept
     (captured_in_known [] events t (new_ordered t none) (λ n nothing. absurd nothing) (next_of (after_events events t)) (w.all (next_of (after_events events t)) lt)))
+  where
+    not_kept : IsKnown (next_of (after_events events t)) (after_events events t) → ⊥
+    not_kept (inl lt) = omega (arith, lt)
+    not_kept (inr k) = subst (Kept (next_of (after_events events t))) left k
 
 take_over : (xs : List Item) (n : ℕ) → length xs ≤ n → take n xs ≡ xs
 take_over [] zero le = refl
@@ -258,11 +297,12 @@ get_below [] i x e = (cc)
 get_below (y ∷ xs) zero x e = omega arith
 get_below (y ∷ xs) (suc i) x e = let lt = get_below xs i x e in omega (arith, lt)
 
-none_left : (items : List Item) (n : ℕ) (es : List Early) → length items ≤ n → AreFrom (n + 1) es → AreItems items es → es ≡ []
-none_left items n [] le from are = refl
-none_left items n (e ∷ rest) le from are = absurd (omega (arith, le, from.0, get_below items e.number e.item are.0))
+last_item : (items : List Item) (es : List Early) (i last : ℕ) → AreItems items es → option_map (λ (e : Early). e.number) (slice_get es i) ≡ Some last → last < length items
+last_item items [] i last are is = (cc)
+last_item items (e ∷ es) zero last are is = let same : e.number ≡ last = (cc) in subst (λ n. n < length items) same (get_below items e.number e.item.item are.0)
+last_item items (e ∷ es) (suc i) last are is = last_item items es i last are.1 is
 
-first_of : (field : ℕ) (t : Told) → field < 64 → t.track ≡ first_track field → t.track ≡ record { next = 0; early = []; speech = start }
+pub first_of : (field : ℕ) (t : Told) → field < 64 → t.track ≡ first_track field → t.track ≡ record { next = 0; early = []; speech = start }
 first_of field t small at =
     let test : nat_lt field 64 ≡ true = grind (arith, nat_tests) in
     at ∙ ap (λ p. cond p (record { next = 0; early = []; speech = start }) (record { next = field; early = []; speech = Waiting })) test
@@ -278,13 +318,78 @@ whole_printed items events t first w =
     } in
     events_went items 0 [] events t [] (new_ordered t none) (λ n lt. absurd (omega (arith, lt))) (λ n among. absurd among) w.reach w.of (subst (AreItems items) (sym none) tt) begun
 
--- and none is kept
-pub nothing_kept : (items : List Item) (events : List Event) (field : ℕ) (t : Told) → field < 64 → t.track ≡ first_track field → IsWhole items events → (after_events events t).track.early ≡ []
-nothing_kept items events field t small at w =
-    let u = after_events events t in
-    let first = first_of field t small at in
-    let none : early_of t ≡ [] = ap (λ (x : Track). x.early) first in
-    none_left items (next_of u) (early_of u) (all_read items events t none (ap (λ (x : Track). x.next) first) w) (events_ordered events t (new_ordered t none)) (whole_printed items events t first w).kept
+-- ---- the end
+
+-- the end leaves nothing
+over_empty : (h : Heading) (n : ℕ) (es : List Early) (t : Told) → early_of t ≡ es → AreBelow n es → early_of (brought_over h n es t) ≡ []
+over_empty h n [] t same below = passed_early h n t ∙ same
+over_empty h n (e ∷ rest) t same below =
+    let u = item_read h e (with_early rest t) in
+    ap (λ p. early_of (cond p (brought_over h n rest u) (passed h n t))) (lt_true e.number n below.0) ∙ over_empty h n rest u (read_early h e (with_early rest t)) below.1
+
+last_more : (e g : Early) (rest : List Early) → last_number (e ∷ g ∷ rest) ≡ last_number (g ∷ rest)
+last_more e g rest =
+    let one : length (e ∷ g ∷ rest) - 1 ≡ suc (length (g ∷ rest) - 1) = omega arith in ap (λ i. option_map (λ (x : Early). x.number) (slice_get (e ∷ g ∷ rest) i)) one
+
+-- each number is at most the last one
+last_below : (n : ℕ) (es : List Early) (last : ℕ) → AreFrom n es → last_number es ≡ Some last → AreBelow (last + 1) es
+last_below n [] last from is = tt
+last_below n (e ∷ []) last from is = let same : e.number ≡ last = (cc) in (omega (arith, same), tt)
+last_below n (e ∷ g ∷ rest) last from is =
+    let more = last_below (e.number + 1) (g ∷ rest) last from.1 (sym (last_more e g rest) ∙ is) in
+    (omega (arith, more.0, from.1.0), more)
+
+pub end_empty : (h : Heading) (t : Told) → IsOrdered t → early_of (after_events (acknowledged_event h (behind_last (Some t.track))) t) ≡ []
+unfolding brought
+end_empty h t ordered = by_last (last_number t.track.early) refl
+  where
+    none_kept : (es : List Early) → last_number es ≡ None → es ≡ []
+    none_kept [] is = refl
+    none_kept (e ∷ []) is = (cc)
+    none_kept (e ∷ g ∷ rest) is = let none : g ∷ rest ≡ [] = none_kept (g ∷ rest) (sym (last_more e g rest) ∙ is) in (cc)
+
+    by_last : (o : Option ℕ) → last_number t.track.early ≡ o → early_of (after_events (acknowledged_event h (option_map (λ number. number + 1) o)) t) ≡ []
+    by_last None is = none_kept t.track.early is
+    by_last (Some last) is =
+        ap (λ o. early_of (brought_if h (up_to o (Some (last + 1))) t)) is
+        ∙ ap (λ m. early_of (brought h m t)) (least_same (last + 1))
+        ∙ over_empty h (last + 1) t.track.early t refl (last_below (next_of t) t.track.early last ordered is)
+
+-- and it comes behind all items
+pub whole_with : (items : List Item) (events : List Event) (h : Heading) (o : Option ℕ) → IsWhole items events → IfSome o (λ n. n ≤ length items) → IsWhole items (events ++ acknowledged_event h o)
+whole_with items events h None w bound = subst (IsWhole items) (sym (append-nil events)) w
+whole_with items events h (Some last) w bound = record {
+  of = of_append events w.of;
+  all = λ n lt. subst (IsAmong n) (sym (captured_append events [])) (w.all n lt);
+  reach = reach_append events [] w.reach (λ n lt. w.all n (omega (arith, lt, bound)));
+}
+  where
+    acks : List Event
+    acks = acknowledged h last ∷ []
+
+    of_append : (es : List Event) → AreOf items es → AreOf items (es ++ acks)
+    of_append [] a = (tt, tt)
+    of_append (e ∷ more) a = (a.0, of_append more a.1)
+
+    captured_append : (es : List Event) (before : List ℕ) → captured_in (es ++ acks) before ≡ captured_in es before
+    captured_append [] before = refl
+    captured_append (e ∷ more) before = captured_append more (with_captured e before)
+
+    reach_append : (es : List Event) (before : List ℕ) → AreWithinReach 0 before es → ((n : ℕ) → n < last → IsAmong n (captured_in es before)) → AreWithinReach 0 before (es ++ acks)
+    reach_append [] before a late = (λ n le lt. late n lt, tt)
+    reach_append (e ∷ more) before a late = (a.0, reach_append more (with_captured e before) a.1 late)
+
+pub end_bound : (items : List Item) (events : List Event) (t : Told) → t.track ≡ record { next = 0; early = []; speech = start } → IsWhole items events
+    → IfSome (behind_last (Some (after_events events t).track)) (λ n. n ≤ length items)
+end_bound items events t first w = by_last (last_number u.track.early) refl
+  where
+    u : Told
+    u = after_events events t
+
+    by_last : (o : Option ℕ) → last_number u.track.early ≡ o → IfSome (option_map (λ number. number + 1) o) (λ n. n ≤ length items)
+    by_last None is = tt
+    by_last (Some last) is =
+        let below : last < length items = last_item items u.track.early (length u.track.early - 1) last (whole_printed items events t first w).kept is in omega (arith, below)
 
 -- ---- what is heard is the conversation, up to its first fault
 
@@ -334,15 +439,16 @@ all_said runs law p (x ∷ fed) (y ∷ told) e =
     (λ q leads. all_said runs law q fed told
     (tail_is y.2 (heard_of (Hearing p) x) (what told) (heard_in (after_item (Hearing p) x) fed) e ∙ ap (λ r. heard_in (speech_at x.last r) fed) leads)))
 
+-- of a flow of which nothing is kept any more
 pub whole_said : (runs : SignsRunOn) (law : OneItemMore) → ((fed : List Item) → conversation fed ≡ said (opening []) (written fed)) → ((fed : List Item) → ending fed ≡ run (opening []) (written fed))
-    → (items : List Item) (events : List Event) (field : ℕ) (t : Told) → field < 64 → t.track ≡ first_track field → IsWhole items events → SaysConversation (of_courier items) (flow_text events t)
-whole_said runs law messages ends items events field t small at w =
+    → (items : List Item) (events : List Event) (field : ℕ) (t : Told) → field < 64 → t.track ≡ first_track field → IsWhole items events → early_of (after_events events t) ≡ []
+    → SaysConversation (of_courier items) (flow_text events t)
+whole_said runs law messages ends items events field t small at w left =
     let fed = of_courier items in
     let first = first_of field t small at in
     let none : early_of t ≡ [] = ap (λ (x : Track). x.early) first in
-    let zero_next : next_of t ≡ 0 = ap (λ (x : Track). x.next) first in
     let p = whole_printed items events t first w in
-    let all : take (next_of (after_events events t)) items ≡ items = take_over items (next_of (after_events events t)) (all_read items events t none zero_next w) in
+    let all : take (next_of (after_events events t)) items ≡ items = take_over items (next_of (after_events events t)) (all_read items events t none w left) in
     let r = all_said runs law (opening []) fed p.told (p.stands.heard ∙ ap (λ l. heard_in start (of_courier l)) all) in record {
       messages = r.messages;
       more = r.more;
@@ -350,3 +456,15 @@ whole_said runs law messages ends items events field t small at w =
       said = r.said ∙ sym (messages fed);
       whole = subst (λ q. IfOk q (λ phase. r.more ≡ [])) (sym (ends fed)) r.whole;
     }
+
+-- and of one whose end comes
+pub whole_end_said : (runs : SignsRunOn) (law : OneItemMore) → ((fed : List Item) → conversation fed ≡ said (opening []) (written fed)) → ((fed : List Item) → ending fed ≡ run (opening []) (written fed))
+    → (items : List Item) (events : List Event) (field : ℕ) (t : Told) (h : Heading) → field < 64 → t.track ≡ first_track field → IsWhole items events
+    → SaysConversation (of_courier items) (flow_text (events ++ acknowledged_event h (behind_last (Some (after_events events t).track))) t)
+whole_end_said runs law messages ends items events field t h small at w =
+    let u = after_events events t in
+    let acks = acknowledged_event h (behind_last (Some u.track)) in
+    let first = first_of field t small at in
+    let none : early_of t ≡ [] = ap (λ (x : Track). x.early) first in
+    whole_said runs law messages ends items (events ++ acks) field t small at (whole_with items events h (behind_last (Some u.track)) w (end_bound items events t first w))
+    (ap early_of (after_append events acks t) ∙ end_empty h u (events_ordered events t (new_ordered t none)))

@@ -6,6 +6,7 @@ use Rattle.xns_spp.specs.declared.header.Header.{Header}
 use Rattle.xns_calls.specs.declared.ahead.Ahead.{Ahead}
 use Rattle.xns_calls.specs.declared.connection.Connection.{Connection}
 use Rattle.xns_calls.specs.declared.due.Due.{Due}
+use Rattle.xns_calls.specs.declared.given.Given.{Given}
 use Rattle.xns_calls.specs.declared.track.Track.{Track}
 use Rattle.xns_calls.specs.Numbers.{near}
 use Rattle.xns_calls.specs.Over.{closing_with, side_in, with_closing}
@@ -77,15 +78,40 @@ if_begun (Some track) number = number
 abbrev pub due_of : Bool → Connection → Option ℕ
 due_of is_behind connection = if_begun (side_in is_behind connection).track (effective (nearer (aheads_in is_behind connection)))
 
--- the numbers that take effect with a packet of a flow
-abbrev pub due_in : Bool → Connection → Due
-due_in is_behind connection = record { own = due_of is_behind connection; other = due_of (not is_behind) connection }
+-- the greatest number that has taken effect, once this one does
+abbrev pub given_with : Option ℕ → ℕ → ℕ
+given_with number given = max given (unwrap_or number 0)
 
 -- a packet more of the connection was captured
 abbrev pub nearer_by_one : Connection → Connection
 nearer_by_one connection = record connection {
   first_ahead = waiting (nearer connection.first_ahead);
+  first_given = given_with (effective (nearer connection.first_ahead)) connection.first_given;
   second_ahead = waiting (nearer connection.second_ahead);
+  second_given = given_with (effective (nearer connection.second_ahead)) connection.second_given;
+}
+
+-- up to where items of a flow and of the one behind it are waited for no longer
+abbrev pub given_in : Bool → Connection → Given
+given_in true connection = record { own = connection.second_given; other = connection.first_given }
+given_in false connection = record { own = connection.first_given; other = connection.second_given }
+
+-- the number that a field acknowledges of a flow
+abbrev pub acknowledged_of : Option Track → ℕ → Option ℕ
+acknowledged_of None field = None
+acknowledged_of (Some track) field = near track.next field
+
+-- what a packet of a flow acknowledges of the flow behind
+abbrev pub acknowledged_in : Bool → Header → Connection → Option ℕ
+acknowledged_in is_behind f connection = acknowledged_of (side_in (not is_behind) connection).track f.acknowledge
+
+-- what takes effect with a packet of a flow, and what it acknowledges itself
+abbrev pub due_in : Bool → Header → Connection → Due
+due_in is_behind f connection = record {
+  own = due_of is_behind connection;
+  other = due_of (not is_behind) connection;
+  acknowledged = acknowledged_in is_behind f connection;
+  given = given_in is_behind (nearer_by_one connection);
 }
 
 -- a number that a packet of a flow acknowledges of the flow behind is kept

@@ -1,23 +1,24 @@
 -- What happens to one flow, with numbers in the place of fields.
-use Rattle.std.specs.Prelude.{◌≡◌, ℕ, ◌+◌, ◌≤◌, ◌<◌, ◌==◌, ◌⊎◌, Bool, if◌then◌else◌, List, [], ◌∷◌, ◌++◌, Option, Some, None}
+use Rattle.std.specs.Prelude.{◌≡◌, ℕ, ◌+◌, ◌-◌, ◌≤◌, ◌<◌, nat_lt, ◌⊎◌, Bool, if◌then◌else◌, List, [], ◌∷◌, ◌++◌, Option, Some, None}
 use Rattle.xns_spp.specs.Header.{is_system}
-use Rattle.xns_spp.specs.Item.{item_with}
 use Rattle.xns_spp.specs.declared.header.Header.{Header}
-use Rattle.xns_spp.specs.declared.item.Item.{Item}
-use Rattle.xns_calls.specs.Exchange.{Scene, is_repeat, up_to}
+use Rattle.xns_calls.specs.declared.carried.Carried.{Carried}
+use Rattle.xns_calls.specs.Exchange.{Scene, carried, is_repeat, up_to}
 use Rattle.xns_calls.specs.Numbers.{most_early, near}
 use Rattle.xns_calls.specs.Queue.{last_number}
-use Rattle.xns_calls.specs.Reading.{Told, brought, item_taken, read_next, with_kept_item}
+use Rattle.xns_calls.specs.Reading.{Told, brought, first_read, item_taken, read_next, with_kept_item}
 use Rattle.xns_calls.specs.declared.early.Early.{Early}
+use Rattle.xns_calls.specs.declared.due.Due.{Due}
 use Rattle.xns_calls.specs.declared.heading.Heading.{Heading}
 use Rattle.xns_calls.specs.declared.track.Track.{Track}
 use Rattle.xns_calls.specs.declared.unanswered.Calls.{Calls}
 
--- an item of the flow is captured, or takes effect what acknowledges all its items below a number; or what other packets and lines do
--- meanwhile, by which the calls without an answer, the text of the line, and whether something was refused, are others
+-- an item of the flow is captured, or takes effect what acknowledges all its items below a number, or the next item is read if it is kept;
+-- or what other packets and lines do meanwhile, by which the calls without an answer, the text of the line, and whether something was refused, are others
 pub data Event : Type 0 where
-  captured : Heading → ℕ → Item → Event
+  captured : Heading → ℕ → Carried → Event
   acknowledged : Heading → ℕ → Event
+  read : Heading → Event
   meanwhile : Calls → List ℕ → Bool → Event
 
 abbrev pub with_others : Calls → List ℕ → Bool → Told → Told
@@ -31,6 +32,7 @@ brought_if heading (Some number) t = brought heading number t
 abbrev pub after_event : Event → Told → Told
 after_event (captured heading number item) t = if is_repeat number t.track then t else item_taken heading number item t
 after_event (acknowledged heading number) t = brought_if heading (up_to (last_number t.track.early) (Some number)) t
+after_event (read heading) t = first_read heading t
 after_event (meanwhile calls text is_refused) t = with_others calls text is_refused t
 
 abbrev pub after_events : List Event → Told → Told
@@ -39,7 +41,7 @@ after_events (e ∷ more) t = after_events more (after_event e t)
 
 -- ---- the events of packets
 
-abbrev pub captured_event : Heading → Option ℕ → Item → List Event
+abbrev pub captured_event : Heading → Option ℕ → Carried → List Event
 captured_event heading None item = []
 captured_event heading (Some number) item = captured heading number item ∷ []
 
@@ -49,26 +51,39 @@ acknowledged_event heading None = []
 acknowledged_event heading (Some number) = acknowledged heading number ∷ []
 
 -- those of a packet of the flow, once the flow behind is brought to what takes effect of it
-abbrev pub own_events : Heading → Option ℕ → Header → List ℕ → Track → Scene → List Event
+abbrev pub own_events : Heading → Due → Header → List ℕ → Track → Scene → List Event
 own_events heading due f content track s =
     meanwhile (record { own = s.own.call; asked = s.other.call }) s.text s.is_refused
-    ∷ (if is_system f then [] else captured_event heading (near track.next f.sequence) (item_with f content)) ++ acknowledged_event heading due
+    ∷ (if is_system f then [] else captured_event heading (near track.next f.sequence) (carried heading due.acknowledged f content)) ++ acknowledged_event heading due.own
 
--- ---- the same where nothing is missing: the items that are kept are read while they come next
+-- ---- the same where nothing is missing: the items that are kept are read, without a line of missing ones
 
-abbrev pub read_on_over : Heading → List Early → Told → Told
-read_on_over heading [] t = t
-read_on_over heading (early ∷ rest) t =
-    if early.number == t.track.next then read_on_over heading rest
-    (read_next heading (early.number + 1) early.item (record t { track = record t.track { early = rest } }))
+abbrev pub read_below_over : Heading → ℕ → List Early → Told → Told
+read_below_over heading number [] t = t
+read_below_over heading number (early ∷ rest) t =
+    if nat_lt early.number number then read_below_over heading number rest
+    (read_next heading (early.number + 1) early.item.item (record t { track = record t.track { early = rest } }))
     else t
 
-abbrev pub read_on : Heading → Told → Told
-read_on heading t = read_on_over heading t.track.early t
+-- those below the number are read
+abbrev pub read_below : Heading → ℕ → Told → Told
+read_below heading number t = read_below_over heading number t.track.early t
+
+abbrev pub read_below_if : Heading → Option ℕ → Told → Told
+read_below_if heading None t = t
+read_below_if heading (Some number) t = read_below heading number t
+
+abbrev pub read_first_over : Heading → List Early → Told → Told
+read_first_over heading [] t = t
+read_first_over heading (early ∷ rest) t =
+    if nat_lt t.track.next early.number then t
+    else read_next heading (early.number + 1) early.item.item (record t { track = record t.track { early = rest } })
 
 abbrev pub after_whole_event : Event → Told → Told
-after_whole_event (captured heading number item) t = if is_repeat number t.track then t else read_on heading (with_kept_item number item t)
-after_whole_event (acknowledged heading number) t = t
+after_whole_event (captured heading number item) t =
+    if is_repeat number t.track then t else with_kept_item number item (read_below heading (number - most_early) t)
+after_whole_event (acknowledged heading number) t = read_below_if heading (up_to (last_number t.track.early) (Some number)) t
+after_whole_event (read heading) t = read_first_over heading t.track.early t
 after_whole_event (meanwhile calls text is_refused) t = with_others calls text is_refused t
 
 abbrev pub after_whole_events : List Event → Told → Told
@@ -84,6 +99,7 @@ IsAmong number (n ∷ more) = (number ≡ n) ⊎ IsAmong number more
 abbrev pub with_captured : Event → List ℕ → List ℕ
 with_captured (captured heading number item) before = number ∷ before
 with_captured (acknowledged heading number) before = before
+with_captured (read heading) before = before
 with_captured (meanwhile calls text is_refused) before = before
 
 -- the numbers of the items that are captured, those of `before` among them
@@ -96,6 +112,7 @@ captured_in (e ∷ more) before = captured_in more (with_captured e before)
 abbrev pub IsLate : Event → ℕ → Type 0
 IsLate (captured heading number item) n = n + most_early < number
 IsLate (acknowledged heading number) n = n < number
+IsLate (read heading) n = ⊥
 IsLate (meanwhile calls text is_refused) n = ⊥
 
 -- each item from `first` on is captured within 63 numbers of its place, and before what acknowledges it takes effect

@@ -4,13 +4,13 @@ use Rattle.std.specs.Prelude.{◌&&◌, true}
 use Rattle.std.specs.List.{list_any}
 use Rattle.std.specs.Option.{is_some}
 use Rattle.xns_idp.specs.Packet.{PacketModel}
-use Rattle.xns_spp.specs.declared.item.Item.{Item}
 use Rattle.xns_spp.specs.declared.header.Header.{Header}
 use Rattle.xns_spp.specs.Ends.{most_pending}
 use Rattle.xns_spp.specs.Header.{is_system}
 use Rattle.xns_spp.specs.Item.{item_with}
 use Rattle.courier_messages.specs.Conversation.{opening}
 use Rattle.xns_lines.specs.declared.page.Page.{Page}
+use Rattle.xns_calls.specs.declared.carried.Carried.{Carried}
 use Rattle.xns_calls.specs.declared.due.Due.{Due}
 use Rattle.xns_calls.specs.declared.heading.Heading.{Heading}
 use Rattle.xns_calls.specs.declared.side.Side.{Side}
@@ -20,6 +20,7 @@ use Rattle.xns_calls.specs.Numbers.{near}
 use Rattle.xns_calls.specs.Queue.{last_number}
 use Rattle.xns_calls.specs.Reading.{Told, brought, item_taken}
 use Rattle.xns_calls.specs.Texts.{flow_line}
+use Rattle.xns_calls.specs.Turns.{next_turn}
 
 -- a flow that has not begun
 abbrev pub no_side : Side
@@ -126,34 +127,38 @@ abbrev pub new_number : Option Track → ℕ → Option ℕ
 new_number None field = None
 new_number (Some track) field = unless_repeat track (near track.next field)
 
-abbrev pub take_in_track : Heading → ℕ → Item → Option Track → Scene → Scene
+abbrev pub take_in_track : Heading → ℕ → Carried → Option Track → Scene → Scene
 take_in_track heading number item None s = s
 take_in_track heading number item (Some track) s = after_told (item_taken heading number item (told_of track s)) s
 
 -- a new item is taken, if the flow has begun
-unfoldable pub after_new : Heading → ℕ → Item → Scene → Scene
+unfoldable pub after_new : Heading → ℕ → Carried → Scene → Scene
 after_new heading number item s = take_in_track heading number item s.own.track s
 
-abbrev pub after_number : Heading → Option ℕ → Item → Scene → Scene
+abbrev pub after_number : Heading → Option ℕ → Carried → Scene → Scene
 after_number heading None item s = s
 after_number heading (Some number) item s = after_new heading number item s
 
-abbrev pub take_number : Heading → Header → Item → Scene → Scene
+abbrev pub take_number : Heading → Header → Carried → Scene → Scene
 take_number heading f item s = after_number heading (new_number s.own.track f.sequence) item s
 
+-- the item of a packet, with what the packet acknowledges of the flow behind and the line or frame that brought it
+abbrev pub carried : Heading → Option ℕ → Header → List ℕ → Carried
+carried heading acknowledged f content = record { item = item_with f content; acknowledged = acknowledged; line = heading.origin.number }
+
 -- what the item of a data packet does
-unfoldable pub after_data : Heading → PacketModel → Header → List ℕ → Scene → Scene
-after_data heading packet f content s = take_number heading f (item_with f content) (begun heading packet f s)
+unfoldable pub after_data : Heading → Option ℕ → PacketModel → Header → List ℕ → Scene → Scene
+after_data heading acknowledged packet f content s = take_number heading f (carried heading acknowledged f content) (begun heading packet f s)
 
 -- a system packet brings no item
-unfoldable pub after_content : Heading → PacketModel → Header → List ℕ → Scene → Scene
-after_content heading packet f content s = if is_system f then s else after_data heading packet f content s
+unfoldable pub after_content : Heading → Option ℕ → PacketModel → Header → List ℕ → Scene → Scene
+after_content heading acknowledged packet f content s = if is_system f then s else after_data heading acknowledged packet f content s
 
 -- what a packet does: first what takes effect of the flow behind, then its item, if it brings one, and then what takes effect of its own
 -- flow
 unfoldable pub after_packet : Heading → Due → PacketModel → Header → List ℕ → Scene → Scene
 after_packet heading due packet f content s =
-    own_reached heading due.own (after_content heading packet f content (other_reached heading due.other s))
+    own_reached heading due.own (after_content heading due.acknowledged packet f content (other_reached heading due.other s))
 
 -- a data packet begins its flow, or its item is no repeat
 abbrev pub brings_new : Option Track → ℕ → Bool
@@ -164,9 +169,17 @@ brings_new (Some track) field = is_some (new_number (Some track) field)
 abbrev pub brings_on : Due → Scene → Bool
 brings_on due s = is_some (reached s.other.track due.other) || is_some (reached s.own.track due.own)
 
--- memory is wanted only where what takes effect brings a flow to a number, or where a data packet brings something new
+-- a data packet brings something new
+abbrev pub brings_data : Header → Option Track → Bool
+brings_data f track = not (is_system f) && brings_new track f.sequence
+
+-- memory is wanted only where what takes effect brings a flow to a number, where a data packet brings something new,
+abbrev pub wants_to_take : Due → Header → Scene → Bool
+wants_to_take due f s = brings_on due s || brings_data f s.own.track
+
+-- or where one of the flows has an item that can be read
 abbrev pub wants_memory : Due → Header → Scene → Bool
-wants_memory due f s = brings_on due s || (not (is_system f) && brings_new s.own.track f.sequence)
+wants_memory due f s = wants_to_take due f s || is_some (next_turn due.given s.own.track s.other.track)
 
 -- ---- the end of the input
 

@@ -10,7 +10,6 @@ use Rattle.xns_idp.specs.Packet.{PacketModel}
 use Rattle.xns_idp.specs.Reading.{packet_of}
 use Rattle.xns_idp.specs.declared.fault.IdpFault.{IdpFault}
 use Rattle.xns_spp.specs.Header.{header_of, is_system}
-use Rattle.xns_spp.specs.Item.{item_with}
 use Rattle.xns_spp.specs.declared.header.Header.{Header}
 use Rattle.xns_spp.specs.declared.item.Item.{Item}
 use Rattle.xns_spp.specs.declared.spp_fault.SppFault.{SppFault}
@@ -19,11 +18,11 @@ use Rattle.xns_dump.specs.Flows.{flow_of}
 use Rattle.xns_dump.specs.Layers.Packets.{idp_refusal}
 use Rattle.xns_dump.specs.Layers.Sequenced.{header_refusal}
 use Rattle.xns_calls.specs.Calls.{line_taken, nothing_known}
-use Rattle.xns_calls.specs.Acknowledged.{due_of}
+use Rattle.xns_calls.specs.Acknowledged.{acknowledged_in, due_of}
 use Rattle.xns_calls.specs.Anew.{begins_anew}
 use Rattle.xns_calls.specs.Capture.{Known, heading_at, is_behind_in, place_of}
 use Rattle.xns_calls.specs.Events.{Event, acknowledged_event, captured_event}
-use Rattle.xns_calls.specs.Exchange.{behind_last, first_track}
+use Rattle.xns_calls.specs.Exchange.{behind_last, carried, first_track}
 use Rattle.xns_calls.specs.Naming.{Programs}
 use Rattle.xns_calls.specs.Numbers.{near}
 use Rattle.xns_calls.specs.Origins.{line_origin}
@@ -95,14 +94,14 @@ next_in field None = (first_track field).next
 next_in field (Some track) = track.next
 
 -- its own data packet brings an item
-abbrev pub item_events : Heading → Header → List ℕ → Option Track → List Event
-item_events h f content track =
-    if is_system f then [] else captured_event h (near (next_in f.sequence track) f.sequence) (item_with f content)
+abbrev pub item_events : Heading → Header → List ℕ → Option ℕ → Option Track → List Event
+item_events h f content acknowledged track =
+    if is_system f then [] else captured_event h (near (next_in f.sequence track) f.sequence) (carried h acknowledged f content)
 
--- what a packet of flow q is to flow p, of which this is kept: its item, and what takes effect with it
-abbrev pub events_between : FlowName → FlowName → Heading → Header → List ℕ → Option Track → Option ℕ → List Event
-events_between p q h f content track due =
-    if p.connection == q.connection then (if is_same p.is_behind q.is_behind then item_events h f content track else []) ++ acknowledged_event h due
+-- what a packet of flow q, which acknowledges so much, is to flow p, of which this is kept: its item, and what takes effect with it
+abbrev pub events_between : FlowName → FlowName → Heading → Header → List ℕ → Option ℕ → Option Track → Option ℕ → List Event
+events_between p q h f content acknowledged track due =
+    if p.connection == q.connection then (if is_same p.is_behind q.is_behind then item_events h f content acknowledged track else []) ++ acknowledged_event h due
     else []
 
 -- where a connection begins anew, its flows are brought behind the last item that they keep, as by an acknowledgement of all of them
@@ -111,10 +110,10 @@ ending_events p h connection =
     if p.connection == connection.number then acknowledged_event h (behind_last (side_in p.is_behind connection).track) else []
 
 abbrev pub events_there : FlowName → Heading → Arrival → Option Connection → Known → List Event
-events_there p h a None k = events_between p (next_name k) h a.1 a.2 None None
+events_there p h a None k = events_between p (next_name k) h a.1 a.2 None None None
 events_there p h a (Some connection) k =
-    if begins_anew a.1 connection then ending_events p h connection ++ events_between p (next_name k) h a.1 a.2 None None
-    else events_between p (name_in (flow_of a.0 a.1) connection) h a.1 a.2 (side_in p.is_behind connection).track (due_of p.is_behind connection)
+    if begins_anew a.1 connection then ending_events p h connection ++ events_between p (next_name k) h a.1 a.2 None None None
+    else events_between p (name_in (flow_of a.0 a.1) connection) h a.1 a.2 (acknowledged_in (is_behind_in (flow_of a.0 a.1) connection) a.1 connection) (side_in p.is_behind connection).track (due_of p.is_behind connection)
 
 abbrev pub events_at : FlowName → Origin → Option Arrival → Known → List Event
 events_at p n None k = []

@@ -20,7 +20,7 @@ use Rattle.xns_calls.specs.Capture.{Known, after_sequenced, flow_behind, place_o
 use Rattle.xns_calls.specs.Events.{AreWithinReach, Event, IsAmong, acknowledged_event, after_event, after_events, after_whole_event}
 use Rattle.xns_calls.specs.Events.{after_whole_events, captured, captured_in, own_events, with_captured}
 use Rattle.xns_calls.specs.Files.{calls_capture_text, has_file_refusal}
-use Rattle.xns_calls.specs.Exchange.{Scene, after_packet, after_told, first_track, of_other, other_reached, seen_from_other}
+use Rattle.xns_calls.specs.Exchange.{Scene, after_packet, after_told, behind_last, first_track, of_other, other_reached, seen_from_other}
 use Rattle.xns_calls.specs.Exchange.{take_number, told_of}
 use Rattle.xns_calls.specs.Input.{FlowName, TellsConversation, events_in, first_field}
 use Rattle.xns_calls.specs.Keys.{IsFlow, connection_key, key_cmp}
@@ -30,6 +30,7 @@ use Rattle.xns_calls.specs.Naming.{Programs}
 use Rattle.xns_calls.specs.Numbers.{near}
 use Rattle.xns_calls.specs.Reading.{Told}
 use Rattle.xns_calls.specs.Whole.{IsWhole, SaysConversation, flow_text, of_courier}
+use Rattle.xns_calls.specs.declared.carried.Carried.{Carried}
 use Rattle.xns_calls.specs.declared.connection.Connection.{Connection}
 use Rattle.xns_calls.specs.declared.due.Due.{Due}
 use Rattle.xns_calls.specs.declared.heading.Heading.{Heading}
@@ -61,7 +62,7 @@ pub record TheAnswerSaysRefused : Type 0 where
 
 -- what a data packet does to its flow is the event of its item, with the number that its field stands for
 abbrev pub AnItemIsAnEvent : Type 0
-AnItemIsAnEvent = (h : Heading) (f : Header) (item : Item) (s : Scene) (track : Track) (number : ℕ) → s.own.track ≡ Some track
+AnItemIsAnEvent = (h : Heading) (f : Header) (item : Carried) (s : Scene) (track : Track) (number : ℕ) → s.own.track ≡ Some track
     → near track.next f.sequence ≡ Some number
     → take_number h f item s ≡ after_told (after_event (captured h number item) (told_of track s)) s
 
@@ -70,7 +71,7 @@ AnItemIsAnEvent = (h : Heading) (f : Header) (item : Item) (s : Scene) (track : 
 pub record PacketsAreEvents : Type 0 where
   pub own : (h : Heading) (due : Due) (packet : PacketModel) (f : Header) (content : List ℕ) (s : Scene) (track : Track) → s.own.track ≡ Some track
       → after_packet h due packet f content s
-      ≡ after_told (after_events (own_events h due.own f content track (other_reached h due.other s)) (told_of track s))
+      ≡ after_told (after_events (own_events h due f content track (other_reached h due.other s)) (told_of track s))
       (other_reached h due.other s)
   pub behind : (h : Heading) (number : Option ℕ) (s : Scene) (track : Track) → s.other.track ≡ Some track
       → other_reached h number s
@@ -97,7 +98,7 @@ NothingIsMissing = (events : List Event) (t : Told) → t.track.early ≡ [] →
 
 -- an item that was captured before changes nothing and says nothing
 abbrev pub RepeatsSayNothing : Type 0
-RepeatsSayNothing = (events : List Event) (h : Heading) (number : ℕ) (item : Item) (t : Told) → t.track.early ≡ []
+RepeatsSayNothing = (events : List Event) (h : Heading) (number : ℕ) (item : Carried) (t : Told) → t.track.early ≡ []
     → (number < t.track.next) ⊎ IsAmong number (captured_in events [])
     → after_event (captured h number item) (after_events events t) ≡ after_events events t
 
@@ -113,11 +114,13 @@ pub record MissingItemsAreBeforeCapturedOnes : Type 0 where
       → after_event e (after_events events t) ≡ after_whole_event e (after_events events t)
 
 -- of a flow that begins with item 0, of which each item is captured, in whatever order within 63 numbers and before what acknowledges it
--- takes effect, the lines of the messages of its conversation are printed, and nothing else up to the first fault
+-- takes effect, the lines of the messages of its conversation are printed, and nothing else up to the first fault: once what it keeps is
+-- read at the end
 abbrev pub WholeFlowsSayTheirConversation : Type 0
-WholeFlowsSayTheirConversation = (items : List Item) (events : List Event) (field : ℕ) (t : Told) → field < most_pending
+WholeFlowsSayTheirConversation = (items : List Item) (events : List Event) (field : ℕ) (t : Told) (h : Heading) → field < most_pending
     → t.track ≡ first_track field → IsWhole items events
-    → SaysConversation (of_courier items) (flow_text events t)
+    → SaysConversation (of_courier items)
+    (flow_text (events ++ acknowledged_event h (behind_last (Some (after_events events t).track))) t)
 
 -- of an input with whatever lines and flows: where each item of a flow stands in it so, its text tells of that flow that it begins and then
 -- its conversation, and nothing else up to the first fault

@@ -4,7 +4,7 @@ use Rattle.std.specs.List.{filter, flat_map}
 use Rattle.xns_spp.specs.declared.item.Item.{Item}
 use Rattle.courier_messages.specs.Conversation.{conversation, ending}
 use Rattle.courier_messages.specs.declared.message.Message.{Message}
-use Rattle.xns_calls.specs.Events.{AreWithinReach, Event, IsAmong, acknowledged, after_event, captured, captured_in, meanwhile}
+use Rattle.xns_calls.specs.Events.{AreWithinReach, Event, IsAmong, acknowledged, after_event, captured, captured_in, meanwhile, read}
 use Rattle.xns_calls.specs.Reading.{Told}
 use Rattle.xns_calls.specs.Telling.{message_line}
 use Rattle.xns_calls.specs.declared.heading.Heading.{Heading}
@@ -12,8 +12,9 @@ use Rattle.xns_calls.specs.declared.unanswered.Calls.{Calls}
 
 -- an item that is captured is the one of its number
 abbrev pub IsOf : List Item → Event → Type 0
-IsOf items (captured heading number item) = slice_get items number ≡ Some item
+IsOf items (captured heading number item) = slice_get items number ≡ Some item.item
 IsOf items (acknowledged heading number) = Unit {0}
+IsOf items (read heading) = Unit {0}
 IsOf items (meanwhile calls text is_refused) = Unit {0}
 
 abbrev pub AreOf : List Item → List Event → Type 0
@@ -31,6 +32,7 @@ pub record IsWhole (items : List Item) (events : List Event) : Type 0 where
 abbrev pub new_text : Event → Told → List ℕ
 new_text (captured heading number item) t = drop (length t.text) (after_event (captured heading number item) t).text
 new_text (acknowledged heading number) t = drop (length t.text) (after_event (acknowledged heading number) t).text
+new_text (read heading) t = drop (length t.text) (after_event (read heading) t).text
 new_text (meanwhile calls text is_refused) t = []
 
 abbrev pub flow_text : List Event → Told → List ℕ

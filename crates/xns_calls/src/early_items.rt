@@ -2,14 +2,16 @@
 ghost use Rattle.std.specs.Prelude.{◌≡◌, [], ◌==◌, ◌<◌, length, OnErr, OnOk, IfOk, IfSome, IfNone};
 ghost use Rattle.std.specs.List.{list_any};
 ghost use Rattle.xns_calls.specs.Numbers.{most_numbers};
-ghost use Rattle.xns_calls.specs.Queue.{HasNoDue, IsFirstDue, kept, last_number};
+ghost use Rattle.xns_calls.specs.Queue.{HasNoDue, HasNoneBelow, IsFirstBelow, IsFirstDue, kept, last_number};
+ghost use Rattle.xns_calls.specs.Turns.{first_kept};
 
+use crate::carried::Carried;
 use crate::early::Early;
+use crate::first_kept::FirstKept;
 use crate::item_number::ItemNumber;
 use crate::queue::Queue;
 use std::alloc::{AllocError, Global};
 use std::marker::Model;
-use xns_spp::Item;
 
 /// The items that a flow keeps, in memory that is taken with the first of them: most flows never keep one. Contracts see
 /// them as a list.
@@ -29,7 +31,7 @@ impl Model for EarlyItems {
 }
 
 /// A queue of one item. The only error is want of memory.
-fn first_kept(alloc: Global, number: ItemNumber, item: Item) -> Result<Box<Queue>, AllocError>
+fn first_kept(alloc: Global, number: ItemNumber, item: Carried) -> Result<Box<Queue>, AllocError>
     ensures { IfOk result (λ b. b.value ≡ kept number item []) }
 {
     let mut queue = Queue::new(alloc);
@@ -69,6 +71,16 @@ impl EarlyItems {
         }
     }
 
+    /// What decides when the first item is read, or none where none is kept.
+    pub fn first(&self) -> Option<FirstKept>
+        ensures { result ≡ first_kept self.now }
+    {
+        match &self.queue {
+            None => None,
+            Some(queue) => queue.as_ref().first(),
+        }
+    }
+
     /// Takes the first item, where its number is not above this one.
     pub fn take_due(&mut self, most: u64) -> Option<Early>
         ensures some { IfSome result (λ early. IsFirstDue most early self.old self.new) }
@@ -79,6 +91,16 @@ impl EarlyItems {
             None => None,
             Some(queue) => queue.as_mut().take_due(most),
         }
+    }
+
+    /// Takes the first item, where its number is below this one.
+    pub fn take_below(&mut self, number: u64) -> Option<Early>
+        ensures some { IfSome result (λ early. IsFirstBelow number early self.old self.new) }
+        ensures none { IfNone result (HasNoneBelow number self.old) }
+        ensures same { IfNone result (self.new ≡ self.old) }
+    {
+        let most = number.checked_sub(1)?;
+        self.take_due(most)
     }
 
     /// Whether an item of that number is kept.
@@ -92,7 +114,12 @@ impl EarlyItems {
     }
 
     /// Keeps an item under its number. The only error is want of memory, which leaves what is kept as it was.
-    pub fn keep(&mut self, alloc: Global, number: ItemNumber, item: Item) -> Result<(), AllocError>
+    pub fn keep(
+        &mut self,
+        alloc: Global,
+        number: ItemNumber,
+        item: Carried,
+    ) -> Result<(), AllocError>
         ensures items { OnOk result (self.new ≡ kept number item self.old) }
         ensures same { OnErr result (self.new ≡ self.old) }
     {

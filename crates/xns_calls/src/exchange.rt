@@ -3,13 +3,13 @@ ghost use Rattle.std.specs.Option.{is_some};
 ghost use Rattle.std.specs.Prelude.{◌≡◌, ◌<◌, ◌&&◌, not, IfSome, None, OnErr, OnOk, Some, true};
 ghost use Rattle.xns_idp.specs.Packet.{packet_model};
 ghost use Rattle.xns_spp.specs.Header.{is_system};
-ghost use Rattle.xns_spp.specs.Item.{item_with};
 ghost use Rattle.xns_calls.specs.Exchange.{advanced, after_content, after_data, after_new, after_packet, behind_last as behind_last_of};
-ghost use Rattle.xns_calls.specs.Exchange.{begun as begun_of, brings_new, ended, first_track, new_number as new_number_of, other_reached};
-ghost use Rattle.xns_calls.specs.Exchange.{own_reached, reached as reached_of, scene, wants_memory};
+ghost use Rattle.xns_calls.specs.Exchange.{begun as begun_of, brings_data, brings_new, carried, ended, first_track, new_number as new_number_of};
+ghost use Rattle.xns_calls.specs.Exchange.{other_reached, own_reached, reached as reached_of, scene, wants_to_take};
 ghost use Rattle.xns_calls.specs.Numbers.{most_numbers};
 
-use crate::bringing::{bring, read_or_keep};
+use crate::bringing::{bring, keep_item};
+use crate::carried::Carried;
 use crate::due::Due;
 use crate::early_items::EarlyItems;
 use crate::heading::Heading;
@@ -25,7 +25,7 @@ use std::alloc::{AllocError, Global};
 use xns_idp::Packet;
 use xns_lines::Page;
 use xns_spp::control::SYSTEM;
-use xns_spp::{Header, MOST_PENDING};
+use xns_spp::{Header, Item, MOST_PENDING};
 
 /// Brings a flow to a number, if it has begun.
 #[tactic(auto, unfolding(crate::specs::Exchange::advanced))]
@@ -84,7 +84,7 @@ fn begun(alloc: Global, field: u16) -> Track
 
 /// Begins a flow that has not begun, with its line.
 #[tactic(auto, unfolding(crate::specs::Exchange::begun))]
-fn begin(
+pub fn begin(
     alloc: Global,
     page: &mut Page,
     heading: Heading<'_>,
@@ -125,7 +125,7 @@ fn new_number(side: &Side, field: u16) -> Option<u64>
     new_number_in(track, field)
 }
 
-/// Takes the item of a packet, of a number that is no repeat, if its flow has begun.
+/// Keeps the item of a packet, of a number that is no repeat, if its flow has begun.
 #[tactic(auto, unfolding(crate::specs::Exchange::after_new))]
 fn take_new(
     scratch: &mut Scratch,
@@ -134,13 +134,14 @@ fn take_new(
     own: &mut Side,
     other: &mut Side,
     number: u64,
+    acknowledged: Option<u64>,
     header: &Header,
     content: &[u8],
 ) -> Result<(), AllocError>
     requires { number < most_numbers }
     ensures front { page.new.text.front ≡ page.old.text.front }
     ensures scene { OnOk result (scene own.new other.new page.new
-        ≡ after_new heading.entry number (item_with header.now content.now) (scene own.old other.old page.old)) }
+        ≡ after_new heading.entry number (carried heading.entry acknowledged header.now content.now) (scene own.old other.old page.old)) }
 {
     let Some(track) = &mut own.track else {
         return Ok(());
@@ -149,9 +150,12 @@ fn take_new(
         own: own.call,
         asked: other.call,
     };
-    read_or_keep(
-        scratch, page, heading, track, &mut calls, number, header, content,
-    )?;
+    let item = Carried {
+        item: Item::carried(scratch.alloc, header, content)?,
+        acknowledged,
+        line: heading.origin.number,
+    };
+    keep_item(scratch, page, heading, track, &mut calls, number, item)?;
     own.call = calls.own;
     other.call = calls.asked;
     Ok(())
@@ -205,6 +209,7 @@ fn take_data(
     heading: Heading<'_>,
     own: &mut Side,
     other: &mut Side,
+    acknowledged: Option<u64>,
     packet: &Packet<'_>,
     header: &Header,
     content: &[u8],
@@ -212,13 +217,23 @@ fn take_data(
     ensures front { page.new.text.front ≡ page.old.text.front }
     ensures memory { OnErr result (brings_new own.old.track header.now.sequence ≡ true) }
     ensures scene { OnOk result (scene own.new other.new page.new
-        ≡ after_data heading.entry (packet_model packet.now) header.now content.now (scene own.old other.old page.old)) }
+        ≡ after_data heading.entry acknowledged (packet_model packet.now) header.now content.now (scene own.old other.old page.old)) }
 {
     begin(scratch.alloc, page, heading, own, packet, header)?;
     let Some(number) = new_number(own, header.sequence) else {
         return Ok(());
     };
-    take_new(scratch, page, heading, own, other, number, header, content)
+    take_new(
+        scratch,
+        page,
+        heading,
+        own,
+        other,
+        number,
+        acknowledged,
+        header,
+        content,
+    )
 }
 
 /// Takes the item of a packet, if it brings one. Memory is refused only where its flow begins or the item is new.
@@ -229,25 +244,36 @@ fn take_content(
     heading: Heading<'_>,
     own: &mut Side,
     other: &mut Side,
+    acknowledged: Option<u64>,
     packet: &Packet<'_>,
     header: &Header,
     content: &[u8],
 ) -> Result<(), AllocError>
     ensures front { page.new.text.front ≡ page.old.text.front }
-    ensures memory { OnErr result ((not (is_system header.now) && brings_new own.old.track header.now.sequence) ≡ true) }
+    ensures memory { OnErr result (brings_data header.now own.old.track ≡ true) }
     ensures scene { OnOk result (scene own.new other.new page.new
-        ≡ after_content heading.entry (packet_model packet.now) header.now content.now (scene own.old other.old page.old)) }
+        ≡ after_content heading.entry acknowledged (packet_model packet.now) header.now content.now (scene own.old other.old page.old)) }
 {
     if header.control & SYSTEM != 0 {
         return Ok(());
     }
-    take_data(scratch, page, heading, own, other, packet, header, content)
+    take_data(
+        scratch,
+        page,
+        heading,
+        own,
+        other,
+        acknowledged,
+        packet,
+        header,
+        content,
+    )
 }
 
 /// Takes a packet of a flow: what takes effect of the flow behind, then its item, if it brings one, and then what takes effect of its
 /// own flow. Memory is refused only where what takes effect brings a flow on, where its flow begins, or where its item is no repeat.
 #[tactic(auto, unfolding(crate::specs::Exchange::after_packet), using(crate::proofs::Wanted::other_wants))]
-pub fn take_packet(
+pub fn take_kept(
     scratch: &mut Scratch,
     page: &mut Page,
     heading: Heading<'_>,
@@ -259,12 +285,22 @@ pub fn take_packet(
     content: &[u8],
 ) -> Result<(), AllocError>
     ensures front { page.new.text.front ≡ page.old.text.front }
-    ensures memory { OnErr result (wants_memory due header.now (scene own.old other.old page.old) ≡ true) }
+    ensures memory { OnErr result (wants_to_take due header.now (scene own.old other.old page.old) ≡ true) }
     ensures scene { OnOk result (scene own.new other.new page.new
         ≡ after_packet heading.entry due (packet_model packet.now) header.now content.now (scene own.old other.old page.old)) }
 {
     reach_other(scratch, page, heading, own, other, due.other)?;
-    take_content(scratch, page, heading, own, other, packet, header, content)?;
+    take_content(
+        scratch,
+        page,
+        heading,
+        own,
+        other,
+        due.acknowledged,
+        packet,
+        header,
+        content,
+    )?;
     reach_own(scratch, page, heading, own, other, due.own)
 }
 

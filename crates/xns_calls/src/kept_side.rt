@@ -3,15 +3,17 @@ ghost use Rattle.std.specs.Prelude.{◌≡◌, ◌||◌, IfOk, OnErr, OnOk, true
 ghost use Rattle.std.specs.Option.{is_some};
 ghost use Rattle.xns_idp.specs.Packet.{packet_model};
 ghost use Rattle.xns_spp.specs.Header.{is_system};
-ghost use Rattle.xns_calls.specs.Acknowledged.{if_begun, new_ahead};
-ghost use Rattle.xns_calls.specs.Exchange.{after_packet, behind_last, both_ended, brings_new, ended, no_side, scene, wants_memory};
+ghost use Rattle.xns_calls.specs.Acknowledged.{acknowledged_of, if_begun, new_ahead};
+ghost use Rattle.xns_calls.specs.Exchange.{behind_last, both_ended, brings_new, ended, no_side, scene, wants_memory};
+ghost use Rattle.xns_calls.specs.Read.{handled};
 
 use crate::aheads::Aheads;
 use crate::due::Due;
-use crate::exchange::{end_flow, take_packet};
+use crate::exchange::end_flow;
 use crate::heading::Heading;
 use crate::scratch::Scratch;
 use crate::side::Side;
+use crate::taking::take_packet;
 use std::alloc::{AllocError, Global};
 use std::marker::Model;
 use xns_idp::Packet;
@@ -60,7 +62,7 @@ fn take_alone(
     ensures front { page.new.text.front ≡ page.old.text.front }
     ensures memory { OnErr result (wants_memory due header.now (scene own.old no_side page.old) ≡ true) }
     ensures scene { OnOk result (scene own.new no_side page.new
-        ≡ after_packet heading.entry due (packet_model packet.now) header.now content.now (scene own.old no_side page.old)) }
+        ≡ handled heading.entry due (packet_model packet.now) header.now content.now (scene own.old no_side page.old)) }
 {
     let mut other = Side::none();
     take_packet(
@@ -83,7 +85,7 @@ fn take_before(
     ensures front { page.new.text.front ≡ page.old.text.front }
     ensures memory { OnErr result (wants_memory due header.now (scene no_side other.old page.old) ≡ true) }
     ensures scene { OnOk result (scene no_side other.new page.new
-        ≡ after_packet heading.entry due (packet_model packet.now) header.now content.now (scene no_side other.old page.old)) }
+        ≡ handled heading.entry due (packet_model packet.now) header.now content.now (scene no_side other.old page.old)) }
 {
     let mut own = Side::none();
     take_packet(
@@ -134,6 +136,16 @@ impl KeptSide {
         }
     }
 
+    /// The number that a field acknowledges of it.
+    pub fn acknowledged(&self, field: u16) -> Option<u64>
+        ensures { result ≡ acknowledged_of self.now.track field }
+    {
+        match &self.side {
+            None => None,
+            Some(side) => side.as_ref().acknowledged(field),
+        }
+    }
+
     /// The number, where the flow has begun.
     pub fn due(&self, number: Option<u64>) -> Option<u64>
         ensures { result ≡ if_begun self.now.track number }
@@ -169,7 +181,7 @@ impl KeptSide {
         ensures front { page.new.text.front ≡ page.old.text.front }
         ensures memory { OnErr result (wants_memory due header.now (scene self.old first.old page.old) ≡ true) }
         ensures scene { OnOk result (scene self.new first.new page.new
-            ≡ after_packet heading.entry due (packet_model packet.now) header.now content.now (scene self.old first.old page.old)) }
+            ≡ handled heading.entry due (packet_model packet.now) header.now content.now (scene self.old first.old page.old)) }
     {
         match &mut self.side {
             Some(side) => take_packet(
@@ -220,7 +232,7 @@ impl KeptSide {
         ensures front { page.new.text.front ≡ page.old.text.front }
         ensures memory { OnErr result (wants_memory due header.now (scene first.old self.old page.old) ≡ true) }
         ensures scene { OnOk result (scene first.new self.new page.new
-            ≡ after_packet heading.entry due (packet_model packet.now) header.now content.now (scene first.old self.old page.old)) }
+            ≡ handled heading.entry due (packet_model packet.now) header.now content.now (scene first.old self.old page.old)) }
     {
         match &mut self.side {
             Some(side) => take_packet(

@@ -1,6 +1,6 @@
 use Rattle.xns_idp.specs.Packet.{packet_model}
 use Rattle.xns_calls.proofs.Wanted.{content_wants, on_err, on_err_with, own_wants}
-use Rattle.xns_calls.proofs.exchange.take_packet.Goals as goal
+use Rattle.xns_calls.proofs.exchange.take_kept.Goals as goal
 
 pub returns-in_err-take_content-clause-memory : goal.returns-in_err-take_content-clause-memory
 returns-in_err-take_content-clause-memory c =

@@ -1,0 +1,86 @@
+-- How the items that are kept are read, as soon as they may be.
+use Rattle.std.specs.Prelude.{ℕ, zero, suc, ◌+◌, ◌==◌, ◌&&◌, not, Bool, true, false, if◌then◌else◌, List, length, Option, Some, None}
+use Rattle.std.specs.Option.{is_some}
+use Rattle.xns_idp.specs.Packet.{PacketModel}
+use Rattle.xns_spp.specs.Header.{is_system}
+use Rattle.xns_spp.specs.Item.{item_with}
+use Rattle.xns_spp.specs.declared.header.Header.{Header}
+use Rattle.xns_calls.specs.Exchange.{Scene, after_packet, after_told, of_other, seen_from_other, told_of}
+use Rattle.xns_calls.specs.Numbers.{near}
+use Rattle.xns_calls.specs.Reading.{first_read, read_next}
+use Rattle.xns_calls.specs.Turns.{is_free, next_turn}
+use Rattle.xns_calls.specs.declared.due.Due.{Due}
+use Rattle.xns_calls.specs.declared.given.Given.{Given}
+use Rattle.xns_calls.specs.declared.heading.Heading.{Heading}
+use Rattle.xns_calls.specs.declared.track.Track.{Track}
+
+abbrev pub read_in_track : Heading → Option Track → Scene → Scene
+read_in_track heading None s = s
+read_in_track heading (Some track) s = after_told (first_read heading (told_of track s)) s
+
+-- the first item that a flow keeps is read, if it comes next
+unfoldable pub own_read : Heading → Scene → Scene
+own_read heading s = read_in_track heading s.own.track s
+
+-- the same of the flow behind
+abbrev pub other_read : Heading → Scene → Scene
+other_read heading s = seen_from_other (own_read (of_other heading) (seen_from_other s))
+
+abbrev pub read_of : Heading → Option Bool → Scene → Scene
+read_of heading None s = s
+read_of heading (Some false) s = own_read heading s
+read_of heading (Some true) s = other_read heading s
+
+-- an item is read, if one of the two flows has one that can be
+abbrev pub one_read : Heading → Given → Scene → Scene
+one_read heading given s = read_of heading (next_turn given s.own.track s.other.track) s
+
+abbrev pub read_times : ℕ → Heading → Given → Scene → Scene
+read_times zero heading given s = s
+read_times (suc n) heading given s = read_times n heading given (one_read heading given s)
+
+abbrev pub kept_count : Option Track → ℕ
+kept_count None = 0
+kept_count (Some track) = length track.early
+
+-- so it goes on until neither has one: no more are read than are kept
+unfoldable pub settled : Heading → Given → Scene → Scene
+settled heading given s = read_times (kept_count s.own.track + kept_count s.other.track) heading given s
+
+-- what a packet does, and what is read then
+abbrev pub handled : Heading → Due → PacketModel → Header → List ℕ → Scene → Scene
+handled heading due packet f content s = settled heading due.given (after_packet heading due packet f content s)
+
+-- ---- an item that is read where it lies
+
+-- nothing is kept of a flow
+abbrev pub keeps_none : Option Track → Bool
+keeps_none None = true
+keeps_none (Some track) = length track.early == 0
+
+-- a packet's item comes next and waits for nothing, neither flow keeps one, and nothing takes effect of its own
+abbrev pub is_alone : Due → Header → ℕ → Track → Option Track → Bool
+is_alone due f number own other =
+    ((not (is_system f) && not (is_some due.own)) && (number == own.next && length own.early == 0))
+    && (keeps_none other && is_free other due.given.other due.acknowledged)
+
+abbrev pub alone_number : Due → Header → Option ℕ → Track → Option Track → Option ℕ
+alone_number due f None own other = None
+alone_number due f (Some number) own other = if is_alone due f number own other then Some number else None
+
+-- the number of such an item
+abbrev pub comes_next : Due → Header → Option Track → Option Track → Option ℕ
+comes_next due f None other = None
+comes_next due f (Some own) other = alone_number due f (near own.next f.sequence) own other
+
+-- a data packet begins its flow, and the flow behind keeps nothing
+abbrev pub begins_first : Header → Option Track → Option Track → Bool
+begins_first f own other = (not (is_system f) && not (is_some own)) && keeps_none other
+
+abbrev pub read_once_in : Heading → ℕ → Header → List ℕ → Option Track → Scene → Scene
+read_once_in heading number f content None s = s
+read_once_in heading number f content (Some track) s = after_told (read_next heading (number + 1) (item_with f content) (told_of track s)) s
+
+-- such an item is read
+unfoldable pub read_once : Heading → ℕ → Header → List ℕ → Scene → Scene
+read_once heading number f content s = read_once_in heading number f content s.own.track s

@@ -1,0 +1,144 @@
+//! How the items that are kept are read, as soon as they may be.
+ghost use Rattle.std.specs.Prelude.{◌≡◌, OnErr, OnOk, Some, true};
+ghost use Rattle.std.specs.Option.{is_some};
+ghost use Rattle.xns_calls.specs.Exchange.{scene};
+ghost use Rattle.xns_calls.specs.Read.{own_read, read_of, settled};
+ghost use Rattle.xns_calls.specs.Turns.{is_behind as is_behind_of, is_free as is_free_of, next_turn as next_turn_of, readable as readable_of};
+
+use crate::bringing::read_first;
+use crate::given::Given;
+use crate::heading::Heading;
+use crate::scratch::Scratch;
+use crate::side::Side;
+use crate::track::Track;
+use crate::unanswered::Calls;
+use std::alloc::AllocError;
+use xns_lines::Page;
+use xns_spp::MOST_PENDING;
+
+/// Whether the items below a number were read or are waited for no longer, or no true packet acknowledges it.
+fn is_behind(next: u64, given: u64, number: u64) -> bool
+    ensures { result ≡ is_behind_of next given number }
+{
+    number <= next.max(given) || number.saturating_sub(next) > MOST_PENDING as u64
+}
+
+/// Whether an item whose packet acknowledges so much waits for nothing of the flow behind.
+pub fn is_free(behind: &Side, given: u64, acknowledged: Option<u64>) -> bool
+    ensures { result ≡ is_free_of behind.now.track given acknowledged }
+{
+    match (&behind.track, acknowledged) {
+        (Some(track), Some(number)) => is_behind(track.next, given, number),
+        _ => true,
+    }
+}
+
+/// The line of the first item that a flow keeps, where it comes next and waits for nothing of the flow behind.
+fn readable(own: &Side, behind: &Side, given: u64) -> Option<usize>
+    ensures { result ≡ readable_of own.now.track behind.now.track given }
+{
+    let track = own.track.as_ref()?;
+    let first = track.early.first()?;
+    if first.number <= track.next && is_free(behind, given, first.acknowledged) {
+        Some(first.line)
+    } else {
+        None
+    }
+}
+
+/// The flow of which an item is read next, if there is one: whether it is the one behind.
+fn next_turn(own: &Side, other: &Side, given: Given) -> Option<bool>
+    ensures { result ≡ next_turn_of given own.now.track other.now.track }
+{
+    match (
+        readable(own, other, given.other),
+        readable(other, own, given.own),
+    ) {
+        (None, None) => None,
+        (Some(_), None) => Some(false),
+        (None, Some(_)) => Some(true),
+        (Some(own_line), Some(other_line)) => Some(other_line < own_line),
+    }
+}
+
+/// Reads the first item that a flow keeps, if it comes next.
+#[tactic(auto, unfolding(crate::specs::Read::own_read))]
+fn read_own(
+    scratch: &mut Scratch,
+    page: &mut Page,
+    heading: Heading<'_>,
+    own: &mut Side,
+    other: &mut Side,
+) -> Result<(), AllocError>
+    ensures front { page.new.text.front ≡ page.old.text.front }
+    ensures scene { OnOk result (scene own.new other.new page.new ≡ own_read heading.entry (scene own.old other.old page.old)) }
+{
+    let Some(track) = &mut own.track else {
+        return Ok(());
+    };
+    let mut calls = Calls {
+        own: own.call,
+        asked: other.call,
+    };
+    read_first(scratch, page, heading, track, &mut calls)?;
+    own.call = calls.own;
+    other.call = calls.asked;
+    Ok(())
+}
+
+/// Reads the first item of a flow, or of the one behind it, if it comes next.
+fn read_turn(
+    scratch: &mut Scratch,
+    page: &mut Page,
+    heading: Heading<'_>,
+    own: &mut Side,
+    other: &mut Side,
+    is_other: bool,
+) -> Result<(), AllocError>
+    ensures front { page.new.text.front ≡ page.old.text.front }
+    ensures scene { OnOk result (scene own.new other.new page.new ≡ read_of heading.entry (Some is_other) (scene own.old other.old page.old)) }
+{
+    if is_other {
+        read_own(scratch, page, heading.of_other(), other, own)
+    } else {
+        read_own(scratch, page, heading, own, other)
+    }
+}
+
+/// Reads what two flows keep, item by item, until neither has one that can be read.
+fn read_all(
+    scratch: &mut Scratch,
+    page: &mut Page,
+    heading: Heading<'_>,
+    own: &mut Side,
+    other: &mut Side,
+    given: Given,
+) -> Result<(), AllocError>
+    ensures front { page.new.text.front ≡ page.old.text.front }
+    ensures scene { OnOk result (scene own.new other.new page.new ≡ settled heading.entry given (scene own.old other.old page.old)) }
+{
+    while let Some(is_other) = next_turn(own, other, given) {
+        read_turn(scratch, page, heading, own, other, is_other)?;
+    }
+    Ok(())
+}
+
+/// Reads what two flows keep, until neither has an item that can be read. Memory is refused only where one has.
+#[tactic(auto, using(crate::proofs::LessKept::turn_end))]
+pub fn settle(
+    scratch: &mut Scratch,
+    page: &mut Page,
+    heading: Heading<'_>,
+    own: &mut Side,
+    other: &mut Side,
+    given: Given,
+) -> Result<(), AllocError>
+    ensures front { page.new.text.front ≡ page.old.text.front }
+    ensures memory { OnErr result (is_some (next_turn_of given own.old.track other.old.track) ≡ true) }
+    ensures scene { OnOk result (scene own.new other.new page.new ≡ settled heading.entry given (scene own.old other.old page.old)) }
+{
+    if next_turn(own, other, given).is_none() {
+        return Ok(());
+    }
+    read_all(scratch, page, heading, own, other, given)
+}

@@ -1,0 +1,178 @@
+//! How a packet is taken, and what is read then.
+ghost use Rattle.std.specs.Prelude.{◌≡◌, ◌<◌, IfSome, OnErr, OnOk, true};
+ghost use Rattle.xns_idp.specs.Packet.{packet_model};
+ghost use Rattle.xns_calls.specs.Exchange.{scene, wants_memory};
+ghost use Rattle.xns_calls.specs.Numbers.{most_numbers};
+ghost use Rattle.xns_calls.specs.Read.{begins_first as begins_first_of, comes_next, handled, is_alone as is_alone_of, keeps_none as keeps_none_of};
+ghost use Rattle.xns_calls.specs.Read.{read_once};
+
+use crate::bringing::read_arrived;
+use crate::due::Due;
+use crate::exchange::{begin, take_kept};
+use crate::heading::Heading;
+use crate::near::near;
+use crate::scratch::Scratch;
+use crate::settling::{is_free, settle};
+use crate::side::Side;
+use crate::track::Track;
+use crate::unanswered::Calls;
+use std::alloc::AllocError;
+use xns_idp::Packet;
+use xns_lines::Page;
+use xns_spp::Header;
+use xns_spp::control::SYSTEM;
+
+/// Whether nothing is kept of a flow.
+fn keeps_none(side: &Side) -> bool
+    ensures { result ≡ keeps_none_of side.now.track }
+{
+    match &side.track {
+        None => true,
+        Some(track) => track.early.is_empty(),
+    }
+}
+
+/// Whether an item of that number comes next and waits for nothing, neither flow keeps one, and nothing takes effect of its own.
+fn is_alone(number: u64, own: &Track, other: &Side, due: Due, header: &Header) -> bool
+    ensures { result ≡ is_alone_of due header.now number own.now other.now.track }
+{
+    let is_plain = header.control & SYSTEM == 0 && !due.own.is_some();
+    let is_first = number == own.next && own.early.is_empty();
+    let is_unheld = keeps_none(other) && is_free(other, due.given.other, due.acknowledged);
+    (is_plain && is_first) && is_unheld
+}
+
+/// The number of a packet's item, where it is such an item.
+fn alone_number(own: &Side, other: &Side, due: Due, header: &Header) -> Option<u64>
+    ensures value { result ≡ comes_next due header.now own.now.track other.now.track }
+    ensures bound { IfSome result (λ number. number < most_numbers) }
+{
+    let track = own.track.as_ref()?;
+    let number = near(track.next, header.sequence)?;
+    if is_alone(number, track, other, due, header) {
+        Some(number)
+    } else {
+        None
+    }
+}
+
+/// Reads such an item where it lies.
+#[tactic(auto, unfolding(crate::specs::Read::read_once))]
+fn read_at_once(
+    scratch: &mut Scratch,
+    page: &mut Page,
+    heading: Heading<'_>,
+    own: &mut Side,
+    other: &mut Side,
+    number: u64,
+    header: &Header,
+    content: &[u8],
+) -> Result<(), AllocError>
+    requires { number < most_numbers }
+    ensures front { page.new.text.front ≡ page.old.text.front }
+    ensures scene { OnOk result (scene own.new other.new page.new
+        ≡ read_once heading.entry number header.now content.now (scene own.old other.old page.old)) }
+{
+    let Some(track) = &mut own.track else {
+        return Ok(());
+    };
+    let mut calls = Calls {
+        own: own.call,
+        asked: other.call,
+    };
+    let next = number + 1;
+    read_arrived(
+        scratch, page, heading, track, &mut calls, next, header, content,
+    )?;
+    own.call = calls.own;
+    other.call = calls.asked;
+    Ok(())
+}
+
+/// Takes a packet of a flow, and reads what can be read then: the packet's own item where it lies, if that is all.
+#[tactic(auto, using(crate::proofs::Wanted::take_wants))]
+fn take_begun(
+    scratch: &mut Scratch,
+    page: &mut Page,
+    heading: Heading<'_>,
+    own: &mut Side,
+    other: &mut Side,
+    due: Due,
+    packet: &Packet<'_>,
+    header: &Header,
+    content: &[u8],
+) -> Result<(), AllocError>
+    ensures front { page.new.text.front ≡ page.old.text.front }
+    ensures memory { OnErr result (wants_memory due header.now (scene own.old other.old page.old) ≡ true) }
+    ensures scene { OnOk result (scene own.new other.new page.new
+        ≡ handled heading.entry due (packet_model packet.now) header.now content.now (scene own.old other.old page.old)) }
+{
+    if let Some(number) = alone_number(own, other, due, header) {
+        return read_at_once(scratch, page, heading, own, other, number, header, content);
+    }
+    take_kept(
+        scratch, page, heading, own, other, due, packet, header, content,
+    )?;
+    settle(scratch, page, heading, own, other, due.given)
+}
+
+/// Whether a data packet begins its flow, and the flow behind keeps nothing.
+fn begins_first(own: &Side, other: &Side, header: &Header) -> bool
+    ensures { result ≡ begins_first_of header.now own.now.track other.now.track }
+{
+    let is_new = header.control & SYSTEM == 0 && !own.has_begun();
+    is_new && keeps_none(other)
+}
+
+/// Takes a packet that begins its flow, where the flow behind keeps nothing: the flow begins first.
+#[tactic(auto, using(crate::proofs::AtOnce::first_wants))]
+fn take_first(
+    scratch: &mut Scratch,
+    page: &mut Page,
+    heading: Heading<'_>,
+    own: &mut Side,
+    other: &mut Side,
+    due: Due,
+    packet: &Packet<'_>,
+    header: &Header,
+    content: &[u8],
+) -> Result<(), AllocError>
+    requires { begins_first_of header.now own.now.track other.now.track ≡ true }
+    ensures front { page.new.text.front ≡ page.old.text.front }
+    ensures memory { OnErr result (wants_memory due header.now (scene own.old other.old page.old) ≡ true) }
+    ensures scene { OnOk result (scene own.new other.new page.new
+        ≡ handled heading.entry due (packet_model packet.now) header.now content.now (scene own.old other.old page.old)) }
+{
+    begin(scratch.alloc, page, heading, own, packet, header)?;
+    take_begun(
+        scratch, page, heading, own, other, due, packet, header, content,
+    )
+}
+
+/// Takes a packet of a flow, and reads what can be read then. Memory is refused only where what takes effect brings a flow on, where its
+/// flow begins, where its item is no repeat, or where an item can be read.
+pub fn take_packet(
+    scratch: &mut Scratch,
+    page: &mut Page,
+    heading: Heading<'_>,
+    own: &mut Side,
+    other: &mut Side,
+    due: Due,
+    packet: &Packet<'_>,
+    header: &Header,
+    content: &[u8],
+) -> Result<(), AllocError>
+    ensures front { page.new.text.front ≡ page.old.text.front }
+    ensures memory { OnErr result (wants_memory due header.now (scene own.old other.old page.old) ≡ true) }
+    ensures scene { OnOk result (scene own.new other.new page.new
+        ≡ handled heading.entry due (packet_model packet.now) header.now content.now (scene own.old other.old page.old)) }
+{
+    if begins_first(own, other, header) {
+        return take_first(
+            scratch, page, heading, own, other, due, packet, header, content,
+        );
+    }
+    take_begun(
+        scratch, page, heading, own, other, due, packet, header, content,
+    )
+}
