@@ -8,7 +8,9 @@ use Rattle.courier_texts.specs.Named.{HasParts, NamedModel}
 use Rattle.courier_programs.specs.declared.program.Program.{Program}
 use Rattle.courier_programs.specs.declared.refusal.Refusal.{Refusal}
 use Rattle.courier_programs.specs.declared.refusal.Refusal.TheVariants as refusals
-use Rattle.courier_programs.specs.Meanings.{Components, components_from, components_seen}
+use Rattle.courier_notation.specs.ProgramModels.{FieldList}
+use Rattle.courier_programs.specs.Declarations.{most_depth, record_shape, sound, whole_fields}
+use Rattle.courier_programs.specs.Meanings.{Components, FieldsModel, components_from, components_seen}
 use Rattle.courier_programs.specs.Memory.{FirstWasRead, HasFields, TypeWants}
 use Rattle.courier_programs.specs.Refused.{IfNoMemory, IsWanted, NameFault, ◌>>=◌, over}
 use Rattle.courier_programs.specs.Resolving.{dependency_step}
@@ -93,6 +95,11 @@ pub type_wants : (e : Env) (depth : ℕ) (type : TypeModel) (room : ℕ) (t : Na
 unfolding type_meant
 type_wants e zero type room t is some = absurd (cc)
 type_wants e (suc depth) type room t is some = behind_room e (type_meant e depth) type (spent e room 1) t is some
+
+-- arguments or results that were made had room
+pub had_room : (e : Env) (groups : FieldList) (room : ℕ) (x : FieldsModel × ℕ) → whole_fields e groups room ≡ Ok x → IsOk (spent e room 1)
+unfolding whole_fields
+had_room e groups room x is = first_was_right (spent e room 1) (λ left. components_meant e (type_meant e most_depth) [] ([], left) (fields_from groups) >>= λ parts. sound e (record_shape parts.0) >>= λ _. Ok ((parts.0, record_shape parts.0), parts.1)) x is
 
 -- ---- dependencies
 

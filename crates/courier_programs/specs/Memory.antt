@@ -1,10 +1,13 @@
 -- Where resolving may be refused memory, which is this project's rule: where something may grow.
-use Rattle.std.specs.Prelude.{◌≡◌, ◌<◌, List, [], ◌∷◌, length, None, IsOk, true, is_some}
+use Rattle.std.specs.Prelude.{◌≡◌, ◌⊎◌, ℕ, ◌<◌, ◌≤◌, List, [], ◌∷◌, length, None, IsOk, true, is_some, vec_len, vec_capacity}
+use Rattle.std.specs.Global.{Vec}
 use Rattle.courier_notation.specs.declared.declared.Dependency.{Dependency}
 use Rattle.courier_notation.specs.ProgramModels.{DeclaredModel, ProgramModel}
 use Rattle.courier_notation.specs.Written.{TypeModel, FieldModels, no_fields, field_and}
+use Rattle.courier_programs.specs.declared.declarations.Added.{Added}
+use Rattle.courier_programs.specs.declared.declarations.Added.TheVariants as additions
 use Rattle.courier_programs.specs.declared.program.Program.{Program}
-use Rattle.courier_programs.specs.Scopes.{Env, program_by, type_named, word_of}
+use Rattle.courier_programs.specs.Scopes.{Env, program_by, spent, type_named, word_of}
 use Rattle.courier_programs.specs.Types.{maximum_of, tag_members}
 
 abbrev pub HasFields : FieldModels → Type 0
@@ -22,11 +25,20 @@ TypeWants e (TypeModel.choice tag groups) = IsOk (tag_members e tag)
 TypeWants e (TypeModel.named r) = IsOk (type_named e r)
 TypeWants e _ = ⊥
 
--- a declaration adds a procedure, an error, or a type or a constant whose type wants memory
-abbrev pub DeclaredWants : Env → DeclaredModel → Type 0
-DeclaredWants e (DeclaredModel.is_type type) = TypeWants e type
-DeclaredWants e (DeclaredModel.is_constant type constant) = TypeWants e type
-DeclaredWants e _ = Unit {0}
+-- what a declaration adds wants memory: a procedure or an error that there is room for, or a type or a constant whose type wants memory
+abbrev pub DeclaredWants : Env → DeclaredModel → ℕ → Type 0
+DeclaredWants e (DeclaredModel.is_type type) room = TypeWants e type
+DeclaredWants e (DeclaredModel.is_constant type constant) room = TypeWants e type
+DeclaredWants e _ room = IsOk (spent e room 1)
+
+abbrev pub IsFull : {X : Type 0} → Vec X → Type 0
+IsFull v = vec_capacity v ≤ vec_len v
+
+-- a program has no room for what is added, a name among its names, and a procedure or an error among its own
+abbrev pub AddingWants : Program → Added → Type 0
+AddingWants p (additions.Meaning m) = IsFull p.meanings
+AddingWants p (additions.Procedure q) = IsFull p.procedures ⊎ IsFull p.meanings
+AddingWants p (additions.Error r) = IsFull p.errors ⊎ IsFull p.meanings
 
 -- what a program depends upon first was read
 abbrev pub FirstWasRead : List Program → List Dependency → Type 0

@@ -1,6 +1,6 @@
 //! What declarations stand for.
 
-ghost use Rattle.std.specs.Prelude.{◌≡◌, ◌<◌, OnOk, false, is_none, is_some, length, map, true};
+ghost use Rattle.std.specs.Prelude.{◌≡◌, ◌<◌, IsOk, OnErr, OnOk, false, is_none, is_some, length, map, true};
 ghost use Rattle.courier_types.specs.Check.{shape_fault};
 ghost use Rattle.courier_types.specs.Shape.{shape_model};
 ghost use Rattle.courier_notation.specs.ProgramModels.{declaration_view, declared_view};
@@ -10,9 +10,9 @@ ghost use Rattle.courier_programs.specs.Declarations.{addition_of, constant_mean
 ghost use Rattle.courier_programs.specs.Declarations.{declaration_meant, declaration_step, error_meant, is_type as is_type_of, new_error as new_error_of, new_procedure as new_procedure_of, once_meant};
 ghost use Rattle.courier_programs.specs.Declarations.{procedure_meant, settled, sound, whole_fields as whole_fields_of, whole_type as whole_type_of, with_addition};
 ghost use Rattle.courier_programs.specs.Meanings.{error_model, fields_model, meaning_model, meaning_of as meaning_in, procedure_model, resolved_model};
-ghost use Rattle.courier_programs.specs.Memory.{DeclaredWants, TypeWants};
+ghost use Rattle.courier_programs.specs.Memory.{AddingWants, DeclaredWants, TypeWants};
 ghost use Rattle.courier_programs.specs.Refused.{Finds, Gives, IfNoMemory};
-ghost use Rattle.courier_programs.specs.Scopes.{env, names_seen, text_of};
+ghost use Rattle.courier_programs.specs.Scopes.{env, names_seen, spent, text_of};
 
 use crate::bytes::text;
 use crate::finding::{error_of, procedure_of};
@@ -73,7 +73,7 @@ fn whole_fields(
     groups: &[(Vec<u32>, WrittenType)],
 ) -> Result<(Fields, usize), Refusal>
     ensures exact { Gives (λ x. (fields_model x.0, x.1)) result (whole_fields_of (env scope.now) (field_models groups.now) room) }
-    ensures memory { IfNoMemory result (0 < length groups.now) }
+    ensures memory { IfNoMemory result (IsOk (spent (env scope.now) room 1) × (0 < length groups.now)) }
 {
     let left = spend(scope, room, 1)?;
     let (components, left) = components_of(alloc, MOST_DEPTH, groups, scope, left)?;
@@ -173,7 +173,8 @@ fn procedure_added(
     number: u16,
     room: usize,
 ) -> Result<(Added, usize), Refusal>
-    ensures { Gives (λ x. (addition_of x.0, x.1)) result (procedure_meant (env scope.now) (map procedure_model procedures.now) (field_models arguments.now) (field_models results.now) number room) }
+    ensures exact { Gives (λ x. (addition_of x.0, x.1)) result (procedure_meant (env scope.now) (map procedure_model procedures.now) (field_models arguments.now) (field_models results.now) number room) }
+    ensures memory { IfNoMemory result (IsOk (spent (env scope.now) room 1)) }
 {
     let (arguments, left) = whole_fields(alloc, scope, room, arguments)?;
     let (results, left) = whole_fields(alloc, scope, left, results)?;
@@ -196,7 +197,8 @@ fn error_added(
     number: u16,
     room: usize,
 ) -> Result<(Added, usize), Refusal>
-    ensures { Gives (λ x. (addition_of x.0, x.1)) result (error_meant (env scope.now) (map error_model errors.now) (field_models arguments.now) number room) }
+    ensures exact { Gives (λ x. (addition_of x.0, x.1)) result (error_meant (env scope.now) (map error_model errors.now) (field_models arguments.now) number room) }
+    ensures memory { IfNoMemory result (IsOk (spent (env scope.now) room 1)) }
 {
     let (arguments, left) = whole_fields(alloc, scope, room, arguments)?;
     let name = Vec::from_slice(alloc, text(scope.names, scope.own))?;
@@ -218,7 +220,7 @@ fn added_by(
     room: usize,
 ) -> Result<(Added, usize), Refusal>
     ensures exact { Gives (λ x. (addition_of x.0, x.1)) result (declaration_meant (env scope.now) (resolved_model program.now) (declared_view declared.now) room) }
-    ensures memory { IfNoMemory result (DeclaredWants (env scope.now) (declared_view declared.now)) }
+    ensures memory { IfNoMemory result (DeclaredWants (env scope.now) (declared_view declared.now) room) }
 {
     match declared {
         Declared::Type(written) => type_added(alloc, scope, room, written),
@@ -247,7 +249,8 @@ fn added_by(
 
 /// Adds to the program what was declared.
 fn add(program: &mut Program, name: Vec<u8>, added: Added) -> Result<(), AllocError>
-    ensures { OnOk result (resolved_model program.new ≡ with_addition (resolved_model program.old) name.items (addition_of added)) }
+    ensures exact { OnOk result (resolved_model program.new ≡ with_addition (resolved_model program.old) name.items (addition_of added)) }
+    ensures memory { OnErr result (AddingWants program.old added) }
 {
     match added {
         Added::Meaning(meaning) => {

@@ -1,6 +1,6 @@
 //! Programs whose names are resolved.
 
-ghost use Rattle.std.specs.Prelude.{◌≡◌, [], IfOk, IsOk};
+ghost use Rattle.std.specs.Prelude.{◌≡◌, ◌<◌, [], IfOk, IsOk, length};
 ghost use Rattle.courier_notation.specs.ProgramModels.{declaration_view, declaration_views, declared_view, program_view};
 ghost use Rattle.courier_programs.specs.Declarations.{declaration_step};
 ghost use Rattle.courier_programs.specs.Meanings.{resolved_model};
@@ -70,7 +70,8 @@ fn take_declarations(
     declarations: &[Declaration],
     room: usize,
 ) -> Result<usize, Refusal>
-    ensures { Gives (λ left. (resolved_model program.new, left)) result (steps (declaration_step (names_seen names.now) before.now dependencies.now) (resolved_model program.old, room) (declaration_views declarations.now)) }
+    ensures exact { Gives (λ left. (resolved_model program.new, left)) result (steps (declaration_step (names_seen names.now) before.now dependencies.now) (resolved_model program.old, room) (declaration_views declarations.now)) }
+    ensures memory { IfNoMemory result (0 < length declarations.now) }
 {
     let mut left = room;
     for declaration in declarations {

@@ -1,0 +1,11 @@
+use Rattle.std.proofs.lemmas.Result.{err_from_is_err_and}
+use Rattle.courier_notation.specs.Written.{field_models}
+use Rattle.courier_programs.specs.Meanings.{fields_model}
+use Rattle.courier_programs.specs.Scopes.{env}
+use Rattle.courier_programs.proofs.Wants.{had_room}
+use Rattle.courier_programs.proofs.declarations.error_added.Goals as goal
+
+pub returns-in_err-name-clause-memory : goal.returns-in_err-name-clause-memory
+returns-in_err-name-clause-memory c =
+    let p = err_from_is_err_and c.from_residual-in_err-name.result c.from_residual-in_err-name.ensures.1 in
+    rw (p.1, p.2) (had_room (env c.args.scope.now) (field_models c.args.arguments.now) c.args.room (fields_model c.in_ok-arguments.arguments, c.in_ok-arguments.left) c.in_ok-arguments.ensures.exact)
