@@ -155,7 +155,7 @@ unfolding packet_of
 is_fault b (Ok x) e = tt
 is_fault b (Err f) e = unless_err (packet_fault b) (packet_fields b, made_even (word_at b 2)) f (sym e)
 
--- ---- what is spelled so is read
+-- ---- the spelling of a packet is read
 
 -- an address whose host is told byte by byte, and then more
 abbrev address_and : Address → List ℕ → List ℕ

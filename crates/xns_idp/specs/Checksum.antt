@@ -16,7 +16,7 @@ weighted_sum (w ∷ ws) = w * 2 ^ length (w ∷ ws) + weighted_sum ws
 unfoldable pub cycle_checksum : List ℕ → ℕ
 cycle_checksum ws = weighted_sum ws % 65535
 
--- ---- as the standard describes it, which a law of this crate shows to be the same
+-- ---- the checksum as the standard describes it; a law of this crate shows that both are the same
 
 -- the sum of 16 bits whose carry out of the top is added at the bottom
 abbrev pub add_with_end_around_carry : ℕ → ℕ → ℕ
@@ -37,7 +37,7 @@ zero_for_all_ones n = if n == 65535 then 0 else n
 
 -- ---- what a sum tells, and how it is summed piece by piece
 
--- the same word, or 0 and 65535
+-- two words are the same, or one is 0 and the other 65535
 abbrev pub AreAlike : ℕ → ℕ → Type 0
 AreAlike v w = (v ≡ w) ⊎ ((v ≡ 0) × (w ≡ 65535)) ⊎ ((v ≡ 65535) × (w ≡ 0))
 

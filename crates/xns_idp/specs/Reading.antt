@@ -28,7 +28,7 @@ made_even n = n + n % 2
 abbrev pub computed_sum : List ℕ → ℕ
 computed_sum bytes = cycle_checksum (words (slice_range bytes 2 (made_even (word_at bytes 2))))
 
--- the first fault; a checksum field of 65535 is compared with nothing
+-- the first fault of a packet's bytes; a checksum field of 65535 is compared with nothing
 unfoldable pub packet_fault : List ℕ → Option IdpFault
 packet_fault bytes =
     if nat_lt (length bytes) 30 then Some (Short (length bytes))

@@ -4,10 +4,10 @@ ghost use Rattle.xns_idp.specs.Checksum.{words, cycle_checksum, sum_from};
 
 use std::simd::prelude::*;
 
-/// So many bytes make a block, which has 16 words: after 16 words a word's weight has come round to what it was.
+/// The bytes of a block, which has 16 words: after 16 words a word's weight has come round to what it was.
 const BLOCK: usize = 32;
 
-/// So many bytes have so few blocks that no lane of 16 bits overflows, nor what all of them weigh, in 32 bits.
+/// The bytes that are summed at once: in their 64 blocks no lane of 16 bits overflows, nor what all of them weigh, in 32 bits.
 const CHUNK: usize = 2048;
 
 /// What the bytes of a block weigh, modulo 65535: the first byte of a pair is the high one, and a word is doubled once for itself and once

@@ -22,7 +22,7 @@ pub fn decode(bytes: &[u8]) -> Result<(Packet<'_>, usize), IdpFault>
     // Whatever a prefix of the bytes spells is read, whatever follows it.
     ensures only { (p : PacketModel) (taken rest : List ℕ) → IsPacket p → SpellsPacket p taken → bytes.now ≡ taken ++ rest →
         decode_model result ≡ Ok (p, length taken) }
-    // Which fault it is.
+    // An error is the first fault of the bytes.
     ensures fault { IfErr result (λ f. packet_fault bytes.now ≡ Some f) }
 {
     read_packet(bytes)

@@ -20,7 +20,7 @@ pub fn encode(alloc: Global, packet: &Packet<'_>, out: &mut Vec<u8>) -> Result<(
     requires { length packet.now.body.now ≤ most_data }
     ensures ok { OnOk result (out.new.items ≡ out.old.items ++ packet_spelling (packet_model packet.now)) }
     ensures err { OnErr result (out.new.items ≡ out.old.items) }
-    // It is refused memory only where `out` has no room for the packet's bytes.
+    // Memory is refused only where `out` has no room for the packet's bytes.
     ensures memory { OnErr result (vec_capacity out.old < vec_len out.old + made_even (30 + length packet.now.body.now)) }
     // No room is given back.
     ensures room { vec_capacity out.old ≤ vec_capacity out.new }
@@ -42,7 +42,7 @@ pub fn encode_parts(
     requires { length packet.now.body.now + length rest.now ≤ most_data }
     ensures ok { OnOk result (out.new.items ≡ out.old.items ++ packet_spelling (with_data_behind (packet_model packet.now) rest.now)) }
     ensures err { OnErr result (out.new.items ≡ out.old.items) }
-    // It is refused memory only where `out` has no room for the packet's bytes.
+    // Memory is refused only where `out` has no room for the packet's bytes.
     ensures memory { OnErr result (vec_capacity out.old < vec_len out.old + made_even
         (30 + (length packet.now.body.now + length rest.now))) }
     // No room is given back.

@@ -9,7 +9,7 @@ pub fn checksum_is_added_and_rotated()
     ensures { ChecksumIsAddedAndRotated }
 {}
 
-/// Another word in one place gives another checksum, but for 0 in the place of 65535 and the other way round.
+/// The checksum changes with any one word, unless 0 stands in the place of 65535 or the other way round.
 pub fn another_word_shows()
     ensures { AnotherWordShows }
 {}

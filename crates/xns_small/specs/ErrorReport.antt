@@ -26,16 +26,16 @@ error_spelling v = to_be_bytes w16 v.number ++ to_be_bytes w16 v.parameter ++ v.
 abbrev pub SpellsError : ErrorReportModel → List ℕ → Type 0
 SpellsError v bytes = bytes ≡ error_spelling v
 
--- its numbers are within their types
+-- the numbers of a report are within their types
 pub record IsErrorReport (v : ErrorReportModel) : Type 0 where
   pub number : v.number < 2 ^ 16
   pub parameter : v.parameter < 2 ^ 16
 
--- so many bytes of the offending packet are quoted: a header and twelve bytes
+-- the most bytes of the offending packet that are quoted: a header and twelve more
 abbrev pub most_quoted : ℕ
 most_quoted = 42
 
--- the same report with no more quoted than that
+-- a report that quotes at most the first 42 bytes
 abbrev pub with_front_quoted : ErrorReportModel → ErrorReportModel
 with_front_quoted v = record v { quoted = take most_quoted v.quoted }
 

@@ -26,7 +26,7 @@ exchange_spelling v = to_be_bytes w32 v.id ++ to_be_bytes w16 v.client ++ v.body
 abbrev pub SpellsExchange : ExchangeModel → List ℕ → Type 0
 SpellsExchange v bytes = bytes ≡ exchange_spelling v
 
--- its numbers are within their types
+-- the numbers of a request or response are within their types
 pub record IsExchange (v : ExchangeModel) : Type 0 where
   pub id : v.id < 2 ^ 32
   pub client : v.client < 2 ^ 16

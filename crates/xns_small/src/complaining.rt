@@ -25,7 +25,7 @@ pub fn complain(
 ) -> Result<Option<Vec<u8>>, AllocError>
     ensures answer { IfOk result (λ answer. MatchOption answer (MayBeComplainedOf offending.now → ⊥)
         (λ bytes. MayBeComplainedOf offending.now × (bytes.items ≡ complaint own number parameter offending.now))) }
-    // It is refused memory only where there is something to complain of.
+    // Memory is refused only where there is something to complain of.
     ensures memory { OnErr result (MayBeComplainedOf offending.now) }
 {
     let Some(source) = complained_to(offending) else {

@@ -63,7 +63,7 @@ pub fn write_echo(_alloc: Global, echo: &Echo<'_>, out: &mut Vec<u8>) -> Result<
     requires { length echo.now.body.now ≤ 544 }
     ensures ok { OnOk result (out.new.items ≡ out.old.items ++ echo_spelling (echo_model echo.now)) }
     ensures err { OnErr result (out.new.items ≡ out.old.items) }
-    // It is refused memory only where `out` has no room for the bytes.
+    // Memory is refused only where `out` has no room for the bytes.
     ensures memory { OnErr result (vec_capacity out.old < vec_len out.old + (2 + length echo.now.body.now)) }
     // No room is given back.
     ensures room { vec_capacity out.old ≤ vec_capacity out.new }

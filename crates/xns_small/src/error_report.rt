@@ -9,7 +9,7 @@ use std::alloc::{AllocError, Global};
 use xns_idp::known::known_word;
 use xns_idp::places::read_word;
 
-/// So many bytes of the offending packet are quoted at most: its header and twelve bytes.
+/// The most bytes of the offending packet that are quoted: its header and twelve more.
 const QUOTED: usize = 42;
 
 /// An Error report, lent from a packet's body (XSIS 028112, Error Protocol).
@@ -68,7 +68,7 @@ pub fn write_error(
 ) -> Result<(), AllocError>
     ensures ok { OnOk result (out.new.items ≡ out.old.items ++ error_spelling (with_front_quoted (error_report_model report.now))) }
     ensures err { OnErr result (out.new.items ≡ out.old.items) }
-    // It is refused memory only where `out` has no room for the bytes.
+    // Memory is refused only where `out` has no room for the bytes.
     ensures memory { OnErr result (vec_capacity out.old < vec_len out.old + (4 + length (take most_quoted report.now.quoted.now))) }
     // No room is given back.
     ensures room { vec_capacity out.old ≤ vec_capacity out.new }
@@ -78,7 +78,7 @@ pub fn write_error(
     append(out, &[n0, n1, p0, p1], front_of(report.quoted))
 }
 
-/// The first 42 bytes, or all if there are fewer.
+/// The first 42 of the bytes, or all if there are fewer.
 fn front_of(quoted: &[u8]) -> &[u8]
     ensures front { result.now ≡ take most_quoted quoted.now }
     ensures short { length result.now ≤ most_quoted }

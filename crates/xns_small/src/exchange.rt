@@ -64,7 +64,7 @@ pub fn write_exchange(
     requires { length exchange.now.body.now ≤ 540 }
     ensures ok { OnOk result (out.new.items ≡ out.old.items ++ exchange_spelling (exchange_model exchange.now)) }
     ensures err { OnErr result (out.new.items ≡ out.old.items) }
-    // It is refused memory only where `out` has no room for the bytes.
+    // Memory is refused only where `out` has no room for the bytes.
     ensures memory { OnErr result (vec_capacity out.old < vec_len out.old + (6 + length exchange.now.body.now)) }
     // No room is given back.
     ensures room { vec_capacity out.old ≤ vec_capacity out.new }

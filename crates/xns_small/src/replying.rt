@@ -22,7 +22,7 @@ pub fn answer_echo(
     requires { length packet.now.body.now ≤ most_data }
     ensures answer { IfOk result (λ answer. MatchOption answer (IsAnswered own (packet_model packet.now) → ⊥)
         (λ reply. IsAnswered own (packet_model packet.now) × (reply.items ≡ echo_reply own (packet_model packet.now)))) }
-    // It is refused memory only where there is something to answer.
+    // Memory is refused only where there is something to answer.
     ensures memory { OnErr result (IsAnswered own (packet_model packet.now)) }
 {
     let Some(echoed) = echoed_data(own, packet) else {
