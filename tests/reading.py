@@ -27,7 +27,7 @@ ENDS = frozenset("""initiator_state responder_state after_send send_answer after
 STEPS = ENDS | frozenset("caller_items server_items server_state answers decided_calls decision after_decision Serving Service IsFitting".split())
 
 # and what the functions of a host do: the contracts of `Host` cite them
-TURNS = frozenset("IsNewHost ConnectsTo Turn TellsNext TakesIn GivesOut ServesAt MovesTo Abandons Host Guest".split())
+TURNS = frozenset("IsNewHost ConnectsTo Turn TellsNext TakesIn GivesOut ServesAt MovesTo Tags Abandons Host Guest".split())
 
 NOTHING = frozenset()
 
