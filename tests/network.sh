@@ -308,7 +308,7 @@ for harm in 0.1 0.3; do
         spoiling=$started
         spoiled=$said
         name="at a hub that spoils $harm, in $language"
-        if [ $harm = 0.3 ]; then patience=-p; else patience=; fi
+        if [ $harm = 0.3 ]; then patience=--patient; else patience=; fi
         # shellcheck disable=SC2086
         if [ $language = C ]; then call_both "$name" 20 "$work/client" $patience -i; else call_both "$name" 20 python3 tests/network.py add; fi
         kill "$spoiling"

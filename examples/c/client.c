@@ -1,6 +1,6 @@
 /* A client of server.c: client PORT NUMBER .. adds each number to the tally, prints what it is answered, and closes; client -i INTERFACE STATION NUMBER ..
  * does so on Ethernet, and net.h has the other networks. xBYTES in the place of a number has so many bytes returned, made even, and prints whether they are
- * the same. Behind client, -p is for a network that loses much: a server may be silent for minutes. */
+ * the same. Behind client, --patient is for a network that loses much: a server may be silent for minutes. */
 #ifndef _GNU_SOURCE
 #define _GNU_SOURCE
 #endif
@@ -58,7 +58,7 @@ int main(int count, char **given) {
     uint8_t secret[32];
     struct xns_event event = XNS_EVENT_INIT;
     size_t length;
-    if (count > 1 && strcmp(given[1], "-p") == 0) {
+    if (count > 1 && strcmp(given[1], "--patient") == 0) {
         settings.tries = PATIENT;
         given++;
     }
