@@ -53,6 +53,26 @@ expect 'a packet' 0 '' "$work/packet.text"
 run dump
 expect 'no input' 0 '' "$work/text"
 
+# Two version ranges, the answer 0000 0005 to call 1, and then the call. The packet of the answer acknowledges the item of the call (0002), so it waits
+# for that. Where it acknowledges only the caller's version range (0001), it does not.
+openings='ffff002e0005000000010000aa0001020005000000010000aa000304040010001234567800000000000300030003
+ffff002e0005000000010000aa0003040400000000010000aa000102000510005678123400000001000300030003'
+call=ffff00380005000000010000aa0001020005000000010000aa00030404001000123456780001000100040000000100000007000200010005
+cat > "$work/flows" <<'END'
+1 1a flow to 00000001.0000aa000102.0005 id 5678 from 00000001.0000aa000304.0400 id 1234
+2 1b flow to 00000001.0000aa000304.0400 id 1234 from 00000001.0000aa000102.0005 id 5678
+END
+for acknowledged in 2 1; do
+    printf '%s\n' "$openings" "ffff00320005000000010000aa0003040400000000010000aa00010200051000567812340001000${acknowledged}00030002000100000005" "$call" > "$work/in"
+    if [ $acknowledged -eq 2 ]; then
+        printf '%s\n' '4 1a call 1 program 7 version 2 procedure 1 args 0005' '4 1b return 1 of 4 results 0000 0005'
+    else
+        printf '%s\n' '3 1b return 1 of - results 0000 0005' '4 1a call 1 program 7 version 2 procedure 1 args 0005'
+    fi | cat "$work/flows" - > "$work/text"
+    run calls
+    expect "an answer that is captured before its call, and acknowledges $acknowledged items" 0 '' "$work/text"
+done
+
 echo 5g > "$work/in"
 echo '1 hex refused Digit 1' > "$work/text"
 run dump

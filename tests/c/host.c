@@ -599,6 +599,25 @@ static void faults(void) {
     server_fault((const struct said[]){ VERSIONS, ATTENTION }, 2, XNS_ATTENTION);
 }
 
+/* A host whose first packet is refused memory rests for the first wait, unless something is done of a connection. Asked before that, it gives the packet. */
+static void rests(void) {
+    struct xns_host one = XNS_HOST_INIT;
+    uint8_t packet[XNS_LONGEST_PACKET];
+    size_t number, length;
+    uint64_t via;
+    CHECK(xns_host_new(&one, &here, &usual, secret) == XNS_OK);
+    CHECK(xns_host_connect(&one, 1000, CLIENT_VIA, here.socket, &there, &number) == XNS_OK && xns_host_wake(&one) == 0);
+    for (int k = 0; k < 2; k++) {
+        growths = 0, refuse_at = 1;
+        CHECK(xns_host_next_packet(&one, 1000, packet, sizeof packet, &length, &via) == XNS_NO_MEMORY);
+        CHECK(xns_host_wake(&one) == 1250);
+        if (k == 0) CHECK(xns_host_set_tag(&one, number, 1) == XNS_OK && xns_host_wake(&one) == 0);
+    }
+    refuse_at = 0;
+    CHECK(xns_host_next_packet(&one, 1001, packet, sizeof packet, &length, &via) == XNS_OK && length == 42);
+    xns_host_free(&one);
+}
+
 int main(void) {
     static const size_t sizes[] = { 1, 2, 3, 8, 64 };
     long most;
@@ -618,6 +637,7 @@ int main(void) {
     idle();
     not_served();
     faults();
+    rests();
     for (refuse_at = 0, most = 1; refuse_at <= most; refuse_at++) {
         growths = 0;
         converse(2, 3);
