@@ -80,7 +80,7 @@ is_vain (Timed since) = false
 is_vain (Resent at) = true
 is_vain Over = false
 
--- half of such a wait is over since something began to wait for the peer, and nothing went out again
+-- half of a wait is over since something began to wait for the peer, which acknowledged nothing since, and nothing went out again
 abbrev pub is_late : Timing → (wait now : ℕ) → Bool
 is_late Ready wait now = false
 is_late (Timed since) wait now = nat_le (wait - wait / 2) (now - since)

@@ -83,7 +83,7 @@ after_step w false now = idling w w.due
 
 -- ---- after a word of the peer, which acknowledges more or opens the connection, or does not
 
--- half of the first wait is over, and nothing went out again
+-- half of the first wait is over since something began to wait for the peer, which acknowledged nothing since, and nothing went out again
 abbrev pub overdue_by : Waiting → Due → (now : ℕ) → Bool
 overdue_by w Never now = false
 overdue_by w (AgainAt t) now = is_late w.timing (first_wait w.measure w.pace) now

@@ -18,8 +18,8 @@ pub fn a_silent_peer_is_given_up()
         → (w.misses + n ≡ v.misses) × (w.misses + n ≤ borne w.measure w.pace) }
 {}
 
-/// Two hosts do not talk for ever by what they repeat: while something waits for the peer, and it acknowledges no more, at most one packet
-/// goes out again for a word of it.
+/// By its waits a connection repeats nothing for ever because its peer does: while something waits for the peer, and the peer acknowledges no
+/// more, at most one packet goes out again for a word of the peer.
 pub fn a_repeat_is_answered_once()
     ensures { (w v : Waiting) (n : ℕ) → Unheard w n v → n ≤ 1 }
 {}

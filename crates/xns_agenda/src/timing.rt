@@ -32,7 +32,8 @@ impl Timing {
         matches!(self, Timing::Resent(_))
     }
 
-    /// Whether half of such a wait is over since something began to wait for the peer, and nothing went out again.
+    /// Whether half of a wait is over since something began to wait for the peer, which acknowledged nothing since, and nothing went out
+    /// again.
     pub fn is_late(self, wait: u32, now: u64) -> bool
         ensures { result ≡ is_late self wait now }
     {

@@ -108,7 +108,8 @@ impl Wait {
         self.timing.is_vain()
     }
 
-    /// Whether half of the first wait is over since something began to wait for the peer, and nothing went out again.
+    /// Whether half of the first wait is over since something began to wait for the peer, which acknowledged nothing since, and nothing
+    /// went out again.
     pub fn is_overdue(&self, now: u64) -> bool
         ensures { result ≡ is_overdue self.now now }
     {

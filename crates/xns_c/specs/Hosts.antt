@@ -68,7 +68,7 @@ abbrev pub keeps_answer : Option Event → ℕ → Bool
 keeps_answer None number = false
 keeps_answer (Some e) number = is_answer e && event_number e == number
 
--- it goes where the connection was asked to close; a call that is kept stays, which is to be answered first
+-- an answer that is kept goes where its connection was asked to close; a call that is kept stays, since it is to be answered first
 abbrev pub kept_closing : Option Event → ℕ → ℕ → Option Event
 kept_closing event number result = if result == ok && keeps_answer event number then None else event
 

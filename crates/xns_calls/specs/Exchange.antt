@@ -173,11 +173,11 @@ brings_on due s = is_some (reached s.other.track due.other) || is_some (reached 
 abbrev pub brings_data : Header → Option Track → Bool
 brings_data f track = not (is_system f) && brings_new track f.sequence
 
--- memory is wanted only where what takes effect brings a flow to a number, where a data packet brings something new,
+-- to take a packet wants memory only where what takes effect brings a flow to a number, or where its data bring something new
 abbrev pub wants_to_take : Due → Header → Scene → Bool
 wants_to_take due f s = brings_on due s || brings_data f s.own.track
 
--- or where one of the flows has an item that can be read
+-- memory is wanted only to take the packet, or where one of the flows has an item that can be read
 abbrev pub wants_memory : Due → Header → Scene → Bool
 wants_memory due f s = wants_to_take due f s || is_some (next_turn due.given s.own.track s.other.track)
 

@@ -43,7 +43,7 @@ abbrev pub kept_count : Option Track → ℕ
 kept_count None = 0
 kept_count (Some track) = length track.early
 
--- so it goes on until neither has one: no more are read than are kept
+-- items are read until neither flow has one that can be: no more are read than are kept
 unfoldable pub settled : Heading → Given → Scene → Scene
 settled heading given s = read_times (kept_count s.own.track + kept_count s.other.track) heading given s
 
@@ -68,7 +68,7 @@ abbrev pub alone_number : Due → Header → Option ℕ → Track → Option Tra
 alone_number due f None own other = None
 alone_number due f (Some number) own other = if is_alone due f number own other then Some number else None
 
--- the number of such an item
+-- the number of an item that comes next and finds nothing kept
 abbrev pub comes_next : Due → Header → Option Track → Option Track → Option ℕ
 comes_next due f None other = None
 comes_next due f (Some own) other = alone_number due f (near own.next f.sequence) own other
@@ -81,6 +81,6 @@ abbrev pub read_once_in : Heading → ℕ → Header → List ℕ → Option Tra
 read_once_in heading number f content None s = s
 read_once_in heading number f content (Some track) s = after_told (read_next heading (number + 1) (item_with f content) (told_of track s)) s
 
--- such an item is read
+-- an item that comes next and finds nothing kept is read
 unfoldable pub read_once : Heading → ℕ → Header → List ℕ → Scene → Scene
 read_once heading number f content s = read_once_in heading number f content s.own.track s

@@ -12,7 +12,7 @@ first_kept [] = None
 first_kept (early ∷ rest) = Some (record { number = early.number; acknowledged = early.item.acknowledged; line = early.item.line })
 
 -- the items of the flow behind that an item's packet acknowledges were read, or are waited for no longer; or the number lies more than 64
--- past the next one, as no true one does
+-- past the next one, as none of a window of 64 does
 abbrev pub is_behind : ℕ → ℕ → ℕ → Bool
 is_behind next given number = not (nat_lt (max next given) number) || nat_lt most_pending (number - next)
 

@@ -34,7 +34,8 @@ const MOST_LINES: usize = 18_446_744_073_709_551_615;
 /// with equal hosts, sockets and identifiers of source and target, of which the target's identifier is not 0. Its items
 /// are read in the order of their numbers (XSIS 028112, Sequenced Packet Protocol): those that come early, with numbers up
 /// to 63 above the next, are kept until those before them come, and repeats are passed over. What a packet acknowledges ahead of the
-/// items takes effect 64 packets of the connection later, so that copies may overtake each other. What the items of datastream
+/// items takes effect 64 packets of the connection later, so that copies may overtake each other; until then an item waits for
+/// those that its packet acknowledges, so that an answer is read behind its call. What the items of datastream
 /// 0 say is read as the messages of a session (XSIS 038112, Courier, Message stream), however it is cut. Once a connection was
 /// closed by both ends, an item 0 begins another one of the same ends.
 ///
@@ -50,7 +51,7 @@ const MOST_LINES: usize = 18_446_744_073_709_551_615;
 /// answered. The text of all lines before the fault is written first, but for a write that fails.
 ///
 /// It holds what `dump` holds, the words of the longest message, its value and its text where it is named, and of each flow with ends of its own a record of some 400
-/// bytes, at most 63 items that came early, at most 64 acknowledgements that came before their items, and at most 131,072 bytes of a message that is not whole, with four more while a version range
+/// bytes, at most 64 items that wait, at most 64 acknowledgements that came before their items, and at most 131,072 bytes of a message that is not whole, with four more while a version range
 /// stands before it.
 pub fn calls<R: Read, W: Write>(
     alloc: Global,

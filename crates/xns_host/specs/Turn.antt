@@ -100,7 +100,7 @@ pub record TellsNext (result : Option Event) (old new : Host) : Type 0 where
 
 -- ---- a tag
 
--- the connection with this number has this tag from now on; or there is none. Nothing else changed
+-- the connection with this number has this tag from now on, and a rest after refused memory is over; or there is none. Nothing else changed
 pub record Tags (number tag : ℕ) (result : Result (Unit {0}) HostFault) (old new : Host) : Type 0 where
   pub tagged : OnOk result (Turns (GuestTagged tag) number (places_of old) (places_of new))
   pub unchanged : OnErr result (places_of new ≡ places_of old)
