@@ -56,7 +56,7 @@ IfNoMemory (Err stop) wants = IsWanted stop wants
 abbrev pub Reader : Type 0 → Type 0
 Reader A = List Token → Result (A × List Token) Fault
 
--- the same under another name
+-- what a reader returns, with a function applied to the value that was read
 abbrev pub over : {A B : Type 0} → (A → B) → Result (A × List Token) Fault → Result (B × List Token) Fault
 over f (Ok x) = Ok (f x.0, x.1)
 over f (Err e) = Err e

@@ -19,7 +19,7 @@ pub record Plan : Type 0 where
   pub free : Line
   pub short : Option ℕ
 
--- it is for so many numbers
+-- a plan is for so many numbers
 pub record IsFor (a : Plan) (most : ℕ) : Type 0 where
   pub dues : length a.dues ≡ most
   pub packets : length a.packets.tickets ≡ most
@@ -69,8 +69,8 @@ abbrev pub asked_at : Option ℕ → ℕ
 asked_at None = 0
 asked_at (Some time) = time
 
--- something is to be done at this time: where a packet may be there, when packets are asked for; at once where there is something to tell;
--- and when something is due
+-- something is to be done at this time: when packets are asked for, where one may be there; at once, where there is something to tell;
+-- when something is due
 pub data IsWanted (packets events : Line) (dues : List (Option ℕ)) (short : Option ℕ) : ℕ → Type 0 where
   packet_waits : (k : ℕ) → has_turn packets k ≡ true → IsWanted packets events dues short (asked_at short)
   event_waits : (k : ℕ) → has_turn events k ≡ true → IsWanted packets events dues short 0

@@ -151,19 +151,19 @@ after_by w Forget now = record w { due = Never }
 abbrev pub after_act : Waiting → ℕ → Waiting
 after_act w now = after_by w (act_at w now) now
 
--- it is due after this time, or never
+-- something is due after this time, or never
 abbrev pub IsDueAfter : ℕ → Due → Type 0
 IsDueAfter now due = (t : ℕ) → due_time due ≡ Some t → now < t
 
 -- ---- at one moment
 
--- the one leads to the other by steps of this moment, or the connection was closed at it
+-- the first wait leads to the second by steps of this moment, or the connection was closed at it
 pub data StepsAt (now : ℕ) (w : Waiting) : Waiting → Type 0 where
   still : StepsAt now w w
   step : {v : Waiting} → StepsAt now w v → (waits : Bool) → StepsAt now w (after_step v waits now)
   close : {v : Waiting} → StepsAt now w v → StepsAt now w (lingering v now)
 
--- the same, where a word of the peer may have come first
+-- steps of this moment lead from the first wait to the second, and a word of the peer may have come before them
 pub data HearsAt (now : ℕ) (w v : Waiting) : Type 0 where
   no_word : StepsAt now w v → HearsAt now w v
   word : (more again : Bool) → StepsAt now (after_word w more again now) v → HearsAt now w v

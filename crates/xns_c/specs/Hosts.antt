@@ -84,7 +84,7 @@ pub record AnswersCall (k n : KeptHost) (now number : ℕ) (answer : Option Answ
   pub bad : answer ≡ None → (result ≡ bad_argument) × (n ≡ k)
   pub event : n.event ≡ kept_after k.event number result
 
--- it was asked to close
+-- the connection was asked to close
 pub record Closes (k n : KeptHost) (now number result : ℕ) : Type 0 where
   pub turns : Turns k n now number asked (λ t. None) result
   pub event : n.event ≡ kept_closing k.event number result
@@ -165,7 +165,7 @@ pub record Wakes (k : KeptHost) (time : ℕ) : Type 0 where
   pub packet : k.packet ≢ None → time ≡ 0
   pub host : k.event ≡ None → k.packet ≡ None → WakesHost k.host time
 
--- this number is told; where there is none, nothing is written
+-- the number is written, or nothing where there is none
 abbrev pub NumberIsTold : Option ℕ → (old new result : ℕ) → Type 0
 NumberIsTold None old new result = (result ≡ nothing) × (new ≡ old)
 NumberIsTold (Some number) old new result = (result ≡ ok) × (new ≡ number)

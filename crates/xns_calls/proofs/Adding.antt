@@ -136,7 +136,7 @@ data_adds h a packet f content s =
     adds_on h s.text u.text (after_number h (new_number u.own.track f.sequence) (carried h a f content) u).text (begun_adds h packet f s)
     (number_adds h (new_number u.own.track f.sequence) (carried h a f content) u)
 
--- and the rest of its own flow
+-- what an item of the packet's own flow adds
 own_adds : (h : Heading) (o : Option ℕ) (s : Scene) → Adds h s.text (advance_own h o s).text
 own_adds h None s = adds_none h s.text
 own_adds h (Some n) s = advanced_adds h n s
