@@ -6,7 +6,7 @@
     capture_account.py --times FILE    prints standard input, which is what `calls` says of the capture, with the times of its frames;
     capture_account.py --times=relative FILE    the same, in seconds since the first frame
 
-Faults: NoCapture, Cut, TooLong, Lengths, Order, Version, NoInterface, TooManyInterfaces.
+Faults: NoCapture, Cut, TooLong, Lengths, Order, Version, NoInterface, TooManyInterfaces, UnreadLink with the link type.
 """
 import sys
 from fractions import Fraction
@@ -14,6 +14,9 @@ from fractions import Fraction
 MOST_FRAME = 262144
 MOST_BLOCK = 16777216
 MOST_INTERFACES = 65536
+
+# The link types that are read.
+LINKS = {1, 2, 113, 276}
 
 # The types of blocks that are read: section headers, interfaces, and packets. Longer ones than MOST_BLOCK are refused.
 READ = (0x0A0D0D0A, 1, 2, 3, 6)
@@ -82,6 +85,8 @@ def frames_of_classic(source, order):
     if (number(header, 4, 2), number(header, 6, 2)) != (2, 4):
         raise Fault("Version")
     link = number(header, 20, 4) & 0xFFFF
+    if link not in LINKS:
+        raise Fault(f"UnreadLink {link}")
     digits = 9 if number(header, 0, 4) == 0xA1B23C4D else 6
     while not source.is_empty():
         head = source.peek(16)
@@ -142,6 +147,8 @@ def frames_of_blocks(source):
             if which >= len(interfaces):
                 raise Fault("NoInterface")
             link, most, resolution = interfaces[which]
+            if LINKS.isdisjoint(other[0] for other in interfaces):
+                raise Fault(f"UnreadLink {link}")
             if kind == 3:
                 start, captured = 12, number(block, 8, 4)
                 if most and most < captured:

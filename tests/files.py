@@ -28,8 +28,17 @@ SAID = {
     "TooManyInterfaces": "a section has too many interfaces",
 }
 
+# The names of links that are not read, of those that random captures have.
+LINK_NAMES = {"0": " (BSD loopback)", "12": " (raw IP)", "101": " (raw IP)"}
+
 # A line has at most so many bytes, and a packet half as many.
 MOST_PACKET = 2048
+
+
+def said_of(fault):
+    """What the program says of a fault by its name, which the link type follows where a link is not read."""
+    name, _, link = fault.partition(" ")
+    return f"link type {link}{LINK_NAMES.get(link, '')} is not read" if name == "UnreadLink" else SAID[name]
 
 
 def run(words, given=b"", piece=None):
@@ -66,7 +75,7 @@ def compare(program, mode, path, capture, piece):
         return None
     words = [program, mode, path if piece is None else "-"]
     status, text, errors = run(words, capture if piece else b"", piece)
-    said = f"xns: {words[2]}: {SAID[fault]}\n" if fault else ""
+    said = f"xns: {words[2]}: {said_of(fault)}\n" if fault else ""
     if errors != said:
         return f"said {errors!r} and not {said!r}"
     if any(len(packet) > MOST_PACKET for number, packet in packets):

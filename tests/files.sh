@@ -101,6 +101,48 @@ head -c -1 "$work/x.pcapng" > "$work/cut.pcapng"
 run dump "$work/cut.pcapng"
 ends 'a capture that is cut' 3 "xns: $work/cut.pcapng: the capture is cut" -
 
+# Links that are not read: a classic capture of one; behind that file a section of raw IP and BSD loopback; and a section of raw IP and
+# Ethernet, of which the first has a frame with a number, and prints nothing.
+python3 - "$work/x.pcapng" "$work" << 'END'
+import struct
+import sys
+
+def block(kind, body):
+    return struct.pack("<II", kind, 12 + len(body)) + body + struct.pack("<I", 12 + len(body))
+
+def interface(link):
+    return block(1, struct.pack("<HHI", link, 0, 0))
+
+def frame(which):
+    return block(6, struct.pack("<IIIII", which, 0, 0, 44, 44) + bytes(12) + bytes.fromhex("0600ffff001e0007") + bytes(24))
+
+file, folder = sys.argv[1:]
+with open(file, "rb") as source:
+    capture = source.read()
+section = block(0x0A0D0D0A, struct.pack("<IHHq", 0x1A2B3C4D, 1, 0, -1))
+made = {f"link_{link}.pcap": struct.pack("<IHHiIII", 0xA1B2C3D4, 2, 4, 0, 0, 65535, link) for link in (0, 101, 147)}
+made["unread.pcapng"] = capture + section + interface(101) + interface(0) + frame(1) + interface(1) + frame(2)
+made["beside.pcapng"] = section + interface(101) + interface(1) + frame(0) + frame(1)
+for name, contents in made.items():
+    with open(f"{folder}/{name}", "wb") as made_file:
+        made_file.write(contents)
+END
+while IFS=: read -r link name; do
+    run dump "$work/link_$link.pcap"
+    ends "link type $link" 3 "xns: $work/link_$link.pcap: link type $link$name is not read" /dev/null
+done << 'END'
+0: (BSD loopback)
+101: (raw IP)
+147:
+END
+run dump "$work/x.pcapng"
+cp "$work/out" "$work/dumped"
+run dump "$work/unread.pcapng"
+ends 'a section of links that are not read' 3 "xns: $work/unread.pcapng: link type 0 (BSD loopback) is not read" "$work/dumped"
+run dump "$work/beside.pcapng"
+printf '%s\n' '2 idp length 30 sum none control 0 type 7 to 00000000.000000000000.0000 from 00000000.000000000000.0000' '2 data -' > "$work/wanted"
+ends 'a link that is not read beside Ethernet' 0 '' "$work/wanted"
+
 # A block of 17 MiB between that file and the same file again: a block that is passed over, one that has a number as a frame, and a packet,
 # which is too long. Each comes through a pipe to a program that may have 16 MiB in all. Other files end within the block, also behind its
 # head and behind a part of it, or have another length at the end of the block.

@@ -132,7 +132,9 @@ class Maker:
         return data
 
     def link(self):
-        return self.rng.choice([1, 1, 1, 1, 2, 113, 276, 0, 101] if not self.is_fair else [1, 1, 1, 113, 276])
+        if self.odd(0.1):
+            return self.rng.choice([0, 12, 101, 147])
+        return self.rng.choice([1, 1, 1, 1, 2, 113, 276] if not self.is_fair else [1, 1, 1, 113, 276])
 
     def captured(self, frame):
         """The bytes that were captured, and the original length."""

@@ -1,6 +1,6 @@
 -- The internet packet that a frame carries, by its link type.
 use Rattle.std.specs.Prelude.{ℕ, ◌+◌, ◌*◌, ◌==◌, ◌||◌, ◌&&◌, nat_lt, ◌%◌, not, Bool, if◌then◌else◌, List, ◌∷◌, length, take, drop}
-use Rattle.std.specs.Prelude.{slice_index, Option, Some, None}
+use Rattle.std.specs.Prelude.{slice_index, Option, Some, None, is_some, option_and_then}
 use Rattle.xns_captures.specs.Places.{word_at}
 use Rattle.xns_captures.specs.declared.byte_order.ByteOrder.TheVariants.{Big}
 
@@ -69,11 +69,18 @@ of_cooked frame = if nat_lt (length frame) 16 then None else behind_protocol (wo
 abbrev pub of_cooked_2 : List ℕ → Option (List ℕ)
 of_cooked_2 frame = if nat_lt (length frame) 20 then None else behind_protocol (word_at Big frame 0) (drop 20 frame)
 
+-- how a frame of this link type is read; none where it is not read
+abbrev pub reader_of : ℕ → Option (List ℕ → Option (List ℕ))
+reader_of link =
+    if link == 1 then Some of_ethernet
+    else if link == 2 then Some of_old_ethernet
+    else if link == 113 then Some of_cooked
+    else if link == 276 then Some of_cooked_2
+    else None
+
+abbrev pub is_link_read : ℕ → Bool
+is_link_read link = is_some (reader_of link)
+
 -- the packet of a frame of this link type, with all bytes behind it
 unfoldable pub packet_of_frame : ℕ → List ℕ → Option (List ℕ)
-packet_of_frame link frame =
-    if link == 1 then of_ethernet frame
-    else if link == 2 then of_old_ethernet frame
-    else if link == 113 then of_cooked frame
-    else if link == 276 then of_cooked_2 frame
-    else None
+packet_of_frame link frame = option_and_then (λ packet_in. packet_in frame) (reader_of link)

@@ -1,6 +1,8 @@
 -- The parts of a capture: how many bytes the next one has, by its head, and what it holds.
 use Rattle.std.specs.Prelude.{ℕ, ◌+◌, ◌-◌, ◌*◌, ◌%◌, ◌≤◌, ◌==◌, ◌||◌, ◌&&◌, min, max, nat_lt, Bool, true, false, not, if◌then◌else◌, List, length, slice_get, take, drop}
 use Rattle.std.specs.Prelude.{Option, Some, None, is_some, option_map, Result, Ok, Err}
+use Rattle.std.specs.List.{list_any}
+use Rattle.xns_captures.specs.Links.{is_link_read}
 use Rattle.xns_captures.specs.Places.{count_at, long_at, word_at}
 use Rattle.xns_captures.specs.Times.{resolution_of}
 use Rattle.xns_captures.specs.declared.byte_order.ByteOrder.{ByteOrder}
@@ -50,14 +52,17 @@ classic_order bytes =
     else if is_classic (long_at Little bytes 0) then Some Little
     else None
 
--- the header of a file: its magic number, version 2.4, and the link type in the low half of the last number, below the bits on check
--- sequences
+-- the link type in the header of a file: the low half of the last number, below the bits on check sequences
+abbrev pub header_link : ByteOrder → List ℕ → ℕ
+header_link order bytes = long_at order bytes 20 % 65536
+
+-- the header of a file: its magic number, version 2.4, and the link type, which has to be one that is read
 abbrev pub header_in : ByteOrder → List ℕ → Holds
 header_in order bytes =
     if nat_lt (length bytes) 24 then Err fault.Cut
-    else if word_at order bytes 4 == 2 && word_at order bytes 6 == 4
-    then Ok (part.Begins (Records order (long_at order bytes 20 % 65536) (long_at order bytes 0 == 0xa1b23c4d)))
-    else Err fault.Version
+    else if not (word_at order bytes 4 == 2 && word_at order bytes 6 == 4) then Err fault.Version
+    else if not (is_link_read (header_link order bytes)) then Err (fault.UnreadLink (header_link order bytes))
+    else Ok (part.Begins (Records order (header_link order bytes) (long_at order bytes 0 == 0xa1b23c4d)))
 
 -- a record: a head of 16 bytes, with the seconds since 1970 and a part of one, the captured length at 8, and the frame
 abbrev pub record_size : ByteOrder → List ℕ → Size
@@ -138,11 +143,16 @@ interface_in order interfaces bytes =
 abbrev pub time_by : Option Interface → ℕ → Option FrameTime
 time_by interface count = option_map (λ i. record { count = count; resolution = i.resolution }) interface
 
--- a frame of an interface, which begins at a place of a block; its padding and the length at the end stand behind it
-abbrev pub frame_of : Option Interface → ℕ → ℕ → Option FrameTime → ℕ → Holds
-frame_of None start count time total = Err fault.NoInterface
-frame_of (Some interface) start count time total =
-    if nat_lt most_frame_bytes count then Err fault.TooLong
+-- frames of a link that is not read are passed over in a section that describes a link that is read
+abbrev pub is_link_taken : ℕ → List Interface → Bool
+is_link_taken link interfaces = is_link_read link || list_any (λ i. is_link_read i.link) interfaces
+
+-- a frame of one of these interfaces, which begins at a place of a block; its padding and the length at the end stand behind it
+abbrev pub frame_of : List Interface → Option Interface → ℕ → ℕ → Option FrameTime → ℕ → Holds
+frame_of interfaces None start count time total = Err fault.NoInterface
+frame_of interfaces (Some interface) start count time total =
+    if not (is_link_taken interface.link interfaces) then Err (fault.UnreadLink interface.link)
+    else if nat_lt most_frame_bytes count then Err fault.TooLong
     else if nat_lt total (start + count + 4) then Err fault.Lengths
     else Ok (part.Frame (record { link = interface.link; start = start; count = count; time = time }))
 
@@ -150,14 +160,14 @@ frame_of (Some interface) start count time total =
 abbrev pub enhanced_in : ByteOrder → List Interface → List ℕ → Holds
 enhanced_in order interfaces bytes =
     if not (has_lengths order 32 bytes) then Err fault.Lengths
-    else frame_of (slice_get interfaces (long_at order bytes 8)) 28 (long_at order bytes 20)
+    else frame_of interfaces (slice_get interfaces (long_at order bytes 8)) 28 (long_at order bytes 20)
     (time_by (slice_get interfaces (long_at order bytes 8)) (count_at order bytes 12)) (length bytes)
 
 -- the obsolete packet, whose interface has a number of two bytes
 abbrev pub old_in : ByteOrder → List Interface → List ℕ → Holds
 old_in order interfaces bytes =
     if not (has_lengths order 32 bytes) then Err fault.Lengths
-    else frame_of (slice_get interfaces (word_at order bytes 8)) 28 (long_at order bytes 20)
+    else frame_of interfaces (slice_get interfaces (word_at order bytes 8)) 28 (long_at order bytes 20)
     (time_by (slice_get interfaces (word_at order bytes 8)) (count_at order bytes 12)) (length bytes)
 
 -- how many bytes of a frame of so many were kept
@@ -169,7 +179,7 @@ kept_count (Some interface) count = if interface.most == 0 then count else min c
 abbrev pub simple_in : ByteOrder → List Interface → List ℕ → Holds
 simple_in order interfaces bytes =
     if not (has_lengths order 16 bytes) then Err fault.Lengths
-    else frame_of (slice_get interfaces 0) 12 (kept_count (slice_get interfaces 0) (long_at order bytes 8)) None (length bytes)
+    else frame_of interfaces (slice_get interfaces 0) 12 (kept_count (slice_get interfaces 0) (long_at order bytes 8)) None (length bytes)
 
 -- blocks that are no packets, and have numbers as frames in Wireshark: a systemd journal entry, a system call, and custom blocks
 abbrev pub is_counted : ℕ → Bool

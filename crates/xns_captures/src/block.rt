@@ -1,24 +1,22 @@
 //! The blocks of a pcapng file.
-ghost use Rattle.std.specs.Prelude.{◌≡◌, ◌≤◌, ◌-◌, ℕ, true, IfOk, drop, length, slice_get, take};
+ghost use Rattle.std.specs.Prelude.{◌≡◌, ◌≤◌, ◌-◌, ℕ, true, IfOk, drop, length, take};
 ghost use Rattle.xns_captures.specs.Times.{resolution_of};
-ghost use Rattle.xns_captures.specs.Parts.{block_in, block_of_type, block_size as block_size_of, block_size_in, enhanced_in};
-ghost use Rattle.xns_captures.specs.Parts.{IsWithin, frame_of as frame_of_block, has_lengths as has_lengths_in, interface_in};
-ghost use Rattle.xns_captures.specs.Parts.{is_counted as is_counted_kind, is_read as is_read_kind, kept_count as kept_count_of, long_size as long_size_of};
-ghost use Rattle.xns_captures.specs.Parts.{old_in, other_in, passed_over as passed_over_of, section_in_order, simple_in};
-ghost use Rattle.xns_captures.specs.Parts.{time_by as time_of_interface};
+ghost use Rattle.xns_captures.specs.Parts.{block_in, block_of_type, block_size as block_size_of, block_size_in};
+ghost use Rattle.xns_captures.specs.Parts.{IsWithin, has_lengths as has_lengths_in, interface_in};
+ghost use Rattle.xns_captures.specs.Parts.{is_counted as is_counted_kind, is_read as is_read_kind, long_size as long_size_of};
+ghost use Rattle.xns_captures.specs.Parts.{other_in, passed_over as passed_over_of, section_in_order};
 ghost use Rattle.xns_captures.specs.Parts.{section_order as section_order_of, size_in_order};
 
 use crate::byte_order::ByteOrder;
 use crate::fault::CaptureFault;
 use crate::format::Format;
-use crate::frame::Frame;
-use crate::frame_time::FrameTime;
 use crate::interface::Interface;
-use crate::limits::{MOST_BLOCK_BYTES, MOST_FRAME_BYTES, MOST_INTERFACES};
+use crate::limits::{MOST_BLOCK_BYTES, MOST_INTERFACES};
 use crate::magic::SECTION;
 use crate::options::read_resolution;
+use crate::packet_block::{read_enhanced, read_old, read_simple};
 use crate::part::Part;
-use crate::places::{read_count, read_long, read_word};
+use crate::places::{read_long, read_word};
 
 /// The bytes of the head of a block, and of the shortest block.
 pub const BLOCK_HEAD_BYTES: usize = 12;
@@ -126,7 +124,7 @@ pub fn read_block(
 }
 
 /// Whether the length at the end of a block is its length, which is at least so many bytes.
-fn has_lengths(order: ByteOrder, least: usize, bytes: &[u8]) -> bool
+pub(crate) fn has_lengths(order: ByteOrder, least: usize, bytes: &[u8]) -> bool
     requires some { 4 ≤ length bytes.now }
     ensures value { result ≡ has_lengths_in order least bytes.now }
     ensures least { result ≡ true → least ≤ length bytes.now }
@@ -210,68 +208,6 @@ fn interface_resolution(order: ByteOrder, bytes: &[u8]) -> u8
     read_resolution(order, &bytes[..total - 4][16..])
 }
 
-/// An enhanced packet.
-fn read_enhanced(
-    order: ByteOrder,
-    interfaces: &[Interface],
-    bytes: &[u8],
-) -> Result<Part, CaptureFault>
-    requires { 12 ≤ length bytes.now }
-    ensures value { result ≡ enhanced_in order interfaces.now bytes.now }
-    ensures fits { IfOk result (IsWithin (length bytes.now)) }
-{
-    if !has_lengths(order, 32, bytes) {
-        return Err(CaptureFault::Lengths);
-    }
-    let interface = interface_at(interfaces, read_long(order, bytes, 8) as usize);
-    let time = time_of(interface, read_count(order, bytes, 12));
-    frame_of(
-        interface,
-        28,
-        read_long(order, bytes, 20),
-        time,
-        bytes.len(),
-    )
-}
-
-/// The obsolete packet, whose interface has a number of two bytes.
-fn read_old(order: ByteOrder, interfaces: &[Interface], bytes: &[u8]) -> Result<Part, CaptureFault>
-    requires { 12 ≤ length bytes.now }
-    ensures value { result ≡ old_in order interfaces.now bytes.now }
-    ensures fits { IfOk result (IsWithin (length bytes.now)) }
-{
-    if !has_lengths(order, 32, bytes) {
-        return Err(CaptureFault::Lengths);
-    }
-    let interface = interface_at(interfaces, usize::from(read_word(order, bytes, 8)));
-    let time = time_of(interface, read_count(order, bytes, 12));
-    frame_of(
-        interface,
-        28,
-        read_long(order, bytes, 20),
-        time,
-        bytes.len(),
-    )
-}
-
-/// A simple packet, of the first interface, which does not say how much of it was captured.
-fn read_simple(
-    order: ByteOrder,
-    interfaces: &[Interface],
-    bytes: &[u8],
-) -> Result<Part, CaptureFault>
-    requires { 12 ≤ length bytes.now }
-    ensures value { result ≡ simple_in order interfaces.now bytes.now }
-    ensures fits { IfOk result (IsWithin (length bytes.now)) }
-{
-    if !has_lengths(order, 16, bytes) {
-        return Err(CaptureFault::Lengths);
-    }
-    let interface = interface_at(interfaces, 0);
-    let count = kept_count(interface, read_long(order, bytes, 8));
-    frame_of(interface, 12, count, None, bytes.len())
-}
-
 /// A block of any other type, or the head of a long one.
 fn pass_over(kind: u32, order: ByteOrder, bytes: &[u8]) -> Result<Part, CaptureFault>
     requires { 12 ≤ length bytes.now }
@@ -306,67 +242,4 @@ fn is_counted(kind: u32) -> bool
     ensures { result ≡ is_counted_kind kind }
 {
     kind == JOURNAL_ENTRY || kind == SYSTEM_CALL || kind == CUSTOM || kind == CUSTOM_NOT_COPIED
-}
-
-/// The interface with this number, if it is described.
-fn interface_at(interfaces: &[Interface], number: usize) -> Option<Interface>
-    ensures { result ≡ slice_get interfaces.now number }
-{
-    interfaces.get(number).copied()
-}
-
-/// How many bytes of a frame of so many were kept.
-fn kept_count(interface: Option<Interface>, count: u32) -> u32
-    ensures { result ≡ kept_count_of interface count }
-{
-    match interface {
-        Some(interface) => {
-            if interface.most == 0 || count <= interface.most {
-                count
-            } else {
-                interface.most
-            }
-        }
-        None => count,
-    }
-}
-
-/// When a frame of an interface was captured, by a count of units since 1970.
-fn time_of(interface: Option<Interface>, count: u64) -> Option<FrameTime>
-    ensures { result ≡ time_of_interface interface count }
-{
-    Some(FrameTime {
-        count,
-        resolution: interface?.resolution,
-    })
-}
-
-/// A frame of an interface, which begins at a place of a block of so many bytes.
-fn frame_of(
-    interface: Option<Interface>,
-    start: usize,
-    count: u32,
-    time: Option<FrameTime>,
-    total: usize,
-) -> Result<Part, CaptureFault>
-    requires { start ≤ 28 }
-    ensures value { result ≡ frame_of_block interface start count time total }
-    ensures fits { IfOk result (IsWithin total) }
-{
-    let Some(interface) = interface else {
-        return Err(CaptureFault::NoInterface);
-    };
-    if count > MOST_FRAME_BYTES {
-        return Err(CaptureFault::TooLong);
-    }
-    let count = count as usize;
-    if total < start + count + 4 {
-        return Err(CaptureFault::Lengths);
-    }
-    Ok(Part::Frame(Frame {
-        link: interface.link,
-        start,
-        count,
-        time,
-    }))
 }

@@ -1,4 +1,5 @@
 //! Why a capture is not read on.
+use crate::link_name::behind_link;
 use thiserror::Error;
 
 /// Why a capture is not read on.
@@ -28,4 +29,7 @@ pub enum CaptureFault {
     /// A section describes over [`crate::MOST_INTERFACES`].
     #[error("a section has too many interfaces")]
     TooManyInterfaces,
+    /// No frame of this link type is read, nor one of another interface of the section, up to here.
+    #[error("link type {0}{name} is not read", name = behind_link(*.0))]
+    UnreadLink(u16),
 }

@@ -1,7 +1,7 @@
 //! The internet packet that a frame carries.
 ghost use Rattle.std.specs.Prelude.{◌≡◌, ◌+◌, ◌≤◌, drop, length, option_map, slice_index, take};
 ghost use Rattle.xns_captures.specs.Links.{behind_llc, behind_number, behind_protocol, is_snap as is_snap_of, is_tag as is_tag_of};
-ghost use Rattle.xns_captures.specs.Links.{of_cooked, of_cooked_2, of_ethernet, of_old_ethernet, packet_of_frame};
+ghost use Rattle.xns_captures.specs.Links.{is_link_read, of_cooked, of_cooked_2, of_ethernet, of_old_ethernet, packet_of_frame};
 
 use crate::byte_order::ByteOrder;
 use crate::places::{behind, byte_at, read_word};
@@ -30,6 +30,13 @@ const MOST_LENGTH: u16 = 1500;
 const ACCESS_POINT: u8 = 0x80;
 /// The protocol of LLC in a Linux cooked header.
 const LLC: u16 = 4;
+
+/// Whether frames of this link type are read.
+pub fn is_link_read(link: u16) -> bool
+    ensures { result ≡ is_link_read link }
+{
+    link == ETHERNET || link == OLD_ETHERNET || link == COOKED || link == COOKED_2
+}
 
 /// The internet packet that a frame of this link type carries, if it carries one, with all bytes behind it.
 ///

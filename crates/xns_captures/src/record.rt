@@ -8,6 +8,7 @@ use crate::format::Format;
 use crate::frame::Frame;
 use crate::frame_time::FrameTime;
 use crate::limits::MOST_FRAME_BYTES;
+use crate::link::is_link_read;
 use crate::magic::NANOSECONDS;
 use crate::part::Part;
 use crate::places::{read_long, read_word};
@@ -33,6 +34,9 @@ pub fn read_header(order: ByteOrder, bytes: &[u8]) -> Result<Part, CaptureFault>
         return Err(CaptureFault::Version);
     }
     let link = (read_long(order, bytes, 20) % 65536) as u16;
+    if !is_link_read(link) {
+        return Err(CaptureFault::UnreadLink(link));
+    }
     let is_nano = read_long(order, bytes, 0) == NANOSECONDS;
     Ok(Part::Begins(Format::Records {
         order,
