@@ -55,7 +55,8 @@ class Twins:
     def __init__(self, station, play):
         self.own, self.play, self.clock, self.now = xns.Address(1, bytes([2, 0, 0xAA, 0, 0, station]), COURIER), play, Clock(), 0
         self.wild, self.plain = (xns.Host(self.own, bytes([station]) * 32, **SETTINGS) for _ in range(2))
-        self.held, self.silenced, self.refused, self.spoiled, self.handed, self.asked = {}, set(), set(), set(), set(), set()
+        self.held, self.silenced, self.refused, self.spoiled, self.handed, self.asked = {}, set(), {}, set(), set(), set()
+        self.last = {}  # by its via, the front of the last packet of a connection behind which no packet came
         self.ask("serve", COURIER, [(7, 1, 1)], timed=False)
 
     def ask(self, name, *arguments, timed=True):
@@ -94,6 +95,7 @@ class Twins:
         for via, data in packets:
             assert via not in self.silenced, ("a packet of a connection that is dead or abandoned", via)
             self.play.bag.append((self.other, via, data))
+            self.last[via] = data[:42]
         return [via for via, _ in packets]
 
     def fetch(self):
@@ -137,7 +139,7 @@ class Twins:
                 Why.ASKED: one.is_asked,
                 Why.BY_PEER: one.via in self.other.asked,
                 Why.SILENT: self.clock.own > one.made,
-                Why.NOT_SERVED: one.ours and one.via in self.refused,
+                Why.NOT_SERVED: one.via in self.refused and event.error == self.refused[one.via],
                 Why.REFUSED: one.via in self.spoiled,
             }[event.why], (event, vars(one))
             if event.why in DEAD:
@@ -147,9 +149,23 @@ class Twins:
     def receive(self, via, data):
         """A packet comes. Only an opening packet makes a connection."""
         taken = self.ask("receive", via, data)
+        self.last.pop(via, None)
         for number in self.count(come=int(is_opening(data))):
             self.open(number, False, via)
             self.silenced.discard(via)
+        return taken
+
+    def hear_error(self, via, data):
+        """An Error packet comes. One that quotes the last packet of a connection closes it, if it is not closed and by its number."""
+        error = int.from_bytes(data[30:32], "big")
+        ends = error in (2, 3)
+        is_due = any(one.via == via and not one.why for one in self.held.values()) and self.last.get(via) == data[34:76]
+        if ends:
+            self.refused[via] = error
+        taken = self.receive(via, data)
+        assert taken <= ends and (taken or not (is_due and ends)), ("an Error packet", taken, data)
+        self.fetch()
+        assert not taken or all(one.via != via or one.why for one in self.held.values()), ("an Error packet closed nothing", via)
         return taken
 
     def connect(self):
@@ -230,7 +246,8 @@ class Play:
         self.hosts[0].other, self.hosts[1].other = self.hosts[1], self.hosts[0]
 
     def deliver(self, losses):
-        """A packet of the bag comes, or is lost, or comes and may come again. An opening packet that no socket takes is complained of."""
+        """A packet of the bag comes, or is lost, or comes and may come again. Of a sequenced packet that is not taken one complains: by the numbers 2 and 3
+        the connection that sent it lately is closed, by 1 it is not."""
         if not self.bag:
             return
         host, via, data = self.bag.pop(self.random.randrange(len(self.bag)))
@@ -239,11 +256,11 @@ class Play:
             return
         if kind > 1 - losses and len(self.bag) < 30:
             self.bag.append((host, via, data))
-        if data[5] == 3:
-            host.refused.add(via)
-        if not host.receive(via, data) and is_opening(data):
+        taken = host.hear_error(via, data) if data[5] == 3 else host.receive(via, data)
+        if not taken and data[5] == 5:
             target, source = (struct.unpack(">I6sH", data[at : at + 12]) for at in (18, 6))
-            self.bag.append((host.other, via, packet(3, target, source, struct.pack(">HH", 2, 0) + data[:42])))
+            error = struct.pack(">HH", self.random.choice((1, 2, 3)), 0)
+            self.bag.append((host.other, via, packet(3, target, source, error + data[:42])))
         host.fetch()
 
     def run(self, losses, steps, end_losses):

@@ -94,7 +94,7 @@ class Conversation:
         if closed.why == Why.SILENT:
             raise SilentError(CLOSED_TEXTS[closed.why])
         if closed.why == Why.NOT_SERVED:
-            raise NotServedError(CLOSED_TEXTS[closed.why])
+            raise _not_served(closed)
         if closed.why == Why.REFUSED and closed.fault is not None:
             raise BY_RESULT[closed.fault](TEXTS[closed.fault])
 
@@ -104,6 +104,12 @@ class Conversation:
             return event
         self.check()
         raise ClosedError(CLOSED_TEXTS[self.closed.why] if self.closed is not None else "the connection is closed")
+
+
+def _not_served(closed: Closed) -> NotServedError:
+    error = NotServedError(CLOSED_TEXTS[closed.why])
+    error.error = closed.error
+    return error
 
 
 class Client:

@@ -50,7 +50,7 @@ CLOSED_TEXTS = {
     Why.ASKED: "the program closed the connection",
     Why.BY_PEER: "the peer closed the connection",
     Why.SILENT: "the peer does not answer",
-    Why.NOT_SERVED: "an Error packet says that the opening packet was not taken",
+    Why.NOT_SERVED: "an Error packet says that a packet of the connection was not taken",
     Why.REFUSED: "what the peer said is no conversation of Courier's",
 }
 
@@ -74,7 +74,9 @@ class SilentError(XnsError, TimeoutError):
 
 
 class NotServedError(XnsError, ConnectionRefusedError):
-    """An Error packet says that there is no server."""
+    """An Error packet says that there is no server, or no room at it. `error`: its number; 2 is no such socket, 3 no resources."""
+
+    error: Optional[int] = None
 
 
 class ClosedError(XnsError, ConnectionResetError):

@@ -99,7 +99,7 @@ class RawSettings(ctypes.Structure):
 
 
 class RawEvent(ctypes.Structure):
-    _fields_ = [("kind", c_uint8), ("number", c_size_t), ("tag", c_uint64), ("message", RawMessage), ("closed", c_uint8), ("fault", c_uint32)]
+    _fields_ = [("kind", c_uint8), ("number", c_size_t), ("tag", c_uint64), ("message", RawMessage), ("closed", c_uint8), ("error", c_uint16), ("fault", c_uint32)]
 
     def told(self, words: List[int]) -> Event:
         event = self._told(words)
@@ -113,7 +113,10 @@ class RawEvent(ctypes.Structure):
             return Call(self.number, message.program, message.version, message.procedure, words)
         if self.kind == _EVENT_ANSWER:
             return Answer(self.number, _KINDS[message.kind], message.number, words)
-        return Closed(self.number, Why(self.closed), Result(self.fault) if self.fault else None)
+        closed = Closed(self.number, Why(self.closed), Result(self.fault) if self.fault else None)
+        if closed.why == Why.NOT_SERVED:
+            closed.error = self.error
+        return closed
 
 
 class RawHandle(ctypes.Structure):

@@ -303,9 +303,11 @@ class _Closed(NamedTuple):
 
 
 class Closed(_Closed):
-    """The connection with this number is closed, and nothing more comes of it. `fault` is what a peer was refused for, else None."""
+    """The connection with this number is closed, and nothing more comes of it. `fault` is what a peer was refused for, else None. As attributes alone:
+    `error`, the number of the Error packet that closed it, else None; `tag`."""
 
     tag = 0
+    error: Optional[int] = None
 
 
 Event = Union[Call, Answer, Closed]

@@ -93,7 +93,7 @@ static struct xns_event calls(size_t number, size_t length) {
     AGAIN(xns_host_call(&client, now, number, 7, LAST_VERSION, 3, given, length));
     call = await(&service, XNS_EVENT_CALL);
     CHECK(call.message.kind == XNS_KIND_CALL && call.message.program == 7 && call.message.version == LAST_VERSION && call.message.procedure == 3);
-    CHECK(call.message.number == 0 && call.closed == 0 && call.fault == 0 && count == length && memcmp(words, given, 2 * length) == 0);
+    CHECK(call.message.number == 0 && call.closed == 0 && call.error == 0 && call.fault == 0 && count == length && memcmp(words, given, 2 * length) == 0);
     return call;
 }
 
@@ -101,7 +101,7 @@ static struct xns_event calls(size_t number, size_t length) {
 static void hears(size_t number, uint8_t kind, uint16_t code, size_t length) {
     struct xns_event answer = await(&client, XNS_EVENT_ANSWER);
     CHECK(answer.number == number && answer.message.kind == kind && answer.message.number == code && answer.message.program == 0);
-    CHECK(answer.closed == 0 && answer.fault == 0 && count == length && memcmp(words, given, 2 * length) == 0);
+    CHECK(answer.closed == 0 && answer.error == 0 && answer.fault == 0 && count == length && memcmp(words, given, 2 * length) == 0);
 }
 
 /* A call that is answered so, with so many words each way. */
@@ -121,7 +121,13 @@ static void is_rejected(size_t number, uint32_t program, uint16_t version, uint1
 
 static void is_closed(struct xns_host *host, uint8_t why, enum xns_result fault) {
     struct xns_event closed = await(host, XNS_EVENT_CLOSED);
+    CHECK(closed.error == 0);
     CHECK(closed.closed == why && closed.fault == (uint32_t)fault && count == 0 && closed.message.kind == 0 && closed.message.program == 0);
+}
+
+static void is_not_served(struct xns_host *host, uint16_t error) {
+    struct xns_event closed = await(host, XNS_EVENT_CLOSED);
+    CHECK(closed.closed == XNS_CLOSED_NOT_SERVED && closed.error == error && closed.fault == XNS_OK && count == 0 && closed.message.kind == 0);
 }
 
 static void converse(size_t window, size_t backlog) {
@@ -470,24 +476,32 @@ static void idle(void) {
     free_both();
 }
 
-/* An Error packet that quotes our opening packet closes the connection; one that quotes another does not. */
+/* An Error packet of one of two numbers that quotes a packet which the client sent lately closes its connection; one that quotes another does
+ * not, nor does another number. The first packet opens the connection, a later one is a call. */
 static void not_served(void) {
-    uint8_t opening[XNS_LONGEST_PACKET], error[XNS_LONGEST_PACKET];
+    static const size_t odd[] = { 15, 17, 27, 29, 33, 35, 36 }; /* of both places, both identifiers, and the sequence number that are quoted */
+    uint8_t packet[XNS_LONGEST_PACKET], error[XNS_LONGEST_PACKET];
     size_t number, length, size;
     uint64_t via;
-    open_both(&usual, &number);
-    CHECK(xns_host_next_packet(&client, now, opening, sizeof opening, &length, &via) == XNS_OK);
-    CHECK(xns_complain(&there, XNS_ERROR_NO_SUCH_SOCKET, 0, opening, length, error, sizeof error, &size) == XNS_OK);
-    error[30 + 4 + 30 + 3] ^= 1; /* of the identifier in the packet that is quoted */
-    error[0] = error[1] = 0xff;  /* no checksum */
-    CHECK(xns_host_receive(&client, now, CLIENT_VIA, error, size) == XNS_NOTHING);
-    error[30 + 4 + 30 + 3] ^= 1;
-    error[30 + 1] = XNS_ERROR_BAD_CHECKSUM;
-    CHECK(xns_host_receive(&client, now, CLIENT_VIA, error, size) == XNS_NOTHING);
-    error[30 + 1] = XNS_ERROR_NO_SUCH_SOCKET;
-    CHECK(xns_host_receive(&client, now, CLIENT_VIA, error, size) == XNS_OK);
-    is_closed(&client, XNS_CLOSED_NOT_SERVED, XNS_OK);
-    free_both();
+    for (int is_open = 0; is_open < 2; is_open++) {
+        open_both(&usual, &number);
+        if (is_open) asks(number, XNS_KIND_RETURN, 0, 300);
+        if (is_open) AGAIN(xns_host_call(&client, now, number, 7, LAST_VERSION, 3, given, 1));
+        CHECK(xns_host_next_packet(&client, now, packet, sizeof packet, &length, &via) == XNS_OK);
+        CHECK(xns_complain(&there, XNS_ERROR_NO_RESOURCES, 0, packet, length, error, sizeof error, &size) == XNS_OK);
+        error[0] = error[1] = 0xff; /* no checksum */
+        for (size_t k = 0; k < sizeof odd / sizeof odd[0]; k++) {
+            error[30 + 4 + odd[k]] ^= 1;
+            CHECK(xns_host_receive(&client, now, CLIENT_VIA, error, size) == XNS_NOTHING);
+            error[30 + 4 + odd[k]] ^= 1;
+        }
+        error[30 + 1] = XNS_ERROR_BAD_CHECKSUM;
+        CHECK(xns_host_receive(&client, now, CLIENT_VIA, error, size) == XNS_NOTHING);
+        error[30 + 1] = XNS_ERROR_NO_RESOURCES;
+        CHECK(xns_host_receive(&client, now, CLIENT_VIA, error, size) == XNS_OK);
+        is_not_served(&client, XNS_ERROR_NO_RESOURCES);
+        free_both();
+    }
 }
 
 /* A peer that is an endpoint alone: its packets go to a host, and the replies come back. */

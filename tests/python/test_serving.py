@@ -200,10 +200,11 @@ class Alone(unittest.TestCase):
     def test_an_error_packet_says_that_there_is_none(self):
         def answer():
             opening, place = self.nobody.recvfrom(2048)
-            self.nobody.sendto(xns.complain(SERVER, 2, 0, opening), place)
+            self.nobody.sendto(xns.complain(SERVER, 3, 0, opening), place)
 
-        with self.assertRaises(ConnectionRefusedError):
+        with self.assertRaises(ConnectionRefusedError) as refused:
             self.answered_by(answer)
+        self.assertEqual(refused.exception.error, 3)
 
     def says(self, *items):
         def answer():

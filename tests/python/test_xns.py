@@ -362,6 +362,16 @@ class HostTest(unittest.TestCase):
         with self.assertRaises(xns.NoConnectionError):
             self.client.abandon(self.number)
 
+    def test_not_served(self):
+        """An Error packet about an answer that went out closes its connection, and the event has its number."""
+        number = self.call([5])
+        self.service.answer(self.now, number, xns.returns())
+        ((via, answer),) = self.service.packets(self.now)
+        self.assertFalse(self.service.receive(self.now, via, xns.complain(THERE, 1, 0, answer)))
+        self.assertTrue(self.service.receive(self.now, via, xns.complain(THERE, 2, 0, answer)))
+        (closed,) = self.service.events()
+        self.assertEqual((closed.why, closed.error, closed.fault), (xns.Why.NOT_SERVED, 2, None))
+
     def test_clock(self):
         """A clock that is set back: the wait goes on from there. One that is once far ahead closes nothing."""
         with xns.Host(THERE, first_wait=100) as client:

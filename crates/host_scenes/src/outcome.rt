@@ -29,7 +29,7 @@ impl Outcome {
         match why {
             Why::Asked => self.asked = self.asked.saturating_add(1),
             Why::ByPeer => self.by_peer = self.by_peer.saturating_add(1),
-            Why::Silent | Why::NotServed | Why::Refused(_) => {
+            Why::Silent | Why::NotServed(_) | Why::Refused(_) => {
                 self.otherwise = self.otherwise.saturating_add(1);
             }
         }

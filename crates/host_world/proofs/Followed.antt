@@ -292,7 +292,7 @@ comes_followed : (law : AStepKeepsItsPromises) (now way : ℕ) (bytes : List ℕ
 comes_followed law now way bytes w (coming.foreign strange) k = followed (MayTake (Some bytes)) (slice_get w.places.guests k) (slice_get w.places.guests k) (still (slice_get w.places.guests k))
 comes_followed law now way bytes w (coming.echoes p taken is asks stray) k = followed (MayTake (Some bytes)) (slice_get w.places.guests k) (slice_get w.places.guests k) (still (slice_get w.places.guests k))
 comes_followed law now way bytes w (coming.refuses p taken {q = q} is quotes turn) k =
-    followed (MayTake (Some bytes)) (slice_get w.places.guests k) (slice_get q.guests k) (turns_still (GuestUnserved now) quotes.number w.places q (λ g h s. not_served now g h s) turn k)
+    followed (MayTake (Some bytes)) (slice_get w.places.guests k) (slice_get q.guests k) (turns_still (GuestUnserved now quotes.quote.error) quotes.number w.places q (λ g h s. not_served now quotes.quote.error g h s) turn k)
 comes_followed law now way bytes w (coming.hears p {q = q} is names turn) k = hears_at law now names.number bytes (confirms p) w.places q turn k
 comes_followed law now way bytes w (coming.opens p is opener o) k = opens_followed law now way bytes p w o k
 

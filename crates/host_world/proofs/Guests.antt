@@ -12,11 +12,10 @@ use Rattle.item_world.specs.declared.side.Side.{Side}
 use Rattle.xns_agenda.specs.Waiting.{act_at, lingering}
 use Rattle.xns_agenda.specs.declared.act.Act.{Act}
 use Rattle.xns_agenda.specs.declared.act.Act.TheVariants.{Nothing, Again, Ask, GiveUp, Forget}
-use Rattle.xns_spp.specs.Ends.{is_open}
 use Rattle.xns_connection.specs.Acting.{Acts, idling, calling, handing, answering}
 use Rattle.xns_connection.specs.Connecting.{is_dead}
 use Rattle.xns_connection.specs.Deeds as deeds
-use Rattle.xns_connection.specs.Deeds.{Deed, Parts, acted_by, done, given_up, side_taken, told_by, unserved, with_answer}
+use Rattle.xns_connection.specs.Deeds.{Deed, Parts, acted_by, done, given_up, side_taken, told_by, unserved, why_left, with_answer}
 use Rattle.xns_connection.specs.Living.{Deeds}
 use Rattle.xns_connection.specs.Step.{AStepKeepsItsPromises, Hands, MovesOwed, calmly, moving_on, none_waits, parts_of}
 use Rattle.xns_connection.specs.Story.{GoesOn as StoryGoesOn, Story, asked_of, start, waiting_message, with_handed}
@@ -135,17 +134,15 @@ acts now g h s a b programs m side meets here =
     let on = acts_by g.connection h.connection now (act_at g.connection.wait now) s.parts in
     leads h (acts_so g.connection.conversation h.connection.conversation (λ k. k) no_more on.0 (λ k l. idling) on.1 a b programs m side meets here)
 
-unserved_by : (b : Bool) (c d : Connection) (now : ℕ)
-    → parts_of d ≡ (if b then parts_of c else record (parts_of c) { conversation = given_up c.conversation; closed = Some NotServed; wait = lingering c.wait now })
+unserved_by : (b : Bool) (c d : Connection) (error now : ℕ)
+    → parts_of d ≡ (if b then parts_of c else record (parts_of c) { conversation = given_up c.conversation; closed = Some (why_left c.conversation (NotServed error)); wait = lingering c.wait now })
     → (d.conversation.packets ≡ c.conversation.packets) × ((h : Story) → Tells c.conversation h → (m : Story) × Tells d.conversation m × StoryGoesOn h m)
-unserved_by true c d now is = let same = ap (λ (p : Parts). p.conversation) is in (ap (λ (k : Conversation). k.packets) same, λ h t. acted_on c.conversation d.conversation h t same)
-unserved_by false c d now is = let same = ap (λ (p : Parts). p.conversation) is in (ap (λ (k : Conversation). k.packets) same, λ h t. given_up_on c.conversation d.conversation h t same)
+unserved_by true c d error now is = let same = ap (λ (p : Parts). p.conversation) is in (ap (λ (k : Conversation). k.packets) same, λ h t. acted_on c.conversation d.conversation h t same)
+unserved_by false c d error now is = let same = ap (λ (p : Parts). p.conversation) is in (ap (λ (k : Conversation). k.packets) same, λ h t. given_up_on c.conversation d.conversation h t same)
 
-pub not_served : (now : ℕ) (g h : Guest) → GuestUnserved now g h → LeadsOn g h no_more []
-not_served now g h s a b programs m side meets here =
-    let k = (at m side).story in
-    let t = subst (λ (c : Conversation). Tells c k) here (told meets side) in
-    let on = unserved_by (is_open k.state.ends || is_some g.connection.closed) g.connection h.connection now (s.parts k.state t.stands) in
+pub not_served : (now error : ℕ) (g h : Guest) → GuestUnserved now error g h → LeadsOn g h no_more []
+not_served now error g h s a b programs m side meets here =
+    let on = unserved_by (is_some g.connection.closed) g.connection h.connection error now s.parts in
     leads h (acts_so g.connection.conversation h.connection.conversation (λ n. n) no_more on.0 (λ n l. idling) on.1 a b programs m side meets here)
 
 -- ---- what goes out

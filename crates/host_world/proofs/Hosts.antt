@@ -43,7 +43,7 @@ comes : (now way : ℕ) (bytes : List ℕ) (w : Whole) {result : Bool} {n : Whol
 comes now way bytes w (coming.foreign never) = silent w.places.guests
 comes now way bytes w (coming.echoes p taken is asks stray) = silent w.places.guests
 comes now way bytes w (coming.refuses p taken {q = q} is quotes turn) =
-    unsaid quotes.number w.places.guests q.guests (turned (GuestUnserved now) quotes.number w.places q [] (λ d g h s t. unserving now d g h s t) turn)
+    unsaid quotes.number w.places.guests q.guests (turned (GuestUnserved now quotes.quote.error) quotes.number w.places q [] (λ d g h s t. unserving now quotes.quote.error d g h s t) turn)
 comes now way bytes w (coming.hears p {q = q} is names turn) =
     unsaid names.number w.places.guests q.guests (turned (GuestHears now bytes (confirms p)) names.number w.places q [] (λ d g h s t. hearing now bytes (confirms p) d g h s t) turn)
 comes now way bytes w (coming.opens p is opener o) = opens_it now way bytes p w o

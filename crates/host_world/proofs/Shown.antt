@@ -252,10 +252,10 @@ hearing now bytes confirming d g h s (hears step) =
     (steps now (deeds.heard bytes) g.connection h.connection s.state g.connection.conversation.side g.connection.conversation.closing.wanted s.stands step.step refl refl refl)
 hearing now bytes confirming d g h s (lost stores) = stays (held d) (Some (Some g)) s
 
-pub unserving : (now : ℕ) (d : Dialogue) (g h : Guest) → Shows d g → GuestUnserved now g h → Passes [] (held d) (Some (Some h))
-unserving now d g h s u =
+pub unserving : (now error : ℕ) (d : Dialogue) (g h : Guest) → Shows d g → GuestUnserved now error g h → Passes [] (held d) (Some (Some h))
+unserving now error d g h s u =
     by_itself d g h s (ap (λ (k : Guest). k.opener) u.same) (ap (λ (k : Guest). k.heard_of) u.same)
-    (not_served now g.connection h.connection s.state s.stands (u.parts s.state s.stands))
+    (not_served now error g.connection h.connection s.state s.stands u.parts)
 
 pub acting : (now : ℕ) (d : Dialogue) (g h : Guest) → Shows d g → GuestActs now g h → Passes [] (held d) (Some (Some h))
 acting now d g h s a =

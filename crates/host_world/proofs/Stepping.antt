@@ -11,14 +11,13 @@ use Rattle.xns_agenda.specs.declared.act.Act.{Act}
 use Rattle.xns_agenda.specs.declared.act.Act.TheVariants.{Nothing, Again, Ask, GiveUp, Forget}
 use Rattle.xns_agenda.specs.declared.due.Due.{Due}
 use Rattle.xns_agenda.specs.declared.due.Due.TheVariants.{Never, AgainAt, AskAt, ForgetAt}
-use Rattle.xns_spp.specs.Ends.{is_open}
 use Rattle.xns_spp.specs.Held.{Held, StandsFor}
 use Rattle.xns_spp.specs.Sending.{take_answer, waiting_count}
 use Rattle.xns_spp.specs.State.{State}
 use Rattle.xns_spp.specs.declared.item.Item.{Item}
 use Rattle.xns_connection.specs.Closing.{drains, end_reply_stream, end_stream}
 use Rattle.xns_connection.specs.Connecting.{is_closed_due, is_dead}
-use Rattle.xns_connection.specs.Deeds.{Deed, Parts, acted, acted_by, done, given_up, nothing, shut, unserved}
+use Rattle.xns_connection.specs.Deeds.{Deed, Parts, acted, acted_by, done, given_up, nothing, shut, unserved, why_left}
 use Rattle.xns_connection.specs.Giving.{Giving, GivesAs, IsGiving, IsShort, giving, next_unless}
 use Rattle.xns_connection.specs.Moving.{Scene, Moves, closed_up, converses, deafened, drained_out, drains_only, ended, noting, replied, scene, settled_by, taken_many}
 use Rattle.xns_connection.specs.Step.{GivesNext, MovesOwed, Step, parts_of}
@@ -215,20 +214,15 @@ acts now c e s stands is = acts_by c e now (act_at c.wait now) s stands refl is
 
 -- ---- nobody hears the packet at its target
 
-unserved_by : (b : Bool) (c e : Connection) (now : ℕ) (s : State) → StandsFor c.conversation.endpoint s → (c.closed ≢ None → b ≡ true)
-    → parts_of e ≡ (if b then parts_of c else record (parts_of c) { conversation = given_up c.conversation; closed = Some NotServed; wait = lingering c.wait now })
+unserved_by : (o : Option Why) (c e : Connection) (error now : ℕ) (s : State) → StandsFor c.conversation.endpoint s → c.closed ≡ o
+    → parts_of e ≡ (if is_some o then parts_of c else record (parts_of c) { conversation = given_up c.conversation; closed = Some (why_left c.conversation (NotServed error)); wait = lingering c.wait now })
     → Changes c.conversation.side c.conversation.closing.wanted c e
-unserved_by true c e now s stands closed is = by_parts c e _ s c.conversation.side stands is refl refl refl refl (λ k. refl)
-unserved_by false c e now s stands closed is = by_parts c e _ s c.conversation.side stands is refl refl refl refl (λ k. let open_still = closed k in absurd (cc))
+unserved_by (Some why) c e error now s stands was is = by_parts c e _ s c.conversation.side stands is refl refl refl refl (λ k. refl)
+unserved_by None c e error now s stands was is = by_parts c e _ s c.conversation.side stands is refl refl refl refl (λ k. absurd (k was))
 
-closed_either : (opened : Bool) (o : Option Why) → o ≢ None → (opened || is_some o) ≡ true
-closed_either true o k = refl
-closed_either false None k = absurd (k refl)
-closed_either false (Some why) k = refl
-
-pub not_served : (now : ℕ) (c e : Connection) (s : State) → StandsFor c.conversation.endpoint s → parts_of e ≡ unserved (parts_of c) s now
-    → Changes c.conversation.side c.conversation.closing.wanted c e
-not_served now c e s stands is = unserved_by (is_open s.ends || is_some c.closed) c e now s stands (closed_either (is_open s.ends) c.closed) is
+pub not_served : (now error : ℕ) (c e : Connection) (s : State) → StandsFor c.conversation.endpoint s
+    → parts_of e ≡ unserved (parts_of c) error now → Changes c.conversation.side c.conversation.closing.wanted c e
+not_served now error c e s stands is = unserved_by c.closed c e error now s stands refl is
 
 -- ---- a packet that goes out
 

@@ -76,7 +76,7 @@ pub fn a_given_packet_may_come_while_it_lives()
 
 /// Where the connection of a meeting is one that a host has in a place, what the host does at it is a step of the meeting, or are two: a call
 /// (`calls`), an answer (`answers`), a close, a message that is handed (`hands`) or the reason that is told (`tells`), what is due (`acts`), an
-/// Error packet about its opening (`not_served`), a packet that is given, or none (`gives`), and bytes that come to it and may come (`hears`).
+/// Error packet about a packet of it (`not_served`), a packet that is given, or none (`gives`), and bytes that come to it and may come (`hears`).
 pub fn what_a_host_does_is_a_step_of_the_meeting()
     ensures calls { (now : ℕ) (c : RawCall) (g h : Guest) → GuestStep now (deeds.made c) g h → LeadsOn g h (one_call_more c) [] }
     ensures answers { (now : ℕ) (kind : Answer) (k : ℕ) (words : List ℕ) (g h : Guest) → GuestStep now (deeds.gave kind words) g h
@@ -87,7 +87,7 @@ pub fn what_a_host_does_is_a_step_of_the_meeting()
     ensures tells { (now : ℕ) (g h : Guest) → GuestTells now g h → waiting_message g.connection.conversation.side ≡ None
         → LeadsOn g h no_more [] }
     ensures acts { (now : ℕ) (g h : Guest) → GuestActs now g h → LeadsOn g h no_more [] }
-    ensures not_served { (now : ℕ) (g h : Guest) → GuestUnserved now g h → LeadsOn g h no_more [] }
+    ensures not_served { (now error : ℕ) (g h : Guest) → GuestUnserved now error g h → LeadsOn g h no_more [] }
     ensures gives { (now : ℕ) (result : Result (Option Outgoing) HostFault) (g h : Guest) → GuestGives now result g h
         → LeadsOn g h no_more (packets_in result) }
     ensures hears { (now : ℕ) (bytes : List ℕ) (confirming : Bool) (g h : Guest) → GuestHears now bytes confirming g h

@@ -3,7 +3,7 @@ use Rattle.std.specs.Prelude.{◌≡◌, ◌<◌, ◌≤◌, ℕ, Bool, true, fa
 use Rattle.courier_messages.specs.Head.{words_in}
 use Rattle.xns_host.specs.declared.event.Event.{Event}
 use Rattle.xns_host.specs.declared.event.Event.TheVariants.{Call, Answer, Closed}
-use Rattle.xns_c.specs.Faults.{closed_number, refused_number}
+use Rattle.xns_c.specs.Faults.{closed_number, error_heard, refused_number}
 use Rattle.xns_c.specs.Given.{IsPut}
 use Rattle.xns_c.specs.Heads.{head_given}
 use Rattle.xns_c.specs.Results.{ok, short_buffer}
@@ -16,11 +16,19 @@ no_message = record { kind = 0; transaction = 0; program = 0; version = 0; proce
 -- 1 a call, 2 an answer, 3 that it is closed; what a kind does not have is 0
 abbrev pub event_given : Event → XnsEvent
 event_given (Call number tag program version procedure message) =
-    record { kind = 1; number = number; tag = tag; message = head_given message; closed = 0; fault = ok }
+    record { kind = 1; number = number; tag = tag; message = head_given message; closed = 0; error = 0; fault = ok }
 event_given (Answer number tag answer message) =
-    record { kind = 2; number = number; tag = tag; message = head_given message; closed = 0; fault = ok }
+    record { kind = 2; number = number; tag = tag; message = head_given message; closed = 0; error = 0; fault = ok }
 event_given (Closed number tag why) =
-    record { kind = 3; number = number; tag = tag; message = no_message; closed = closed_number why; fault = refused_number why }
+    record {
+      kind = 3;
+      number = number;
+      tag = tag;
+      message = no_message;
+      closed = closed_number why;
+      error = error_heard why;
+      fault = refused_number why;
+    }
 
 -- of which connection it is
 abbrev pub event_number : Event → ℕ

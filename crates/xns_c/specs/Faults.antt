@@ -51,7 +51,7 @@ abbrev pub closed_number : Why → ℕ
 closed_number Asked = 1
 closed_number ByPeer = 2
 closed_number Silent = 3
-closed_number NotServed = 4
+closed_number (NotServed number) = 4
 closed_number (Refused r) = 5
 
 -- what the peer said that was refused, or 0
@@ -59,8 +59,16 @@ abbrev pub refused_number : Why → ℕ
 refused_number Asked = ok
 refused_number ByPeer = ok
 refused_number Silent = ok
-refused_number NotServed = ok
+refused_number (NotServed number) = ok
 refused_number (Refused r) = feed_refusal_number r
+
+-- the number of the Error packet that closed it, or 0
+abbrev pub error_heard : Why → ℕ
+error_heard Asked = 0
+error_heard ByPeer = 0
+error_heard Silent = 0
+error_heard (NotServed number) = number
+error_heard (Refused r) = 0
 
 -- ---- what a host was asked
 

@@ -14,6 +14,8 @@ pub struct XnsEvent {
     pub message: XnsMessage,
     /// Why it is closed, by number, or 0.
     pub closed: u8,
+    /// The number of the Error packet that closed it, or 0.
+    pub error: u16,
     /// What the peer said that was refused, by number, or 0.
     pub fault: u32,
 }

@@ -1,7 +1,7 @@
 //! Why what was asked or heard was refused, by number.
 
 ghost use Rattle.std.specs.Prelude.{◌≡◌, ◌≢◌, ◌<◌};
-ghost use Rattle.xns_c.specs.Faults.{message_fault_number, session_fault_number, feed_refusal_number, closed_number, refused_number};
+ghost use Rattle.xns_c.specs.Faults.{message_fault_number, session_fault_number, feed_refusal_number, closed_number, error_heard, refused_number};
 ghost use Rattle.xns_c.specs.Faults.{host_fault_number, host_told};
 ghost use Rattle.xns_c.specs.Results.{ok};
 
@@ -64,7 +64,7 @@ pub fn closed_number(why: Why) -> u8
         Why::Asked => 1,
         Why::ByPeer => 2,
         Why::Silent => 3,
-        Why::NotServed => 4,
+        Why::NotServed(_) => 4,
         Why::Refused(_) => 5,
     }
 }
@@ -76,6 +76,16 @@ pub fn refused_number(why: Why) -> u32
     match why {
         Why::Refused(refusal) => feed_refusal_number(refusal),
         _ => OK,
+    }
+}
+
+/// The number of the Error packet that closed it, or 0.
+pub fn error_heard(why: Why) -> u16
+    ensures { result ≡ error_heard why }
+{
+    match why {
+        Why::NotServed(number) => number,
+        _ => 0,
     }
 }
 

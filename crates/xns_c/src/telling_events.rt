@@ -6,7 +6,7 @@ ghost use Rattle.xns_c.specs.Heads.{head_given};
 ghost use Rattle.xns_c.specs.Results.{ok};
 
 use crate::event::XnsEvent;
-use crate::faults::{closed_number, refused_number};
+use crate::faults::{closed_number, error_heard, refused_number};
 use crate::heads::head_out;
 use crate::message::XnsMessage;
 use crate::results::{OK, SHORT_BUFFER};
@@ -34,7 +34,7 @@ const NO_MESSAGE: XnsMessage = XnsMessage {
 
 /// What is told of a message of the connection with this number and this tag.
 fn message_out(kind: u8, number: usize, tag: u64, message: &PiecedMessage) -> XnsEvent
-    ensures { result ≡ record { kind = kind; number = number; tag = tag; message = head_given message.now; closed = 0; fault = ok } }
+    ensures { result ≡ record { kind = kind; number = number; tag = tag; message = head_given message.now; closed = 0; error = 0; fault = ok } }
 {
     XnsEvent {
         kind,
@@ -42,6 +42,7 @@ fn message_out(kind: u8, number: usize, tag: u64, message: &PiecedMessage) -> Xn
         tag,
         message: head_out(message.head()),
         closed: 0,
+        error: 0,
         fault: OK,
     }
 }
@@ -69,6 +70,7 @@ fn event_out(event: &Event) -> XnsEvent
             tag: *tag,
             message: NO_MESSAGE,
             closed: closed_number(*why),
+            error: error_heard(*why),
             fault: refused_number(*why),
         },
     }

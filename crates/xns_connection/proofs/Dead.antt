@@ -13,7 +13,7 @@ use Rattle.xns_spp.specs.Held.{Held, StandsFor}
 use Rattle.xns_spp.specs.Sending.{after_send, send_answer, take_answer, waiting_count}
 use Rattle.xns_spp.specs.State.{State}
 use Rattle.xns_spp.specs.declared.item.Item.{Item}
-use Rattle.xns_connection.specs.Closed.{ASilentCloseLosesNothing}
+use Rattle.xns_connection.specs.Closed.{AGoodCloseLosesNothing}
 use Rattle.xns_connection.specs.Closing.{closing_item, drains, end_reply_stream, end_stream, put_if}
 use Rattle.xns_connection.specs.Connecting.{is_dead, why_over}
 use Rattle.xns_connection.specs.Deeds.{heard, shut}
@@ -24,7 +24,6 @@ use Rattle.xns_connection.specs.declared.connection.Connection.{Connection}
 use Rattle.xns_connection.specs.declared.conversation.Conversation.{Conversation}
 use Rattle.xns_connection.specs.declared.owed.Owed.{Owed}
 use Rattle.xns_connection.specs.declared.owed.TheConstants.Owed.{SILENT}
-use Rattle.xns_connection.specs.declared.why.Why.TheVariants.{Silent}
 use Rattle.xns_connection.specs.declared.why.Why.{Why}
 
 pub dead_closed : (o : Option Why) → is_dead o ≡ true → o ≢ None
@@ -123,10 +122,10 @@ dead_are_silent = record {
 
 -- ---- what the peer has where only EndReply may be missing
 
-over_parts : (b d : Bool) (w : Why) → (if b && d then w else Silent) ≢ Silent → (b ≡ true) × (d ≡ true)
-over_parts true true w some = (refl, refl)
-over_parts true false w some = absurd (some refl)
-over_parts false d w some = absurd (some refl)
+over_parts : (b d : Bool) (w reason : Why) → (if b && d then w else reason) ≢ reason → (b ≡ true) × (d ≡ true)
+over_parts true true w reason some = (refl, refl)
+over_parts true false w reason some = absurd (some refl)
+over_parts false d w reason some = absurd (some refl)
 
 abbrev last_item : List Item
 last_item = closing_item end_reply_stream ∷ []
@@ -140,10 +139,10 @@ but_one xs x k few =
     let is : length xs + m ≡ k = omega (arith, few, left, all) in
     (take m (x ∷ []), sym (take-append-add xs (x ∷ []) m) ∙ ap (λ (n : ℕ). take n (xs ++ x ∷ [])) is)
 
-pub lost_nothing : ASilentCloseLosesNothing
-lost_nothing t h tells some =
+pub lost_nothing : AGoodCloseLosesNothing
+lost_nothing t h reason tells some =
     let n : ℕ = length t.endpoint.unacknowledged in
-    let both = over_parts t.closing.reply_sent (nat_le n 1) (why_over t.closing) some in
+    let both = over_parts t.closing.reply_sent (nat_le n 1) (why_over t.closing) reason some in
     let said : List Item = h.given ++ put_if t.closing.end_sent end_stream in
     let is : said ++ last_item ≡ h.state.accepted =
     append_assoc h.given (put_if t.closing.end_sent end_stream) last_item

@@ -1,17 +1,17 @@
 -- Why a connection is closed, or is not, after its items moved.
-use Rattle.std.specs.Prelude.{◌≡◌, ◌≢◌, Bool, true, ◌++◌, length, take, Option, None, Result, Err, IfErr}
+use Rattle.std.specs.Prelude.{◌≡◌, ◌≢◌, Bool, true, ◌++◌, take, Option, None, Result, Err, IfErr}
 use Rattle.courier_sessions.specs.declared.feed_refusal.FeedRefusal.{FeedRefusal}
 use Rattle.courier_sessions.specs.declared.feed_refusal.FeedRefusal.TheVariants.{NoMemory}
 use Rattle.xns_spp.specs.Growth.{Begins}
 use Rattle.xns_spp.specs.Held.{StandsFor}
 use Rattle.xns_spp.specs.State.{State}
 use Rattle.xns_connection.specs.Closing.{end_stream, put_if}
-use Rattle.xns_connection.specs.Connecting.{why_after, why_given_up}
+use Rattle.xns_connection.specs.Connecting.{why_after}
+use Rattle.xns_connection.specs.Deeds.{why_left}
 use Rattle.xns_connection.specs.Story.{Story}
 use Rattle.xns_connection.specs.Telling.{GoesUntil, IsUnrefused, ReadsOn, Tells, is_over}
 use Rattle.xns_connection.specs.declared.conversation.Conversation.{Conversation}
 use Rattle.xns_connection.specs.declared.why.Why.{Why}
-use Rattle.xns_connection.specs.declared.why.Why.TheVariants.{Silent}
 
 -- after something was done its items moved, and this came of it: what its side refused, if it did, and else whether the closing exchange is
 -- over, says why it is closed, if it was not closed before. That memory was refused is noted, and nothing else is
@@ -23,8 +23,8 @@ pub record ClosesBy (old : Conversation) (base : Story → Story) (new : Convers
   pub short : moving ≡ true → moved ≡ Err NoMemory
   pub noted : moved ≡ Err NoMemory → moving ≡ true
 
--- where a connection whose peer is silent counts as closed by the exchange, the peer has acknowledged all that the side said, and End, if it
--- was put out
-abbrev pub ASilentCloseLosesNothing : Type 0
-ASilentCloseLosesNothing = (t : Conversation) (h : Story) → Tells t h → why_given_up t.closing (length t.endpoint.unacknowledged) ≢ Silent
+-- where a connection that is given up counts as closed by the exchange, the peer has acknowledged all that the side said, and End, if it was
+-- put out
+abbrev pub AGoodCloseLosesNothing : Type 0
+AGoodCloseLosesNothing = (t : Conversation) (h : Story) (reason : Why) → Tells t h → why_left t reason ≢ reason
     → Begins (h.given ++ put_if t.closing.end_sent end_stream) (take h.state.acknowledged h.state.accepted)

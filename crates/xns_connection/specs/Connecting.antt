@@ -53,10 +53,10 @@ is_closed_due (ForgetAt t) = true
 abbrev pub why_over : Closing → Why
 why_over c = if c.end_sent then Asked else ByPeer
 
--- why a connection is closed whose peer is silent, where so many items are not acknowledged: the exchange counts as over where EndReply, the
--- last of all items, may be the only one of them
-abbrev pub why_given_up : Closing → (unacknowledged : ℕ) → Why
-why_given_up c unacknowledged = if c.reply_sent && nat_le unacknowledged 1 then why_over c else Silent
+-- why a connection is closed that is given up for this reason, where so many items are not acknowledged: the exchange counts as over where
+-- EndReply, the last of all items, may be the only one of them
+abbrev pub why_given_up : Closing → (unacknowledged : ℕ) → (reason : Why) → Why
+why_given_up c unacknowledged reason = if c.reply_sent && nat_le unacknowledged 1 then why_over c else reason
 
 -- a connection is dead that silence closed, or a refusal, or an Error packet; one that the closing exchange closed lingers
 abbrev pub is_dead : Option Why → Bool
@@ -64,7 +64,7 @@ is_dead None = false
 is_dead (Some Asked) = false
 is_dead (Some ByPeer) = false
 is_dead (Some Silent) = true
-is_dead (Some NotServed) = true
+is_dead (Some (NotServed number)) = true
 is_dead (Some (Refused e)) = true
 
 abbrev pub is_closing : ℕ → Bool

@@ -12,7 +12,6 @@ use Rattle.std.specs.Option.{is_some}
 use Rattle.xns_agenda.specs.Waiting.{StepsAt, Waiting, act_at, after_by, after_step, lingering}
 use Rattle.xns_agenda.specs.declared.act.Act.{Act}
 use Rattle.xns_agenda.specs.declared.act.Act.TheVariants.{Nothing, Again, Ask, GiveUp, Forget}
-use Rattle.xns_spp.specs.Ends.{is_open}
 use Rattle.xns_spp.specs.Held.{StandsFor}
 use Rattle.xns_spp.specs.Receiving.{after_receive}
 use Rattle.xns_spp.specs.Sending.{waiting_count}
@@ -26,7 +25,7 @@ use Rattle.xns_connection.specs.declared.owed.Owed.{Owed}
 use Rattle.xns_connection.specs.declared.side.Side.{Side}
 use Rattle.xns_connection.specs.declared.side.Side.TheVariants.{Calls, Answers}
 use Rattle.xns_connection.specs.declared.why.Why.{Why}
-use Rattle.xns_connection.specs.declared.why.Why.TheVariants.{NotServed}
+use Rattle.xns_connection.specs.declared.why.Why.TheVariants.{NotServed, Silent}
 
 -- ---- what is done
 
@@ -200,11 +199,15 @@ pub record Parts : Type 0 where
   pub closed : Option Why
   pub told : Bool
 
--- nobody hears the packet that was to open the connection: it is closed, unless it is open or closed, and lingers
-abbrev pub unserved : Parts → State → (now : ℕ) → Parts
-unserved p s now =
-    if is_open s.ends || is_some p.closed then p
-    else record p { conversation = given_up p.conversation; closed = Some NotServed; wait = lingering p.wait now }
+-- why the connection is closed where it is given up for this reason
+abbrev pub why_left : Conversation → (reason : Why) → Why
+why_left t reason = why_given_up t.closing (length t.endpoint.unacknowledged) reason
+
+-- nobody hears the packets of the connection, as an Error packet of this number says: it is closed, unless it is closed already
+abbrev pub unserved : Parts → (number now : ℕ) → Parts
+unserved p number now =
+    if is_some p.closed then p
+    else record p { conversation = given_up p.conversation; closed = Some (why_left p.conversation (NotServed number)); wait = lingering p.wait now }
 
 -- what is due is done: a packet is owed, or the connection is closed, or may go
 abbrev pub acted_by : Parts → Act → (now : ℕ) → Parts
@@ -212,7 +215,7 @@ acted_by p Nothing now = p
 acted_by p Again now = record p { wait = after_by p.wait Again now; owed = owed_after p.owed Again }
 acted_by p Ask now = record p { wait = after_by p.wait Ask now; owed = owed_after p.owed Ask }
 acted_by p GiveUp now =
-    record p { conversation = given_up p.conversation; closed = Some (why_given_up p.conversation.closing (length p.conversation.endpoint.unacknowledged)); wait = after_by p.wait GiveUp now }
+    record p { conversation = given_up p.conversation; closed = Some (why_left p.conversation Silent); wait = after_by p.wait GiveUp now }
 acted_by p Forget now = record p { wait = after_by p.wait Forget now }
 
 abbrev pub acted : Parts → (now : ℕ) → Parts

@@ -10,18 +10,18 @@ ghost use Rattle.xns_spp.specs.Packet.{IsSppPacket, spp_packet_of};
 ghost use Rattle.xns_spp.specs.Receiving.{StoresBytes};
 ghost use Rattle.xns_spp.specs.Sending.{tick_answer};
 ghost use Rattle.xns_spp.specs.State.{State};
-ghost use Rattle.xns_spp.specs.Telling.{own_name, peer_name};
+ghost use Rattle.xns_spp.specs.Telling.{is_out, own_name, peer_name};
 ghost use Rattle.xns_connection.specs.Closing.{drains};
 ghost use Rattle.xns_connection.specs.Connecting.{is_again, is_dead, is_open_due, is_closed_due, why_given_up, owed_after};
 ghost use Rattle.xns_connection.specs.Moving.{HasHistory};
 ghost use Rattle.xns_connection.specs.Reasons.{call_fault_of, answer_fault_of};
 ghost use Rattle.xns_connection.specs.Refusing.{Answers};
-ghost use Rattle.xns_connection.specs.Deeds.{acted, asked, gave, heard, made, nothing, unserved};
+ghost use Rattle.xns_connection.specs.Deeds.{acted, asked, gave, heard, made, nothing, unserved, why_left};
 ghost use Rattle.xns_connection.specs.Story.{waiting_message, has_message};
 ghost use Rattle.xns_connection.specs.Telling.{Goes};
 ghost use Rattle.xns_agenda.specs.Waiting.{IsDueAfter, StepsAt, act_at, last_time};
 ghost use Rattle.xns_agenda.specs.declared.act.Act.TheVariants.{GiveUp};
-ghost use Rattle.xns_connection.specs.declared.why.Why.TheVariants.{NotServed};
+ghost use Rattle.xns_connection.specs.declared.why.Why.TheVariants.{NotServed, Silent};
 
 mod making;
 
@@ -122,30 +122,28 @@ impl Connection {
         self.owed = owed_after(self.owed, act);
         if let Act::GiveUp = act {
             let left = self.conversation.endpoint.unacknowledged();
-            self.closed = Some(why_given_up(self.conversation.closing, left));
+            self.closed = Some(why_given_up(self.conversation.closing, left, Why::Silent));
             self.conversation.give_up();
             return act;
         }
         act
     }
 
-    /// Nobody hears the packet that was to open the connection: it is closed, unless it is open or closed.
+    /// Nobody hears the packets of the connection, as an Error packet of this number says: it is closed, unless it is closed already.
     #[tactic(auto, using(crate::proofs::Moments::no_step, crate::proofs::Moments::one_close))]
-    pub fn not_served(&mut self, now: u64)
+    pub fn not_served(&mut self, now: u64, number: u16)
         ensures goes { Goes self.old.conversation self.new.conversation }
         ensures owed { self.new.owed ≡ self.old.owed }
         ensures closed { self.old.closed ≢ None → self.new ≡ self.old }
         ensures steps { StepsAt now self.old.wait self.new.wait }
         ensures told { self.new.told ≡ self.old.told }
-        ensures step { (s : State) → StandsFor self.old.conversation.endpoint s → parts_of self.new ≡ unserved (parts_of self.old) s now }
+        ensures step { parts_of self.new ≡ unserved (parts_of self.old) number now }
     {
-        if self.conversation.endpoint.is_open() {
-            return;
-        }
         if self.closed.is_some() {
             return;
         }
-        self.closed = Some(Why::NotServed);
+        let left = self.conversation.endpoint.unacknowledged();
+        self.closed = Some(why_given_up(self.conversation.closing, left, Why::NotServed(number)));
         self.conversation.give_up();
         self.wait.linger(now);
     }
@@ -336,6 +334,13 @@ impl Connection {
         ensures { (s : State) → StandsFor self.now.conversation.endpoint s → result ≡ is_ours_at s.ends packet.now }
     {
         self.conversation.endpoint.is_packet_ours(packet)
+    }
+
+    /// Whether a packet with this sequence number went out of it lately: its item is not acknowledged, or it brought none.
+    pub fn is_out(&self, sequence: u16) -> bool
+        ensures { (s : State) → StandsFor self.now.conversation.endpoint s → result ≡ is_out s sequence }
+    {
+        self.conversation.endpoint.is_out(sequence)
     }
 
     /// Its own address and connection identifier.

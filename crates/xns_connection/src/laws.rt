@@ -10,7 +10,7 @@ ghost use Rattle.xns_spp.specs.Growth.{Begins};
 ghost use Rattle.xns_spp.specs.declared.item.Item.{Item};
 ghost use Rattle.xns_connection.specs.Acting.{Acts, IsTold};
 ghost use Rattle.xns_connection.specs.Agreeing.{handed_up, HasCalled, HasServed, ArePeers, IsClosing, Agree};
-ghost use Rattle.xns_connection.specs.Closed.{ASilentCloseLosesNothing};
+ghost use Rattle.xns_connection.specs.Closed.{AGoodCloseLosesNothing};
 ghost use Rattle.xns_connection.specs.Closing.{drains};
 ghost use Rattle.xns_connection.specs.Living.{Deeds, no_deeds, Lives, IsLived, ProgramsAgree};
 ghost use Rattle.xns_connection.specs.Step.{AConnectionGivesWhatItMade, AMessageIsHandedAsByAStep, AStepHasOneEnd, AStepKeepsItsPromises, TheDeadAreSilent};
@@ -120,9 +120,9 @@ pub fn the_dead_are_silent()
     ensures { TheDeadAreSilent }
 {}
 
-/// A connection whose peer is silent counts as closed by the exchange only where the peer acknowledged all that its side said, and its End.
-pub fn a_silent_close_loses_nothing()
-    ensures { ASilentCloseLosesNothing }
+/// A connection that is given up counts as closed by the exchange only where the peer acknowledged all that its side said, and its End.
+pub fn a_good_close_loses_nothing()
+    ensures { AGoodCloseLosesNothing }
 {}
 
 /// Where memory was not refused a step has one end only, whether items moved until none could or the side refused one.

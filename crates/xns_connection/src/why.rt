@@ -10,8 +10,9 @@ pub enum Why {
     /// The peer was silent for as many waits as are borne, and for one more. Where EndReply is out and all else is acknowledged, it is
     /// `Asked` or `ByPeer` instead.
     Silent,
-    /// An Error packet quoted the packet that was to open the connection: nobody hears it there.
-    NotServed,
+    /// An Error packet of this number quoted a packet of the connection: nobody hears it there. Where EndReply is out and all else is
+    /// acknowledged, it is `Asked` or `ByPeer` instead.
+    NotServed(u16),
     /// What the peer said is no conversation of Courier's. It is never [`FeedRefusal::Stopped`], [`FeedRefusal::Busy`] nor
     /// [`FeedRefusal::NoMemory`].
     Refused(FeedRefusal),

@@ -23,15 +23,15 @@ fn why_over(closing: Closing) -> Why
     }
 }
 
-/// Why a connection whose peer is silent is closed, where so many items are not acknowledged: where EndReply may be the only one, the
-/// closing exchange counts as over.
-pub fn why_given_up(closing: Closing, unacknowledged: usize) -> Why
-    ensures { result ≡ why_given_up closing unacknowledged }
+/// Why a connection is closed that is given up for this reason, where so many items are not acknowledged: where EndReply may be the only
+/// one, the closing exchange counts as over.
+pub fn why_given_up(closing: Closing, unacknowledged: usize, reason: Why) -> Why
+    ensures { result ≡ why_given_up closing unacknowledged reason }
 {
     if closing.reply_sent && unacknowledged <= 1 {
         why_over(closing)
     } else {
-        Why::Silent
+        reason
     }
 }
 
@@ -39,7 +39,10 @@ pub fn why_given_up(closing: Closing, unacknowledged: usize) -> Why
 pub fn is_dead(closed: Option<Why>) -> bool
     ensures { result ≡ is_dead closed }
 {
-    matches!(closed, Some(Why::Silent | Why::NotServed | Why::Refused(_)))
+    matches!(
+        closed,
+        Some(Why::Silent | Why::NotServed(_) | Why::Refused(_))
+    )
 }
 
 /// Whether an item of this datastream closes a connection.

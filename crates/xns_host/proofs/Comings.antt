@@ -65,7 +65,7 @@ comes_echo now way b w v false p taken read kind asked never waits rest is =
     (is ∙ ap (λ (q : StrayQueue). let x : Whole = record w { strays = q } in x) (rest refl))
 
 pub comes_refused : (now way : ℕ) (b : List ℕ) (w v : Whole) (r : Bool) (p : PacketModel) (taken : ℕ) → packet_of b ≡ Ok (p, taken) → p.kind ≡ 3
-    → (r ≡ true → (q : QuotesOurs w p) × Turns (λ (g h : Guest). GuestUnserved now g h) q.number w.places v.places) → (r ≡ false → QuotesOurs w p → ⊥)
+    → (r ≡ true → (q : QuotesOurs w p) × Turns (λ (g h : Guest). GuestUnserved now q.quote.error g h) q.number w.places v.places) → (r ≡ false → QuotesOurs w p → ⊥)
     → (r ≡ false → v.places ≡ w.places) → v ≡ record w { places = v.places } → Comes now way b w r v
 unfolding whole
 comes_refused now way b w v true p taken read kind turn never rest is =

@@ -1,26 +1,27 @@
 -- What follows of a host from what its calls are.
 use Rattle.std.proofs.Common.{◌≡◌, ◌∙◌, ap, arith, refl, subst, sym, ℕ, List, [], ◌∷◌, Bool, true, Option, Some, None, Result, Ok, Err, slice_get}
-use Rattle.std.specs.Prelude.{◌&&◌, not}
-use Rattle.std.specs.Option.{is_none}
+use Rattle.std.specs.Prelude.{◌&&◌, ◌==◌, nat_lt, not}
 use Rattle.std.proofs.lemmas.Option.{same_Some}
 use Rattle.xns_idp.specs.Packet.{PacketModel, same_place}
 use Rattle.xns_idp.specs.Reading.{packet_of}
 use Rattle.xns_agenda.specs.Clock.{time_at}
 use Rattle.xns_agenda.specs.Turns.{HasNoTurn}
 use Rattle.xns_agenda.specs.Waiting.{later}
-use Rattle.xns_spp.specs.Ends.{is_open, is_ours_at}
+use Rattle.xns_spp.specs.Ends.{is_ours_at}
 use Rattle.xns_spp.specs.Held.{Held, StandsFor}
 use Rattle.xns_spp.specs.Packet.{SppPacketModel, spp_packet_of}
-use Rattle.xns_spp.specs.State.{State}
-use Rattle.xns_spp.specs.Telling.{own_name}
+use Rattle.xns_spp.specs.Nearest.{nearest}
+use Rattle.xns_spp.specs.State.{State, numbers_of}
+use Rattle.xns_spp.specs.Telling.{is_number_out, is_out, own_name}
 use Rattle.xns_spp.specs.declared.ends.Ends.{Ends}
+use Rattle.xns_spp.specs.declared.numbers.Numbers.{Numbers}
 use Rattle.xns_host.specs.Coming.{Comes, echoes, foreign, hears, opens, refuses}
-use Rattle.xns_host.specs.Following.{AConnectionHearsItsPackets, AQuotedOpeningIsNotServed, ASilentHostHasNothingToTell, AStarvedHostRests, AnIdleHostHasNoPacket, NoNetworkDecides}
+use Rattle.xns_host.specs.Following.{AConnectionHearsItsPackets, WhoIsQuotedIsNotServed, ASilentHostHasNothingToTell, AStarvedHostRests, AnIdleHostHasNoPacket, NoNetworkDecides}
 use Rattle.xns_host.specs.Hosting.{HasNoPacket, IsPacketOf, IsRefusedBy, confirms}
 use Rattle.xns_host.specs.Ours.{Names, QuotesOurs}
 use Rattle.xns_host.specs.Ours as ours
 use Rattle.xns_host.specs.Places.{AsksEvent, AsksInVain, NextEvent, NextPacket, Places, Turns, another, gives, nobody, nothing, quiet, starves, tells, told}
-use Rattle.xns_host.specs.Quotes.{quoted_opening}
+use Rattle.xns_host.specs.Quotes.{is_sent_by, quoted_packet, sends_to}
 use Rattle.xns_host.specs.Register.{owner_in}
 use Rattle.xns_host.specs.Registered.{IsAllRegistered, named_in}
 use Rattle.xns_host.specs.Turn.{whole_of}
@@ -30,7 +31,7 @@ use Rattle.xns_host.specs.declared.event.Event.{Event}
 use Rattle.xns_host.specs.declared.guest.Guest.{Guest}
 use Rattle.xns_host.specs.declared.host_fault.HostFault.{HostFault}
 use Rattle.xns_host.specs.declared.host_fault.HostFault.TheVariants.{NoMemory}
-use Rattle.xns_host.specs.declared.opening_quote.OpeningQuote.{OpeningQuote}
+use Rattle.xns_host.specs.declared.quote.Quote.{Quote}
 use Rattle.xns_host.specs.declared.outgoing.Outgoing.{Outgoing}
 use Rattle.xns_host.proofs.Ends.{end_id, leads_to}
 use Rattle.xns_host.proofs.Fetching.{no_event, no_packet}
@@ -123,6 +124,25 @@ pub its_packets_are_heard : AConnectionHearsItsPackets
 its_packets_are_heard now way number bytes result old new p g takes is of there =
     heard_in _ way bytes (whole_of old) (whole_of new) result p number g old.registered takes.comes is of there
 
+-- whether a packet went out of it lately is said by its fields and its numbers alone
+one_numbers : (g : Guest) (s v : State) → StandsFor g.connection.conversation.endpoint s → StandsFor g.connection.conversation.endpoint v
+    → numbers_of s ≡ numbers_of v
+one_numbers g s v here there = ap (λ (e : Held). e.numbers) (sym here.holds ∙ there.holds)
+
+number_out : (s v : State) (o : Option ℕ) → s.acknowledged ≡ v.acknowledged → s.sent ≡ v.sent → is_number_out s o ≡ is_number_out v o
+number_out s v None acknowledged sent = refl
+number_out s v (Some k) acknowledged sent =
+    ap (λ (x : ℕ). not (nat_lt k x) && not (nat_lt s.sent k)) acknowledged ∙ ap (λ (x : ℕ). not (nat_lt k v.acknowledged) && not (nat_lt x k)) sent
+
+one_sender : (g : Guest) (q : Quote) (s v : State) → s.ends ≡ v.ends → numbers_of s ≡ numbers_of v → is_sent_by g s q ≡ is_sent_by g v q
+one_sender g q s v ends numbers =
+    let sent : s.sent ≡ v.sent = ap (λ (n : Numbers). n.sent) numbers in
+    let acknowledged : s.acknowledged ≡ v.acknowledged = ap (λ (n : Numbers). n.acknowledged) numbers in
+    let out : is_out s q.sequence ≡ is_out v q.sequence
+    = ap (λ (x : ℕ). is_number_out s (nearest x q.sequence)) sent ∙ number_out s v (nearest v.sent q.sequence) acknowledged sent in
+    ap (λ (e : Ends). same_place (own_name e).0 q.source && (same_place (sends_to g e).0 q.target && ((sends_to g e).1 == q.target_id && is_out s q.sequence))) ends
+    ∙ ap (λ (b : Bool). same_place (own_name v.ends).0 q.source && (same_place (sends_to g v.ends).0 q.target && ((sends_to g v.ends).1 == q.target_id && b))) out
+
 quotes_it : (w : Whole) (p : PacketModel) (n : ℕ) (g : Guest) → IsAllRegistered w.register w.places.guests → IsRefusedBy w.host p g
     → slice_get w.places.guests n ≡ Some (Some g) → QuotesOurs w p
 quotes_it w p n g all by there =
@@ -138,8 +158,7 @@ quotes_it w p n g all by there =
         guest = g;
         there = there;
         is = λ s stands.
-            subst (λ (e : Ends). (is_none g.opener && (not (is_open e) && (same_place (own_name e).0 by.quote.source && same_place g.peer by.quote.target))) ≡ true)
-            (one_end g by.state s by.stands stands) by.opened;
+            sym (one_sender g by.quote by.state s (one_end g by.state s by.stands stands) (one_numbers g by.state s by.stands stands)) ∙ by.sent;
       };
     }
 
@@ -147,8 +166,8 @@ same_packet : (b : List ℕ) (c p : PacketModel) (x y : ℕ) → packet_of b ≡
 same_packet b c p x y left right = sym (one_packet c p x y (sym left) right)
 
 unserved_in : (now way : ℕ) (b : List ℕ) (w v : Whole) (r : Bool) (p : PacketModel) (taken n : ℕ) (g : Guest)
-    → IsAllRegistered w.register w.places.guests → Comes now way b w r v → packet_of b ≡ Ok (p, taken) → IsRefusedBy w.host p g
-    → slice_get w.places.guests n ≡ Some (Some g) → (r ≡ true) × Turns (λ (f h : Guest). GuestUnserved now f h) n w.places v.places
+    → IsAllRegistered w.register w.places.guests → Comes now way b w r v → packet_of b ≡ Ok (p, taken) → (by : IsRefusedBy w.host p g)
+    → slice_get w.places.guests n ≡ Some (Some g) → (r ≡ true) × Turns (λ (f h : Guest). GuestUnserved now by.quote.error f h) n w.places v.places
 unfolding quotes_it
 unserved_in now way b w v r p taken n g all (foreign never) is by there = absurd (never (ours.quotes p taken is (quotes_it w p n g all by there)))
 unserved_in now way b w v r p taken n g all (echoes c other read asks waits) is by there =
@@ -158,16 +177,20 @@ unserved_in now way b w v r p taken n g all (refuses c other {q = places} read q
     let same : c ≡ p = same_packet b c p other taken read is in
     let mine = quotes_it w p n g all by there in
     let quote : quotes.quote ≡ mine.quote
-    = same_Some quotes.quote mine.quote (sym quotes.quoted ∙ (ap (λ (x : PacketModel). quoted_opening x.body) same ∙ mine.quoted)) in
+    = same_Some quotes.quote mine.quote (sym quotes.quoted ∙ (ap (λ (x : PacketModel). quoted_packet x.body) same ∙ mine.quoted)) in
     let one : quotes.number ≡ n
-    = same_Some quotes.number n (sym quotes.owner ∙ (ap (λ (x : OpeningQuote). owner_in w.register.identifiers x.id) quote ∙ mine.owner)) in
-    (refl, subst (λ (m : ℕ). Turns (λ (f h : Guest). GuestUnserved now f h) m w.places places) one turn)
+    = same_Some quotes.number n (sym quotes.owner ∙ (ap (λ (x : Quote). owner_in w.register.identifiers x.source_id) quote ∙ mine.owner)) in
+    let error : quotes.quote.error ≡ by.quote.error = ap (λ (x : Quote). x.error) quote in (
+      refl,
+      subst (λ (e : ℕ). Turns (λ (f h : Guest). GuestUnserved now e f h) n w.places places) error
+          (subst (λ (m : ℕ). Turns (λ (f h : Guest). GuestUnserved now quotes.quote.error f h) m w.places places) one turn),
+    )
 unserved_in now way b w v r p taken n g all (hears q read names turn) is by there =
     let bad : 3 ≡ 5 = sym by.kind ∙ sequenced_kind b p taken q is read in absurd (omega (arith, bad))
 unserved_in now way b w v r p taken n g all (opens q read opener made) is by there =
     let bad : 3 ≡ 5 = sym by.kind ∙ sequenced_kind b p taken q is read in absurd (omega (arith, bad))
 
-pub a_quoted_one_is_unserved : AQuotedOpeningIsNotServed
+pub a_quoted_one_is_unserved : WhoIsQuotedIsNotServed
 a_quoted_one_is_unserved now way number taken bytes result old new p g takes is by there =
     unserved_in _ way bytes (whole_of old) (whole_of new) result p taken number g old.registered takes.comes is by there
 

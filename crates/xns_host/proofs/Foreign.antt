@@ -12,17 +12,17 @@ use Rattle.xns_spp.specs.Held.{StandsFor}
 use Rattle.xns_spp.specs.Packet.{SppPacketModel, spp_packet_of}
 use Rattle.xns_spp.specs.State.{State}
 use Rattle.xns_host.specs.Ours.{AsksEcho, IsOpener, IsOurs, Names, QuotesOurs, asks, names, opens, quotes}
-use Rattle.xns_host.specs.Quotes.{is_opened_by, quoted_opening}
+use Rattle.xns_host.specs.Quotes.{is_sent_by, quoted_packet}
 use Rattle.xns_host.specs.Register.{owner_in}
 use Rattle.xns_host.specs.Registered.{IsAllRegistered, named_in}
 use Rattle.xns_host.specs.Whole.{Whole}
 use Rattle.xns_host.specs.declared.guest.Guest.{Guest}
-use Rattle.xns_host.specs.declared.opening_quote.OpeningQuote.{OpeningQuote}
+use Rattle.xns_host.specs.declared.quote.Quote.{Quote}
 use Rattle.xns_host.proofs.Hearing.{not_read, one_packet, sequenced_kind}
 
 -- ---- by what the packet is
 
--- a packet that asks for no reply, quotes no opening of the host, names no connection and opens none is not the host's
+-- a packet that asks for no reply, quotes no packet of a connection, names none and opens none is not the host's
 none_ours : (w : Whole) (b : List ℕ) (c : PacketModel) (taken : ℕ) → packet_of b ≡ Ok (c, taken) → (AsksEcho w c → ⊥) → (QuotesOurs w c → ⊥)
     → ((p : SppPacketModel) → spp_packet_of b ≡ Ok p → Names w p → ⊥) → ((p : SppPacketModel) → spp_packet_of b ≡ Ok p → IsOpener w p → ⊥)
     → IsOurs w b → ⊥
@@ -104,31 +104,31 @@ pub named_opens_none : (w : Whole) (p q : SppPacketModel) (number : ℕ) → p �
 named_opens_none w p q number same named o =
     let bad : None ≡ Some number = sym o.unnamed ∙ (ap (λ (x : SppPacketModel). named_in w.register x) same ∙ named) in cc
 
--- an opening that was not that of the connection with its identifier was none of ours
-pub quoted_not_ours : (w : Whole) (c : PacketModel) (quote : OpeningQuote) (number : ℕ) → IsAllRegistered w.register w.places.guests
-    → quoted_opening c.body ≡ Some quote → owner_in w.register.identifiers quote.id ≡ Some number
+-- a quoted packet that is not one of the connection with its identifier is none of ours
+pub quoted_not_ours : (w : Whole) (c : PacketModel) (quote : Quote) (number : ℕ) → IsAllRegistered w.register w.places.guests
+    → quoted_packet c.body ≡ Some quote → owner_in w.register.identifiers quote.source_id ≡ Some number
     → ((g : Guest) (s : State) → slice_get w.places.guests number ≡ Some (Some g) → StandsFor g.connection.conversation.endpoint s
-    → is_opened_by g s quote ≡ false) → QuotesOurs w c → ⊥
+    → is_sent_by g s quote ≡ false) → QuotesOurs w c → ⊥
 quoted_not_ours w c quote number all quoted owner never q =
     let same : q.quote ≡ quote = same_Some q.quote quote (sym q.quoted ∙ quoted) in
     let one : q.number ≡ number
-    = same_Some q.number number (sym q.owner ∙ (ap (λ (x : OpeningQuote). owner_in w.register.identifiers x.id) same ∙ owner)) in
+    = same_Some q.number number (sym q.owner ∙ (ap (λ (x : Quote). owner_in w.register.identifiers x.source_id) same ∙ owner)) in
     let at : slice_get w.places.guests number ≡ Some (Some q.there.guest)
     = subst (λ (m : ℕ). slice_get w.places.guests m ≡ Some (Some q.there.guest)) one q.there.there in
     ∥∥₁_elim (all.each number q.there.guest at).fits (Prim.hlevel props) (λ fit.
-    let yes : is_opened_by q.there.guest fit.story.state q.quote ≡ true = q.there.is fit.story.state fit.tells.stands in
-    let no : is_opened_by q.there.guest fit.story.state quote ≡ false = never q.there.guest fit.story.state at fit.tells.stands in
-    let bad : true ≡ false = sym yes ∙ (ap (λ (x : OpeningQuote). is_opened_by q.there.guest fit.story.state x) same ∙ no) in
+    let yes : is_sent_by q.there.guest fit.story.state q.quote ≡ true = q.there.is fit.story.state fit.tells.stands in
+    let no : is_sent_by q.there.guest fit.story.state quote ≡ false = never q.there.guest fit.story.state at fit.tells.stands in
+    let bad : true ≡ false = sym yes ∙ (ap (λ (x : Quote). is_sent_by q.there.guest fit.story.state x) same ∙ no) in
     cc)
 
--- nor was one whose identifier no connection has, nor is there one where none is quoted
-pub unowned_not_ours : (w : Whole) (c : PacketModel) (quote : OpeningQuote) → quoted_opening c.body ≡ Some quote
-    → owner_in w.register.identifiers quote.id ≡ None → QuotesOurs w c → ⊥
+-- nor is one whose identifier no connection has, nor is there one where none is quoted
+pub unowned_not_ours : (w : Whole) (c : PacketModel) (quote : Quote) → quoted_packet c.body ≡ Some quote
+    → owner_in w.register.identifiers quote.source_id ≡ None → QuotesOurs w c → ⊥
 unowned_not_ours w c quote quoted none q =
     let same : q.quote ≡ quote = same_Some q.quote quote (sym q.quoted ∙ quoted) in
     let bad : None ≡ Some q.number
-    = sym none ∙ (ap (λ (x : OpeningQuote). owner_in w.register.identifiers x.id) (sym same) ∙ q.owner) in
+    = sym none ∙ (ap (λ (x : Quote). owner_in w.register.identifiers x.source_id) (sym same) ∙ q.owner) in
     cc
 
-pub unquoted_not_ours : (w : Whole) (c : PacketModel) → quoted_opening c.body ≡ None → QuotesOurs w c → ⊥
+pub unquoted_not_ours : (w : Whole) (c : PacketModel) → quoted_packet c.body ≡ None → QuotesOurs w c → ⊥
 unquoted_not_ours w c none q = let bad : None ≡ Some q.quote = sym none ∙ q.quoted in cc

@@ -75,8 +75,8 @@ pub heard_undone : (now : ℕ) (b : List ℕ) (confirming : Bool) (g h : Guest) 
 heard_undone now b confirming g h (hears is) = step_undone now (heard b) g.connection h.connection is.step
 heard_undone now b confirming g h (lost stores) = λ was. was
 
-pub unserved_stays : (now : ℕ) (g h : Guest) → GuestUnserved now g h → Goes g.connection.conversation h.connection.conversation → Stays g h
-unserved_stays now g h is goes =
+pub unserved_stays : (now error : ℕ) (g h : Guest) → GuestUnserved now error g h → Goes g.connection.conversation h.connection.conversation → Stays g h
+unserved_stays now error g h is goes =
     let known : known_of h ≡ known_of g = ap known_of is.same in
     record { known = known; fits = goes_fits g h known goes }
 

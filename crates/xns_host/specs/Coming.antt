@@ -41,14 +41,14 @@ pub data Opens (now way : ℕ) (bytes : List ℕ) (p : SppPacketModel) (w : Whol
       → Opens now way bytes p w register (lost_stray w.strays) w.places
 
 -- these bytes came by this way at this time: they are no packet of the host, and nothing changes; or an Echo request, and the reply waits,
--- where there is room; or an Error packet about an opening of ours; or they name a connection; or they open one
+-- where there is room; or an Error packet about a packet of ours; or they name a connection; or they open one
 pub data Comes (now way : ℕ) (bytes : List ℕ) (w : Whole) : Bool → Whole → Type 0 where
   foreign : (IsOurs w bytes → ⊥) → Comes now way bytes w false w
   echoes : (p : PacketModel) (taken : ℕ) {strays : StrayQueue} → packet_of bytes ≡ Ok (p, taken) → AsksEcho w p
       → MayHaveStray w.strays strays (stray_of way (echo_reply (address_in w.network w.host echo_socket) p))
       → Comes now way bytes w true (record w { strays = strays })
   refuses : (p : PacketModel) (taken : ℕ) {q : Places} → packet_of bytes ≡ Ok (p, taken) → (quotes : QuotesOurs w p)
-      → Turns (GuestUnserved now) quotes.number w.places q → Comes now way bytes w true (record w { places = q })
+      → Turns (GuestUnserved now quotes.quote.error) quotes.number w.places q → Comes now way bytes w true (record w { places = q })
   hears : (p : SppPacketModel) {q : Places} → spp_packet_of bytes ≡ Ok p → (names : Names w p)
       → Turns (GuestHears now bytes (confirms p)) names.number w.places q → Comes now way bytes w true (record w { places = q })
   opens : (p : SppPacketModel) {register : Register} {strays : StrayQueue} {q : Places} → spp_packet_of bytes ≡ Ok p → IsOpener w p

@@ -39,9 +39,10 @@ AConnectionHearsItsPackets = (now way number : ℕ) (bytes : List ℕ) (result :
 abbrev pub NoNetworkDecides : Type 0
 NoNetworkDecides = (w : Whole) (network : ℕ) (bytes : List ℕ) → IsOurs w bytes → IsOurs (record w { network = network }) bytes
 
--- an Error packet that quotes the opening packet of a connection is the host's, and that connection is not served
-abbrev pub AQuotedOpeningIsNotServed : Type 0
-AQuotedOpeningIsNotServed = (now way number taken : ℕ) (bytes : List ℕ) (result : Bool) (old new : Host) (p : PacketModel) (g : Guest)
-    → TakesIn now way bytes result old new → packet_of bytes ≡ Ok (p, taken) → IsRefusedBy old.host p g
+-- an Error packet that quotes what a connection sent lately is the host's, and that connection is not served, if the number says that nobody
+-- hears it
+abbrev pub WhoIsQuotedIsNotServed : Type 0
+WhoIsQuotedIsNotServed = (now way number taken : ℕ) (bytes : List ℕ) (result : Bool) (old new : Host) (p : PacketModel) (g : Guest)
+    → TakesIn now way bytes result old new → packet_of bytes ≡ Ok (p, taken) → (by : IsRefusedBy old.host p g)
     → slice_get old.guests.items number ≡ Some (Some g)
-    → (result ≡ true) × Turns (GuestUnserved (time_at old.clock now)) number (places_of old) (places_of new)
+    → (result ≡ true) × Turns (GuestUnserved (time_at old.clock now) by.quote.error) number (places_of old) (places_of new)

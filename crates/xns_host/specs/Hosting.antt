@@ -15,7 +15,7 @@ use Rattle.xns_connection.specs.Connecting.{is_dead}
 use Rattle.xns_connection.specs.Deeds.{acted}
 use Rattle.xns_host.specs.Events.{event_in}
 use Rattle.xns_host.specs.Identifiers.{Ids, IsNext, is_free}
-use Rattle.xns_host.specs.Quotes.{is_opened_by, quoted_opening}
+use Rattle.xns_host.specs.Quotes.{is_sent_by, quoted_packet}
 use Rattle.xns_host.specs.Register.{peer_at}
 use Rattle.xns_connection.specs.Step.{parts_of}
 use Rattle.xns_host.specs.Settings.{IsMadeBy}
@@ -30,7 +30,7 @@ use Rattle.xns_agenda.specs.declared.due.Due.TheVariants.{Never, AgainAt, AskAt,
 use Rattle.xns_agenda.specs.declared.facts.Facts.{Facts}
 use Rattle.xns_agenda.specs.declared.facts.TheConstants.Facts.{NONE}
 use Rattle.xns_host.specs.declared.guest.Guest.{Guest}
-use Rattle.xns_host.specs.declared.opening_quote.OpeningQuote.{OpeningQuote}
+use Rattle.xns_host.specs.declared.quote.Quote.{Quote}
 use Rattle.xns_host.specs.declared.outgoing.Outgoing.{Outgoing}
 use Rattle.xns_host.specs.declared.settings.Settings.{Settings}
 
@@ -239,16 +239,16 @@ IsAllInUse ids = position (is_free ids.owners) ids.ahead ≡ None
 
 -- ---- an Error packet
 
--- it quotes the packet that was to open this connection of ours
+-- it quotes a packet that went out of this connection lately, and its number says that nobody hears that
 pub record IsRefusedBy (host : List ℕ) (p : PacketModel) (guest : Guest) : Type 0 where
   pub kind : p.kind ≡ ERROR
   pub here : p.target.host ≡ host
-  pub quote : OpeningQuote
-  pub quoted : quoted_opening p.body ≡ Some quote
+  pub quote : Quote
+  pub quoted : quoted_packet p.body ≡ Some quote
   pub state : State
   pub stands : StandsFor guest.connection.conversation.endpoint state
-  pub named : quote.id ≡ state.ends.id
-  pub opened : is_opened_by guest state quote ≡ true
+  pub named : quote.source_id ≡ state.ends.id
+  pub sent : is_sent_by guest state quote ≡ true
 
 -- ---- a packet that came
 

@@ -9,22 +9,22 @@ use Rattle.xns_spp.specs.Held.{StandsFor}
 use Rattle.xns_spp.specs.Packet.{SppPacketModel, opener_of, spp_packet_of}
 use Rattle.xns_spp.specs.State.{State}
 use Rattle.xns_host.specs.Hosting.{IsThere, address_in}
-use Rattle.xns_host.specs.Quotes.{is_opened_by, quoted_opening}
+use Rattle.xns_host.specs.Quotes.{is_sent_by, quoted_packet}
 use Rattle.xns_host.specs.Register.{owner_in}
 use Rattle.xns_host.specs.Registered.{named_in}
 use Rattle.xns_host.specs.Services.{programs_at}
 use Rattle.xns_host.specs.Strays.{echo_socket}
 use Rattle.xns_host.specs.Whole.{Whole}
 use Rattle.xns_host.specs.declared.guest.Guest.{Guest}
-use Rattle.xns_host.specs.declared.opening_quote.OpeningQuote.{OpeningQuote}
+use Rattle.xns_host.specs.declared.quote.Quote.{Quote}
 
 -- the packet is one of this connection
 abbrev pub IsOf : SppPacketModel → Guest → Type 0
 IsOf p g = (s : State) → StandsFor g.connection.conversation.endpoint s → is_ours_at s.ends p ≡ true
 
--- the quoted packet was to open this connection of ours, which is not open yet
-abbrev pub IsToOpen : OpeningQuote → Guest → Type 0
-IsToOpen q g = (s : State) → StandsFor g.connection.conversation.endpoint s → is_opened_by g s q ≡ true
+-- the quoted packet went from this connection to its peer, lately
+abbrev pub IsSentBy : Quote → Guest → Type 0
+IsSentBy q g = (s : State) → StandsFor g.connection.conversation.endpoint s → is_sent_by g s q ≡ true
 
 -- a packet to this host names a connection of it, and is one of that
 pub record Names (w : Whole) (p : SppPacketModel) : Type 0 where
@@ -42,15 +42,16 @@ pub record IsOpener (w : Whole) (p : SppPacketModel) : Type 0 where
   pub opener : opener_of p ≢ None
   pub served : programs_at w.services.programs p.target.socket ≢ None
 
--- an Error packet to this host quotes the packet that was to open a connection of it, which is not open yet
+-- an Error packet to this host, whose number says that nobody hears it, quotes a packet that went out lately of the connection with the
+-- identifier of its sender
 pub record QuotesOurs (w : Whole) (p : PacketModel) : Type 0 where
   pub kind : p.kind ≡ ERROR
   pub here : p.target.host ≡ w.host
-  pub quote : OpeningQuote
-  pub quoted : quoted_opening p.body ≡ Some quote
+  pub quote : Quote
+  pub quoted : quoted_packet p.body ≡ Some quote
   pub number : ℕ
-  pub owner : owner_in w.register.identifiers quote.id ≡ Some number
-  pub there : IsThere (IsToOpen quote) (slice_get w.places.guests number)
+  pub owner : owner_in w.register.identifiers quote.source_id ≡ Some number
+  pub there : IsThere (IsSentBy quote) (slice_get w.places.guests number)
 
 -- a packet of one host asks this host for an Echo reply, which it gives by its settings
 pub record AsksEcho (w : Whole) (p : PacketModel) : Type 0 where

@@ -1,40 +1,53 @@
--- The opening packet that an Error packet quotes (XSIS 028112, Error Protocol).
+-- The sequenced packet that an Error packet quotes (XSIS 028112, Error Protocol).
 use Rattle.std.specs.Prelude.{ℕ, Bool, not, ◌&&◌, ◌||◌, ◌==◌, nat_lt, List, length, if◌then◌else◌, Option, Some, None, Result, Ok, Err}
 use Rattle.std.specs.Prelude.{slice_index_or}
-use Rattle.std.specs.Option.{is_none}
+use Rattle.std.specs.Option.{unwrap_or}
 use Rattle.xns_idp.specs.Packet.{same_place}
 use Rattle.xns_idp.specs.Reading.{word_at, address_at}
+use Rattle.xns_idp.specs.declared.address.Address.{Address}
 use Rattle.xns_idp.specs.declared.packet_type.TheConstants.{SEQUENCED_PACKET}
 use Rattle.xns_small.specs.ErrorReport.{ErrorReportModel, error_of, most_quoted}
 use Rattle.xns_small.specs.declared.error_number.TheConstants.{NO_RESOURCES, NO_SUCH_SOCKET}
 use Rattle.xns_small.specs.declared.fault.SmallFault.{SmallFault}
-use Rattle.xns_spp.specs.Ends.{is_open}
 use Rattle.xns_spp.specs.State.{State}
-use Rattle.xns_spp.specs.Telling.{own_name}
+use Rattle.xns_spp.specs.Telling.{is_out, own_name, peer_name}
+use Rattle.xns_spp.specs.declared.ends.Ends.{Ends}
 use Rattle.xns_host.specs.declared.guest.Guest.{Guest}
-use Rattle.xns_host.specs.declared.opening_quote.OpeningQuote.{OpeningQuote}
+use Rattle.xns_host.specs.declared.quote.Quote.{Quote}
 
--- what is quoted is too short, or of another packet type, or of a packet whose sender knows the identifier of its peer
-abbrev pub opens_nothing : List ℕ → Bool
-opens_nothing quoted = nat_lt (length quoted) most_quoted || (not (slice_index_or quoted 5 0 == SEQUENCED_PACKET) || not (word_at quoted 34 == 0))
+-- what is quoted is too short, or of another packet type
+abbrev pub is_unfit : List ℕ → Bool
+is_unfit quoted = nat_lt (length quoted) most_quoted || not (slice_index_or quoted 5 0 == SEQUENCED_PACKET)
 
-abbrev pub opening_in : List ℕ → Option OpeningQuote
-opening_in quoted =
-    if opens_nothing quoted then None
-    else Some (record { target = address_at quoted 6; source = address_at quoted 18; id = word_at quoted 32 })
+abbrev pub quote_in : (error : ℕ) → List ℕ → Option Quote
+quote_in error quoted =
+    if is_unfit quoted then None
+    else Some (record {
+      error = error;
+      target = address_at quoted 6;
+      source = address_at quoted 18;
+      source_id = word_at quoted 32;
+      target_id = word_at quoted 34;
+      sequence = word_at quoted 36;
+    })
 
 -- only these error numbers say that nobody hears the packet: the destination has no such socket, or no resources for it
 abbrev pub is_unheard : ℕ → Bool
 is_unheard number = number == NO_SUCH_SOCKET || number == NO_RESOURCES
 
-abbrev pub opening_by : Result ErrorReportModel SmallFault → Option OpeningQuote
-opening_by (Err e) = None
-opening_by (Ok report) = if is_unheard report.number then opening_in report.quoted else None
+abbrev pub quote_of : Result ErrorReportModel SmallFault → Option Quote
+quote_of (Err e) = None
+quote_of (Ok report) = if is_unheard report.number then quote_in report.number report.quoted else None
 
 -- of the body of an Error packet whose number says that nobody hears it
-abbrev pub quoted_opening : List ℕ → Option OpeningQuote
-quoted_opening body = opening_by (error_of body)
+abbrev pub quoted_packet : List ℕ → Option Quote
+quoted_packet body = quote_of (error_of body)
 
--- we opened the connection, it is not open yet, and the quoted packet went from it to its peer
-abbrev pub is_opened_by : Guest → State → OpeningQuote → Bool
-is_opened_by g s q = is_none g.opener && (not (is_open s.ends) && (same_place (own_name s.ends).0 q.source && same_place g.peer q.target))
+-- to whom the connection sends, and to which identifier: to its peer; before that has replied to whom it was opened, with the identifier 0
+abbrev pub sends_to : Guest → Ends → Address × ℕ
+sends_to g e = unwrap_or (peer_name e) (g.peer, 0)
+
+-- the quoted packet went from the connection to its peer, lately
+abbrev pub is_sent_by : Guest → State → Quote → Bool
+is_sent_by g s q =
+    same_place (own_name s.ends).0 q.source && (same_place (sends_to g s.ends).0 q.target && ((sends_to g s.ends).1 == q.target_id && is_out s q.sequence))

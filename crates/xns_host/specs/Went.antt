@@ -44,10 +44,10 @@ pub data GuestHears (now : ℕ) (bytes : List ℕ) (confirming : Bool) (g : Gues
   hears : {h : Guest} → GuestHeard now bytes confirming g h → GuestHears now bytes confirming g h
   lost : ((s : State) → StandsFor g.connection.conversation.endpoint s → StoresBytes s bytes) → GuestHears now bytes confirming g g
 
--- nobody hears the packet that was to open the connection
-pub record GuestUnserved (now : ℕ) (g h : Guest) : Type 0 where
+-- nobody hears the packets of the connection, as an Error packet of this number says
+pub record GuestUnserved (now error : ℕ) (g h : Guest) : Type 0 where
   pub same : h ≡ record g { connection = h.connection }
-  pub parts : (s : State) → StandsFor g.connection.conversation.endpoint s → parts_of h.connection ≡ unserved (parts_of g.connection) s now
+  pub parts : parts_of h.connection ≡ unserved (parts_of g.connection) error now
 
 -- ---- what the program is told
 

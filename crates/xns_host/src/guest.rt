@@ -10,7 +10,7 @@ ghost use Rattle.xns_spp.specs.Packet.{IsSppPacket, spp_packet_of};
 ghost use Rattle.xns_spp.specs.State.{State};
 ghost use Rattle.courier_messages.specs.RawCalls.{words_call};
 ghost use Rattle.xns_connection.specs.Deeds.{asked, gave, made};
-ghost use Rattle.xns_host.specs.Quotes.{is_opened_by};
+ghost use Rattle.xns_host.specs.Quotes.{is_sent_by};
 ghost use Rattle.xns_connection.specs.Reasons.{call_fault_of, answer_fault_of};
 ghost use Rattle.xns_host.specs.Refusing.{TellsRefusal};
 ghost use Rattle.xns_connection.specs.Telling.{Goes};
@@ -18,9 +18,9 @@ ghost use Rattle.xns_host.specs.Went.{GuestActs, GuestGives, GuestHears, GuestSt
 
 use crate::event::{Event, event_of};
 use crate::host_fault::{HostFault, told};
-use crate::opening_quote::OpeningQuote;
 use crate::outgoing::Outgoing;
 use crate::peer::Peer;
+use crate::quote::Quote;
 use courier_sessions::Answer;
 use std::alloc::Global;
 use xns_agenda::Facts;
@@ -109,13 +109,13 @@ impl Guest {
         self.tag = tag;
     }
 
-    /// Nobody hears the packet that was to open the connection: it is closed, unless it is open or closed.
-    pub fn not_served(&mut self, now: u64)
-        ensures unserved { GuestUnserved now self.old self.new }
+    /// Nobody hears the packets of the connection, as an Error packet of this number says: it is closed, unless it is closed already.
+    pub fn not_served(&mut self, now: u64, error: u16)
+        ensures unserved { GuestUnserved now error self.old self.new }
         ensures goes { Goes self.old.connection.conversation self.new.connection.conversation }
         ensures not_done { IsNotDone self.old.connection → IsNotDone self.new.connection }
     {
-        self.connection.not_served(now);
+        self.connection.not_served(now, error);
     }
 
     /// Does what is due.
@@ -169,15 +169,16 @@ impl Guest {
         self.connection.is_ours(packet)
     }
 
-    /// Whether a quoted packet was to open the connection, which is not open yet.
-    pub fn is_opened_by(&self, quote: &OpeningQuote) -> bool
-        ensures { (s : State) → StandsFor self.now.connection.conversation.endpoint s → result ≡ is_opened_by self.now s quote.now }
+    /// Whether a quoted packet went from the connection to its peer, lately.
+    pub fn is_sent_by(&self, quote: &Quote) -> bool
+        ensures { (s : State) → StandsFor self.now.connection.conversation.endpoint s → result ≡ is_sent_by self.now s quote.now }
     {
         let (own, _) = self.connection.own();
-        self.opener.is_none()
-            && !self.connection.is_open()
-            && own.is_same_place(&quote.source)
-            && self.peer.is_same_place(&quote.target)
+        let (target, target_id) = self.connection.peer().unwrap_or((self.peer, 0));
+        own.is_same_place(&quote.source)
+            && target.is_same_place(&quote.target)
+            && target_id == quote.target_id
+            && self.connection.is_out(quote.sequence)
     }
 
     /// Since when it lingers, if it is closed and the program was told.

@@ -1,7 +1,7 @@
 //! What the definitions imply, each as the contract of a function that does nothing.
 
 ghost use Rattle.std.specs.Prelude.{◌≡◌, ◌≢◌, ◌≤◌, ◌∷◌, ◌++◌, [], ℕ, Any, List};
-ghost use Rattle.xns_host.specs.Following.{AConnectionHearsItsPackets, AQuotedOpeningIsNotServed, ASilentHostHasNothingToTell, AStarvedHostRests, AnIdleHostHasNoPacket, NoNetworkDecides};
+ghost use Rattle.xns_host.specs.Following.{AConnectionHearsItsPackets, WhoIsQuotedIsNotServed, ASilentHostHasNothingToTell, AStarvedHostRests, AnIdleHostHasNoPacket, NoNetworkDecides};
 ghost use Rattle.xns_host.specs.Identifiers.{IsOrder, Ids, Turn, Given, HadTurn, most_id};
 
 /// Before an identifier is given again, each other one is given, or is in use when one is given, whoever has which one in between.
@@ -19,10 +19,11 @@ pub fn nothing_is_left()
     ensures rests { AStarvedHostRests }
 {}
 
-/// Each connection hears the packets that are its own, and an Error packet that quotes what was to open it closes it as not served,
-/// unless it is open or closed: both are the host's. Which packets are the host's is not decided by its network.
+/// Each connection hears the packets that are its own. An Error packet that quotes what the connection sent lately, and whose number says
+/// that nobody hears it, closes it as not served, unless it is closed already. Both are the host's. Which packets are the host's is not
+/// decided by its network.
 pub fn packets_come_to_their_connections()
     ensures sequenced { AConnectionHearsItsPackets }
-    ensures error { AQuotedOpeningIsNotServed }
+    ensures error { WhoIsQuotedIsNotServed }
     ensures network { NoNetworkDecides }
 {}

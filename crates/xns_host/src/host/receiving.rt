@@ -13,8 +13,8 @@ ghost use Rattle.xns_small.specs.Echo.{echo_reply};
 
 use crate::guest::Guest;
 use crate::host::Host;
-use crate::opening_quote::{OpeningQuote, quoted_opening};
 use crate::peer::Peer;
+use crate::quote::{Quote, quoted_packet};
 use crate::refusing::ECHO_SOCKET;
 use crate::slots::{note, put_in};
 use courier_sessions::Program;
@@ -29,9 +29,9 @@ impl Host {
     ghost use Rattle.xns_host.specs.Coming.{Comes, Opens, Seats};
     ghost use Rattle.xns_host.specs.Hosting.{HasNoRoom, IsAllInUse, IsThere, address_in};
     ghost use Rattle.xns_host.specs.Identifiers.{StaysInOrder};
-    ghost use Rattle.xns_host.specs.Ours.{AsksEcho, IsOf, IsToOpen, QuotesOurs};
+    ghost use Rattle.xns_host.specs.Ours.{AsksEcho, IsOf, IsSentBy, QuotesOurs};
     ghost use Rattle.xns_host.specs.Places.{Turns};
-    ghost use Rattle.xns_host.specs.Quotes.{is_opened_by};
+    ghost use Rattle.xns_host.specs.Quotes.{is_sent_by};
     ghost use Rattle.xns_host.specs.Register.{number_by, peer_at, peer_cmp};
     ghost use Rattle.xns_host.specs.Services.{programs_at};
     ghost use Rattle.xns_host.specs.Standing.{StaysSetUp};
@@ -83,10 +83,10 @@ impl Host {
         }
     }
 
-    /// Closes the connection whose opening packet an Error packet quotes; whether there is one that is not open yet.
+    /// Closes the connection of which an Error packet quotes a packet that went out lately; whether there is one.
     fn refused(&mut self, now: u64, packet: &Packet<'_>) -> bool
         ensures refuses { packet.now.kind ≡ ERROR → result ≡ true → (quotes : QuotesOurs (whole_of self.old) (packet_model packet.now))
-            × Turns (GuestUnserved now) quotes.number (places_of self.old) (places_of self.new) }
+            × Turns (GuestUnserved now quotes.quote.error) quotes.number (places_of self.old) (places_of self.new) }
         ensures foreign { result ≡ false → QuotesOurs (whole_of self.old) (packet_model packet.now) → ⊥ }
         ensures rest { result ≡ false → places_of self.new ≡ places_of self.old }
         ensures register { self.new.register ≡ self.old.register }
@@ -96,22 +96,22 @@ impl Host {
         if packet.target.host != self.host {
             return false;
         }
-        let Some(quote) = quoted_opening(packet.body) else {
+        let Some(quote) = quoted_packet(packet.body) else {
             return false;
         };
-        let Some(number) = self.register.owner(quote.id) else {
+        let Some(number) = self.register.owner(quote.source_id) else {
             return false;
         };
         self.not_served(now, usize::from(number), &quote)
     }
 
-    /// Closes the connection with this number, if it is the one that a quoted packet was to open.
+    /// Closes the connection with this number, if the quoted packet went from it to its peer lately.
     #[tactic(auto, using(crate::proofs::Noting::put_back, crate::proofs::Turns::put_registered, crate::proofs::Turns::put_undone))]
-    fn not_served(&mut self, now: u64, number: usize, quote: &OpeningQuote) -> bool
-        ensures turn { result ≡ true → IsThere (IsToOpen quote.now) (slice_get self.old.guests.items number)
-            × Turns (GuestUnserved now) number (places_of self.old) (places_of self.new) }
+    fn not_served(&mut self, now: u64, number: usize, quote: &Quote) -> bool
+        ensures turn { result ≡ true → IsThere (IsSentBy quote.now) (slice_get self.old.guests.items number)
+            × Turns (GuestUnserved now quote.now.error) number (places_of self.old) (places_of self.new) }
         ensures foreign { result ≡ false → (g : Guest) (s : State) → slice_get self.old.guests.items number ≡ Some (Some g)
-            → StandsFor g.connection.conversation.endpoint s → is_opened_by g s quote.now ≡ false }
+            → StandsFor g.connection.conversation.endpoint s → is_sent_by g s quote.now ≡ false }
         ensures rest { result ≡ false → places_of self.new ≡ places_of self.old }
         ensures register { self.new.register ≡ self.old.register }
         ensures strays { self.new.strays ≡ self.old.strays }
@@ -123,10 +123,10 @@ impl Host {
         let Some(guest) = &mut self.guests[number] else {
             return false;
         };
-        if !guest.is_opened_by(quote) {
+        if !guest.is_sent_by(quote) {
             return false;
         }
-        guest.not_served(now);
+        guest.not_served(now, quote.error);
         note(self.guests.as_slice(), &mut self.agenda, number);
         true
     }

@@ -5,9 +5,6 @@ use Rattle.xns_connection.specs.declared.conversation.Conversation.{Conversation
 use Rattle.xns_connection.proofs.GivenUp.{given_up_goes}
 use Rattle.xns_connection.proofs.connection.Connection.not_served.Goals as goal
 
-pub returns-then-is_open-clause-goes : goal.returns-then-is_open-clause-goes
-returns-then-is_open-clause-goes c = goes_not c.args.self.now.conversation
-
 pub returns-then-is_some-clause-goes : goal.returns-then-is_some-clause-goes
 returns-then-is_some-clause-goes c = goes_not c.args.self.now.conversation
 

@@ -1,7 +1,7 @@
-//! The opening packet that an Error packet quotes.
+//! The sequenced packet that an Error packet quotes.
 
 ghost use Rattle.std.specs.Prelude.{◌≡◌};
-ghost use Rattle.xns_host.specs.Quotes.{is_unheard, quoted_opening};
+ghost use Rattle.xns_host.specs.Quotes.{is_unheard, quoted_packet};
 
 use xns_idp::Address;
 use xns_idp::packet_type::SEQUENCED_PACKET;
@@ -12,15 +12,21 @@ use xns_small::read_error;
 /// How many bytes an Error packet quotes: the internet header and that of a sequenced packet.
 const QUOTED: usize = 42;
 
-/// What an Error packet quotes of a packet that was to open a connection.
+/// What an Error packet says of a sequenced packet that nobody hears, and quotes of it.
 #[derive(Clone, Copy, Debug, PartialEq, Eq)]
-pub struct OpeningQuote {
+pub struct Quote {
+    /// The error number: why nobody hears it.
+    pub error: u16,
     /// To whom it was sent.
     pub target: Address,
     /// By whom.
     pub source: Address,
     /// The identifier of the one who sent it.
-    pub id: u16,
+    pub source_id: u16,
+    /// The identifier of the one to whom it was sent; 0 where the sender did not know it.
+    pub target_id: u16,
+    /// Its sequence number.
+    pub sequence: u16,
 }
 
 /// Whether an error number says that nobody hears the packet that is quoted: its destination has no such socket, or no resources for it.
@@ -30,21 +36,24 @@ fn is_unheard(number: u16) -> bool
     number == NO_SUCH_SOCKET || number == NO_RESOURCES
 }
 
-/// The opening packet that the body of an Error packet quotes. A `None`: it quotes none, or its number does not say that nobody hears it.
-pub fn quoted_opening(body: &[u8]) -> Option<OpeningQuote>
-    ensures { result ≡ quoted_opening body.now }
+/// What the body of an Error packet quotes. A `None`: its number does not say that nobody hears the packet, or it quotes no sequenced packet.
+pub fn quoted_packet(body: &[u8]) -> Option<Quote>
+    ensures { result ≡ quoted_packet body.now }
 {
     let report = read_error(body).ok()?;
     if !is_unheard(report.number) {
         return None;
     }
     let quoted = report.quoted;
-    if quoted.len() < QUOTED || quoted[5] != SEQUENCED_PACKET || read_word(quoted, 34) != 0 {
+    if quoted.len() < QUOTED || quoted[5] != SEQUENCED_PACKET {
         return None;
     }
-    Some(OpeningQuote {
+    Some(Quote {
+        error: report.number,
         target: read_address(quoted, 6),
         source: read_address(quoted, 18),
-        id: read_word(quoted, 32),
+        source_id: read_word(quoted, 32),
+        target_id: read_word(quoted, 34),
+        sequence: read_word(quoted, 36),
     })
 }
