@@ -1,4 +1,5 @@
 use crate::scene::Scene;
+use crate::sent::Sent;
 use std::alloc::{AllocError, Global};
 
 /// A packet on its way.
@@ -18,6 +19,7 @@ pub struct Network {
     flying: Vec<Flying>,
     seed: u64,
     packets: usize,
+    sent: Sent,
 }
 
 impl Network {
@@ -26,14 +28,20 @@ impl Network {
             alloc,
             scene,
             flying: Vec::new(alloc),
-            seed: 1,
+            seed: scene.seed,
             packets: 0,
+            sent: Sent::new(alloc),
         }
     }
 
     /// How many packets were sent.
     pub fn packets(&self) -> usize {
         self.packets
+    }
+
+    /// How many of them had gone out before.
+    pub fn again(&self) -> usize {
+        self.sent.again()
     }
 
     /// A number below this one that looks random; 0 below 0.
@@ -56,11 +64,22 @@ impl Network {
         }
     }
 
+    /// How much longer than the least a packet takes.
+    fn delay(&mut self) -> u64 {
+        let delay = self.random(self.scene.delay);
+        if self.scene.late > 0 && self.random(100) < self.scene.late {
+            return delay.saturating_add(self.random(100));
+        }
+        delay
+    }
+
     fn fly(&mut self, now: u64, from: usize, to: usize, bytes: &[u8]) -> Result<(), AllocError> {
+        let Some(distance) = self.scene.phase.distance(now, self.scene.distance) else {
+            return Ok(());
+        };
         let mut bytes = Vec::from_slice(self.alloc, bytes)?;
         self.corrupt(&mut bytes);
-        let delay = self.random(self.scene.delay);
-        let at = now.saturating_add(1).saturating_add(delay);
+        let at = now.saturating_add(distance).saturating_add(self.delay());
         let packet = Flying {
             at,
             to,
@@ -80,6 +99,7 @@ impl Network {
         bytes: &[u8],
     ) -> Result<(), AllocError> {
         self.packets = self.packets.saturating_add(1);
+        self.sent.note(bytes)?;
         if self.random(100) >= self.scene.lost {
             self.fly(now, from, to, bytes)?;
         }

@@ -75,6 +75,7 @@ impl Play {
     fn tell(&self, text: &mut String) -> Result<(), AllocError> {
         self.outcome().put(text)?;
         put_count(text, self.network.packets(), "packets")?;
+        put_count(text, self.network.again(), "of them again")?;
         write!(text, "{} ms", self.now)
     }
 

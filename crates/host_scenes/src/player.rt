@@ -49,6 +49,8 @@ fn host_of(
 ) -> Result<Station, HostFault> {
     let settings = Settings {
         window: scene.window,
+        backlog: scene.backlog,
+        idle: scene.idle,
         ..Settings::default()
     };
     let secret = [(secret % 256) as u8; 32];
@@ -86,7 +88,7 @@ impl Player {
         if self.done >= self.scene.calls {
             return self.host.close(now, self.connection);
         }
-        let Ok(words) = words_of(self.alloc, self.number, self.done, self.scene.most_words) else {
+        let Ok(words) = words_of(self.alloc, self.number, self.done, &self.scene) else {
             return Err(HostFault::NoMemory);
         };
         self.host.call(now, self.connection, 7, words.as_slice())
@@ -109,7 +111,7 @@ impl Player {
 
     /// Whether this answers the call that the client made last.
     fn is_answer(&self, words: &[u16]) -> Result<bool, AllocError> {
-        let asked = words_of(self.alloc, self.number, self.done, self.scene.most_words)?;
+        let asked = words_of(self.alloc, self.number, self.done, &self.scene)?;
         let wanted = answer_to(self.alloc, asked.as_slice())?;
         Ok(wanted.as_slice() == words)
     }

@@ -1,3 +1,4 @@
+use crate::phase::Phase;
 use crate::restart::Restart;
 
 /// What is played: clients that each make calls, one after the other, to one server.
@@ -8,14 +9,25 @@ pub struct Scene {
     /// How many calls each client makes.
     pub calls: usize,
     pub window: usize,
-    /// How many words a call has at most.
+    pub backlog: usize,
+    /// How long a peer is silent before it is asked, in milliseconds; 0: it is never asked.
+    pub idle: u32,
+    /// How many words a call has at least and at most.
+    pub least_words: usize,
     pub most_words: usize,
     /// Of 100 packets, how many are lost, repeated and corrupted.
     pub lost: u64,
     pub repeated: u64,
     pub corrupted: u64,
-    /// How long a packet takes at most, in milliseconds.
+    /// How long a packet takes at least, in milliseconds, and by how much less than this more.
+    pub distance: u64,
     pub delay: u64,
+    /// Of 100 packets, how many take up to 100 milliseconds more.
+    pub late: u64,
+    /// When the network is another one.
+    pub phase: Phase,
+    /// What the network's choices begin with.
+    pub seed: u64,
     /// How long the server's program takes for an answer, in milliseconds.
     pub thinking: u64,
     /// How many strangers open a connection and say no more.
@@ -24,16 +36,23 @@ pub struct Scene {
 }
 
 impl Scene {
-    const CALM: Scene = Scene {
+    pub const CALM: Scene = Scene {
         name: "5 clients of 40 calls, nothing lost",
         clients: 5,
         calls: 40,
         window: 8,
+        backlog: 16,
+        idle: 10_000,
+        least_words: 0,
         most_words: 20,
         lost: 0,
         repeated: 0,
         corrupted: 0,
+        distance: 1,
         delay: 40,
+        late: 0,
+        phase: Phase::NEVER,
+        seed: 1,
         thinking: 0,
         strangers: 0,
         restart: Restart::Never,

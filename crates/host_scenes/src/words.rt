@@ -1,17 +1,23 @@
+use crate::scene::Scene;
 use std::alloc::{AllocError, Global};
 
-/// The words of a client's call: at most so many.
+/// The words of a client's call in a scene.
 pub fn words_of(
     alloc: Global,
     client: usize,
     call: usize,
-    most: usize,
+    scene: &Scene,
 ) -> Result<Vec<u16>, AllocError> {
     let mut words = Vec::new(alloc);
     let seed = call
         .wrapping_mul(7_919)
         .wrapping_add(client.wrapping_mul(31));
-    let count = seed.checked_rem(most.saturating_add(1)).unwrap_or(0);
+    let range = scene
+        .most_words
+        .saturating_sub(scene.least_words)
+        .saturating_add(1);
+    let more = seed.checked_rem(range).unwrap_or(0);
+    let count = scene.least_words.saturating_add(more);
     for place in 0..count {
         words.push((seed.wrapping_add(place) % 65_536) as u16)?;
     }

@@ -1,7 +1,8 @@
 //! Hosts over a network in played time that loses, repeats, delays and corrupts packets, and hosts whose peers are odd.
 //!
 //! A line says what came of each play: how many answers were right and wrong, how many connections were closed as asked, by the peer and
-//! else, both ends counted, how many packets went out, and how long it took in played time.
+//! else, both ends counted, how many packets went out, how many of them were items or openings that had gone out before, and how long it
+//! took in played time.
 //!
 //! With the word `crowd` and a number only the thousand connections are played, for so many seconds. With the word `refused` only the two
 //! hosts are that ask once more for what is refused memory: a test runs them with each growth refused in turn. With `hosts` or `parts`, and
@@ -20,6 +21,7 @@ use clocked::{Clocked, Shown};
 use host_scenes::crowd::Crowd;
 use host_scenes::play::Play;
 use host_scenes::scene::Scene;
+use host_scenes::waits;
 use manner::Manner;
 use meeting::Meeting;
 use speed::Made;
@@ -67,6 +69,9 @@ fn number(words: &[String], place: usize) -> u32 {
 /// Plays all scenes, and prints the outcome of each.
 fn show_all(rt: &HostRuntime) -> Result<(), anyhow::Error> {
     for scene in Scene::ALL {
+        show_play(rt, scene)?;
+    }
+    for scene in waits::ALL {
         show_play(rt, scene)?;
     }
     for manner in Manner::ALL {

@@ -8,3 +8,4 @@ mod Repeats
 mod Silent
 mod Tree
 mod Turning
+mod Wanting

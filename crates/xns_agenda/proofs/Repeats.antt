@@ -72,7 +72,7 @@ once_more v u n fresh vain (inr one) = let here = one.1 in absurd (cc)
 
 once : (w : Waiting) {n : ℕ} {v : Waiting} → Unheard w n v → IsOnce v n
 once w here = inl refl
-once w (steps {n = n} {v = v} before now) = once_on v (after_step v true now) n (step_vain v v.due now) (once w before)
+once w (steps {n = n} {v = v} before wants now) = once_on v (after_step v true wants now) n (step_vain v v.due now) (once w before)
 once w (acts {n = n} {v = v} before now) = once_on v (after_act v now) n (act_vain v (act_at v now) now) (once w before)
 once w (hears {n = n} {v = v} before now) = once_on v (after_word v false false now) n (heard_vain (record v { misses = 0; heard_at = now }) v.due now) (once w before)
 once w (resends {n = n} {v = v} before now late) =

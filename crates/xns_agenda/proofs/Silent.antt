@@ -21,15 +21,15 @@ waits w (AgainAt t) now = record { most = refl; misses = omega arith }
 waits w (AskAt t) now = record { most = refl; misses = omega arith }
 waits w (ForgetAt t) now = record { most = refl; misses = omega arith }
 
-idles : (w : Waiting) (d : Due) → Beside w (idling w d) 0
-idles w Never = record { most = refl; misses = omega arith }
-idles w (AgainAt t) = record { most = refl; misses = omega arith }
-idles w (AskAt t) = record { most = refl; misses = omega arith }
-idles w (ForgetAt t) = record { most = refl; misses = omega arith }
+idles : (w : Waiting) (d : Due) (wants : Bool) → Beside w (idling w d wants) 0
+idles w Never wants = record { most = refl; misses = omega arith }
+idles w (AgainAt t) wants = record { most = refl; misses = omega arith }
+idles w (AskAt t) wants = record { most = refl; misses = omega arith }
+idles w (ForgetAt t) wants = record { most = refl; misses = omega arith }
 
-stepped : (w : Waiting) (b : Bool) (now : ℕ) → Beside w (after_step w b now) 0
-stepped w true now = waits w w.due now
-stepped w false now = idles w w.due
+stepped : (w : Waiting) (b wants : Bool) (now : ℕ) → Beside w (after_step w b wants now) 0
+stepped w true wants now = waits w w.due now
+stepped w false wants now = idles w w.due wants
 
 -- ---- a packet is one, and goes out only where fewer did than are borne
 
@@ -67,9 +67,9 @@ pub record Patient (w v : Waiting) (n : ℕ) : Type 0 where
 
 pub patient : (w : Waiting) {n : ℕ} {v : Waiting} → w.misses ≤ is_borne w.measure w.pace → Silence w n v → Patient w v n
 patient w most here = record { same = refl; misses = omega arith; most = omega arith }
-patient w most (steps {v = v} before waits now) =
+patient w most (steps {v = v} before waits wants now) =
     let p = patient w most before in
-    let s = stepped v waits now in
+    let s = stepped v waits wants now in
     let none = s.misses in
     let count = p.misses in
     record { same = s.most ∙ p.same; misses = omega (arith, none, count); most = p.most }

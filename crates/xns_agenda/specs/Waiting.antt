@@ -1,5 +1,5 @@
 -- When a connection says something again, asks its peer for a word, and is given up. Times are in milliseconds.
-use Rattle.std.specs.Prelude.{◌≡◌, ℕ, ◌+◌, ◌-◌, ◌*◌, ◌^◌, ◌<◌, ◌≤◌, Bool, true, false, ◌==◌, nat_le, min, if◌then◌else◌, Option, Some, None, IfSome}
+use Rattle.std.specs.Prelude.{◌≡◌, ℕ, ◌+◌, ◌-◌, ◌*◌, ◌^◌, ◌<◌, ◌≤◌, Bool, true, false, ◌&&◌, ◌==◌, nat_le, min, if◌then◌else◌, Option, Some, None, IfSome}
 use Rattle.xns_agenda.specs.Measuring.{IsBounded, begun_timing, borne, first_wait, is_late, learnt}
 use Rattle.xns_agenda.specs.declared.act.Act.{Act}
 use Rattle.xns_agenda.specs.declared.act.Act.TheVariants.{Nothing, Again, Ask, GiveUp, Forget}
@@ -56,8 +56,15 @@ begun at w now = record w { due = at (later now w.length); length = next_length 
 
 -- ---- after a step of an open connection
 
-abbrev pub idle_due : Pace → ℕ → Due
-idle_due pace heard_at = if pace.idle == 0 then Never else AskAt (later heard_at pace.idle)
+abbrev pub usual_idle : ℕ
+usual_idle = 10000
+
+-- how long the peer may be silent; 0: for ever. Where a call wants an answer it may not be for ever
+abbrev pub idle_span : Pace → (wants : Bool) → ℕ
+idle_span pace wants = if (pace.idle == 0) && wants then usual_idle else pace.idle
+
+abbrev pub idle_due : Pace → ℕ → (wants : Bool) → Due
+idle_due pace heard_at wants = if idle_span pace wants == 0 then Never else AskAt (later heard_at (idle_span pace wants))
 
 -- a wait for the peer begins, which is timed
 abbrev pub timed : Waiting → ℕ → Waiting
@@ -71,15 +78,16 @@ waiting_on w (AskAt t) now = timed w now
 waiting_on w (ForgetAt t) now = w
 
 -- nothing waits for the peer, which is asked when it has been silent for so long
-abbrev pub idling : Waiting → Due → Waiting
-idling w Never = record (rested w) { due = idle_due w.pace w.heard_at; timing = Ready }
-idling w (AgainAt t) = record (rested w) { due = idle_due w.pace w.heard_at; timing = Ready }
-idling w (AskAt t) = w
-idling w (ForgetAt t) = w
+abbrev pub idling : Waiting → Due → (wants : Bool) → Waiting
+idling w Never wants = record (rested w) { due = idle_due w.pace w.heard_at wants; timing = Ready }
+idling w (AgainAt t) wants = record (rested w) { due = idle_due w.pace w.heard_at wants; timing = Ready }
+idling w (AskAt t) wants = w
+idling w (ForgetAt t) wants = w
 
-abbrev pub after_step : Waiting → Bool → ℕ → Waiting
-after_step w true now = waiting_on w w.due now
-after_step w false now = idling w w.due
+-- `waits`: something waits for the peer; `wants`: a call wants its answer
+abbrev pub after_step : Waiting → (waits wants : Bool) → ℕ → Waiting
+after_step w true wants now = waiting_on w w.due now
+after_step w false wants now = idling w w.due wants
 
 -- ---- after a word of the peer, which acknowledges more or opens the connection, or does not
 
@@ -160,7 +168,7 @@ IsDueAfter now due = (t : ℕ) → due_time due ≡ Some t → now < t
 -- the first wait leads to the second by steps of this moment, or the connection was closed at it
 pub data StepsAt (now : ℕ) (w : Waiting) : Waiting → Type 0 where
   still : StepsAt now w w
-  step : {v : Waiting} → StepsAt now w v → (waits : Bool) → StepsAt now w (after_step v waits now)
+  step : {v : Waiting} → StepsAt now w v → (waits wants : Bool) → StepsAt now w (after_step v waits wants now)
   close : {v : Waiting} → StepsAt now w v → StepsAt now w (lingering v now)
 
 -- steps of this moment lead from the first wait to the second, and a word of the peer may have come before them
@@ -181,7 +189,7 @@ is_sent Forget = false
 -- from one moment to another there is no word of the peer, and so many packets go out by the time alone
 pub data Silence (w : Waiting) : ℕ → Waiting → Type 0 where
   here : Silence w 0 w
-  steps : {n : ℕ} {v : Waiting} → Silence w n v → (waits : Bool) (now : ℕ) → Silence w n (after_step v waits now)
+  steps : {n : ℕ} {v : Waiting} → Silence w n v → (waits wants : Bool) (now : ℕ) → Silence w n (after_step v waits wants now)
   sends : {n : ℕ} {v : Waiting} → Silence w n v → (now : ℕ) → is_sent (act_at v now) ≡ true → Silence w (n + 1) (after_act v now)
 
 -- ---- two peers that repeat what they said
@@ -189,7 +197,7 @@ pub data Silence (w : Waiting) : ℕ → Waiting → Type 0 where
 -- from one moment to another something waits for the peer, which acknowledges no more, and so often something goes out again for a word of it
 pub data Unheard (w : Waiting) : ℕ → Waiting → Type 0 where
   here : Unheard w 0 w
-  steps : {n : ℕ} {v : Waiting} → Unheard w n v → (now : ℕ) → Unheard w n (after_step v true now)
+  steps : {n : ℕ} {v : Waiting} → Unheard w n v → (wants : Bool) (now : ℕ) → Unheard w n (after_step v true wants now)
   acts : {n : ℕ} {v : Waiting} → Unheard w n v → (now : ℕ) → Unheard w n (after_act v now)
   hears : {n : ℕ} {v : Waiting} → Unheard w n v → (now : ℕ) → Unheard w n (after_word v false false now)
   resends : {n : ℕ} {v : Waiting} → Unheard w n v → (now : ℕ) → is_overdue v now ≡ true → Unheard w (n + 1) (after_word v false true now)

@@ -1,13 +1,14 @@
 //! What the definitions imply, each as the contract of a function that does nothing.
 
-ghost use Rattle.std.specs.Prelude.{◌≡◌, ◌≤◌, ◌<◌, ◌+◌, ◌-◌, ◌*◌, ◌^◌, ℕ};
+ghost use Rattle.std.specs.Prelude.{◌≡◌, ◌≤◌, ◌<◌, ◌+◌, ◌-◌, ◌*◌, ◌^◌, ℕ, Bool, true};
+ghost use Rattle.std.specs.Option.{is_some};
 ghost use Rattle.xns_agenda.specs.Clock.{by_told, day, time_at, told_at};
 ghost use Rattle.xns_agenda.specs.Measuring.{borne, first_wait, shorter_waits, smoothed_on};
 ghost use Rattle.xns_agenda.specs.declared.measure.TheConstants.Measure.{NONE};
 ghost use Rattle.xns_agenda.specs.declared.pace.Pace.{Pace};
 ghost use Rattle.xns_agenda.specs.declared.smoothed.Smoothed.{Smoothed};
 ghost use Rattle.xns_agenda.specs.declared.clock.Clock.{Clock};
-ghost use Rattle.xns_agenda.specs.Waiting.{Unheard, Waiting, Silence, last_time, act_at, after_act, later, next_length};
+ghost use Rattle.xns_agenda.specs.Waiting.{Unheard, Waiting, Silence, last_time, act_at, after_act, after_step, due_time, later, next_length};
 ghost use Rattle.xns_agenda.specs.declared.act.Act.TheVariants.{Again};
 ghost use Rattle.xns_agenda.specs.declared.due.Due.TheVariants.{AgainAt};
 
@@ -22,6 +23,11 @@ pub fn a_silent_peer_is_given_up()
 /// more, at most one packet goes out again for a word of the peer.
 pub fn a_repeat_is_answered_once()
     ensures { (w v : Waiting) (n : ℕ) → Unheard w n v → n ≤ 1 }
+{}
+
+/// While a call wants its answer the connection never waits for ever: something is due at a time.
+pub fn a_call_does_not_wait_for_ever()
+    ensures { (w : Waiting) (waits : Bool) (now : ℕ) → is_some (due_time (after_step w waits true now).due) ≡ true }
 {}
 
 /// When something goes out again, the wait that begins is as long as the one before had said, and the next one is twice as long,

@@ -9,7 +9,7 @@ pub struct Pace {
     pub longest: u32,
     /// The least that a measured wait is longer than the time that was measured.
     pub least: u32,
-    /// How long the peer may be silent before it is asked, where nothing waits for it; 0: for ever.
+    /// How long the peer may be silent before it is asked, where nothing waits for it; 0: for ever, unless a call wants its answer.
     pub idle: u32,
     /// How many waits without a word of the peer are borne, beside measured ones that are shorter than the first.
     pub tries: u8,
@@ -17,4 +17,9 @@ pub struct Pace {
     ghost ordered: { first ≤ longest },
     ghost short: { 1 ≤ least },
     ghost shortest: { least ≤ first },
+}
+
+impl Pace {
+    /// How long the peer may be silent usually, in milliseconds.
+    pub const USUAL_IDLE: u32 = 10_000;
 }

@@ -2,7 +2,7 @@
 
 ghost use Rattle.std.specs.Prelude.{◌≡◌, ◌<◌, ◌≤◌};
 ghost use Rattle.xns_agenda.specs.Measuring.{borne, is_vain};
-ghost use Rattle.xns_agenda.specs.Waiting.{later, next_length, idle_due};
+ghost use Rattle.xns_agenda.specs.Waiting.{later, next_length, idle_due, idle_span};
 ghost use Rattle.xns_agenda.specs.declared.act.Act.TheVariants.{Again, Ask};
 ghost use Rattle.xns_agenda.specs.declared.due.Due.TheVariants.{AgainAt, AskAt};
 
@@ -64,14 +64,26 @@ fn next_length(length: u32, pace: &Pace) -> u32
     }
 }
 
-/// When a peer is asked for which nothing waits.
-fn idle_due(pace: &Pace, heard_at: u64) -> Due
-    ensures { result ≡ idle_due pace.now heard_at }
+/// How long a peer may be silent for which nothing waits; 0: for ever. Where a call wants its answer it may not be for ever.
+fn idle_span(pace: &Pace, wants: bool) -> u32
+    ensures { result ≡ idle_span pace.now wants }
 {
-    if pace.idle == 0 {
+    if pace.idle == 0 && wants {
+        Pace::USUAL_IDLE
+    } else {
+        pace.idle
+    }
+}
+
+/// When a peer is asked for which nothing waits.
+fn idle_due(pace: &Pace, heard_at: u64, wants: bool) -> Due
+    ensures { result ≡ idle_due pace.now heard_at wants }
+{
+    let span = idle_span(pace, wants);
+    if span == 0 {
         Due::Never
     } else {
-        Due::AskAt(later(heard_at, pace.idle))
+        Due::AskAt(later(heard_at, span))
     }
 }
 
@@ -161,27 +173,28 @@ impl Wait {
     }
 
     /// After a step after which nothing waits for the peer.
-    fn idle(&mut self)
-        ensures { self.new ≡ idling self.old self.old.due }
+    fn idle(&mut self, wants: bool)
+        ensures { self.new ≡ idling self.old self.old.due wants }
     {
         match self.due {
             Due::AskAt(_) | Due::ForgetAt(_) => {}
             Due::Never | Due::AgainAt(_) => {
                 self.timing = Timing::Ready;
                 self.rest();
-                self.due = idle_due(&self.pace, self.heard_at);
+                self.due = idle_due(&self.pace, self.heard_at, wants);
             }
         }
     }
 
-    /// After a step of an open connection, where `waits` says whether something waits for the peer. What is due stays so.
-    pub fn step(&mut self, waits: bool, now: u64)
-        ensures { self.new ≡ after_step self.old waits now }
+    /// After a step of an open connection, where `waits` says whether something waits for the peer, and `wants` whether a call wants its
+    /// answer. What is due stays so.
+    pub fn step(&mut self, waits: bool, wants: bool, now: u64)
+        ensures { self.new ≡ after_step self.old waits wants now }
     {
         if waits {
             self.wait_on(now);
         } else {
-            self.idle();
+            self.idle(wants);
         }
     }
 

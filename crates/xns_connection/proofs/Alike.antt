@@ -36,7 +36,7 @@ module _ (now : ℕ) (deed : Deed) (old : Connection) (s : State) (stands : Stan
   abbrev after : Option Why → Result (Unit {0}) FeedRefusal → Scene → Parts
   after closed moved to = record {
     conversation = put old.conversation (shut old.closed closed to);
-    wait = wait_moved old.closed closed (wait_by deed old.wait s now) to.state now;
+    wait = wait_moved old.closed closed (wait_by deed old.wait s now) to now;
     owed = owed_moved (owed_by deed old.owed old.wait s now) (is_starved moved) (waiting_count first.state) (waiting_count to.state);
     closed = closed;
     told = old.told;
@@ -47,7 +47,7 @@ module _ (now : ℕ) (deed : Deed) (old : Connection) (s : State) (stands : Stan
   is_after new step =
       let m = step.on s stands in
       let t : Conversation = put old.conversation (shut old.closed new.closed m.to) in
-      let w : Waiting = wait_moved old.closed new.closed (wait_by deed old.wait s now) m.to.state now in
+      let w : Waiting = wait_moved old.closed new.closed (wait_by deed old.wait s now) m.to now in
       let o : Owed = owed_moved (owed_by deed old.owed old.wait s now) (is_starved step.moved) (waiting_count first.state) (waiting_count m.to.state) in
       ap (λ (c : Conversation). let p : Parts = record { conversation = c; wait = new.wait; owed = new.owed; closed = new.closed; told = new.told } in p)
       (is_put old.conversation new.conversation (shut old.closed new.closed m.to) m.at step.packets)

@@ -2,7 +2,7 @@
 use Rattle.std.proofs.Common.{◌≡◌, ◌≢◌, ◌∙◌, ap, refl, ℕ, Bool, true, false}
 use Rattle.std.specs.Prelude.{◌==◌, if◌then◌else◌}
 use Rattle.xns_connection.specs.Connecting.{is_again, is_open_due, is_closed_due}
-use Rattle.xns_agenda.specs.Waiting.{Waiting, after_step, after_word, after_heard, later, waiting_on, idling}
+use Rattle.xns_agenda.specs.Waiting.{Waiting, after_step, after_word, after_heard, idle_span, later, waiting_on, idling}
 use Rattle.xns_agenda.specs.declared.due.Due.{Due}
 use Rattle.xns_agenda.specs.declared.due.Due.TheVariants.{Never, AgainAt, AskAt, ForgetAt}
 
@@ -15,9 +15,9 @@ again_by w (AskAt t) now is free = refl
 again_by w (ForgetAt t) now is free = absurd (cc)
 
 -- where something waits for the peer, it goes out again
-pub step_again : (w v : Waiting) (b : Bool) (now : ℕ) → is_open_due w.due ≡ true → v ≡ after_step w b now → b ≢ false → is_again v.due ≡ true
-step_again w v true now free is some = ap (λ (u : Waiting). is_again u.due) is ∙ again_by w w.due now refl free
-step_again w v false now free is some = absurd (some refl)
+pub step_again : (w v : Waiting) (b wants : Bool) (now : ℕ) → is_open_due w.due ≡ true → v ≡ after_step w b wants now → b ≢ false → is_again v.due ≡ true
+step_again w v true wants now free is some = ap (λ (u : Waiting). is_again u.due) is ∙ again_by w w.due now refl free
+step_again w v false wants now free is some = absurd (some refl)
 
 idle_open : (b : Bool) (t : ℕ) → is_open_due (if b then Never else AskAt t) ≡ true
 idle_open true t = refl
@@ -29,15 +29,15 @@ waits_open w (AgainAt t) now is free = ap is_open_due is
 waits_open w (AskAt t) now is free = refl
 waits_open w (ForgetAt t) now is free = absurd (cc)
 
-idles_open : (w : Waiting) (d : Due) → w.due ≡ d → is_open_due d ≡ true → is_open_due (idling w d).due ≡ true
-idles_open w Never is free = idle_open (w.pace.idle == 0) (later w.heard_at w.pace.idle)
-idles_open w (AgainAt t) is free = idle_open (w.pace.idle == 0) (later w.heard_at w.pace.idle)
-idles_open w (AskAt t) is free = ap is_open_due is
-idles_open w (ForgetAt t) is free = absurd (cc)
+idles_open : (w : Waiting) (d : Due) (wants : Bool) → w.due ≡ d → is_open_due d ≡ true → is_open_due (idling w d wants).due ≡ true
+idles_open w Never wants is free = idle_open (idle_span w.pace wants == 0) (later w.heard_at (idle_span w.pace wants))
+idles_open w (AgainAt t) wants is free = idle_open (idle_span w.pace wants == 0) (later w.heard_at (idle_span w.pace wants))
+idles_open w (AskAt t) wants is free = ap is_open_due is
+idles_open w (ForgetAt t) wants is free = absurd (cc)
 
-pub step_open : (w v : Waiting) (b : Bool) (now : ℕ) → is_open_due w.due ≡ true → v ≡ after_step w b now → is_open_due v.due ≡ true
-step_open w v true now free is = ap (λ (u : Waiting). is_open_due u.due) is ∙ waits_open w w.due now refl free
-step_open w v false now free is = ap (λ (u : Waiting). is_open_due u.due) is ∙ idles_open w w.due refl free
+pub step_open : (w v : Waiting) (b wants : Bool) (now : ℕ) → is_open_due w.due ≡ true → v ≡ after_step w b wants now → is_open_due v.due ≡ true
+step_open w v true wants now free is = ap (λ (u : Waiting). is_open_due u.due) is ∙ waits_open w w.due now refl free
+step_open w v false wants now free is = ap (λ (u : Waiting). is_open_due u.due) is ∙ idles_open w w.due wants refl free
 
 -- ---- a word of the peer
 

@@ -5,8 +5,8 @@ use Rattle.xns_agenda.specs.Waiting.{HearsAt, StepsAt, Waiting, after_step, afte
 pub no_step : (w v : Waiting) (now : ℕ) → v ≡ w → StepsAt now w v
 no_step w v now same = subst (λ (u : Waiting). StepsAt now w u) (sym same) still
 
-pub one_step : (w v : Waiting) (b : Bool) (now : ℕ) → v ≡ after_step w b now → StepsAt now w v
-one_step w v b now is = subst (λ (u : Waiting). StepsAt now w u) (sym is) (step still b)
+pub one_step : (w v : Waiting) (b wants : Bool) (now : ℕ) → v ≡ after_step w b wants now → StepsAt now w v
+one_step w v b wants now is = subst (λ (u : Waiting). StepsAt now w u) (sym is) (step still b wants)
 
 pub one_close : (w v : Waiting) (now : ℕ) → v ≡ lingering w now → StepsAt now w v
 one_close w v now is = subst (λ (u : Waiting). StepsAt now w u) (sym is) (close still)
@@ -19,5 +19,5 @@ hears_at false w u v more again now same heard steps = word more again (subst (�
 
 pub steps_then : (now : ℕ) (u w : Waiting) {v : Waiting} → StepsAt now u w → StepsAt now w v → StepsAt now u v
 steps_then now u w first still = first
-steps_then now u w first (step next b) = step (steps_then now u w first next) b
+steps_then now u w first (step next b wants) = step (steps_then now u w first next) b wants
 steps_then now u w first (close next) = close (steps_then now u w first next)

@@ -8,7 +8,8 @@ use Rattle.xns_spp.specs.Held.{Held, StandsFor}
 use Rattle.xns_spp.specs.State.{State}
 use Rattle.xns_connection.specs.Deeds.{wait_moved}
 use Rattle.xns_connection.specs.Giving.{Giving, GivesAs, IsGiving, IsShort, at_flush, at_word, else_newer, flushed, giving, newer, next_of, next_unless, older}
-use Rattle.xns_connection.specs.Moving.{HasHistory}
+use Rattle.xns_connection.specs.Moving.{HasHistory, Scene, scene}
+use Rattle.xns_connection.specs.Story.{wants_answer}
 use Rattle.xns_connection.specs.Telling.{waits}
 use Rattle.xns_connection.specs.declared.conversation.Conversation.{Conversation}
 use Rattle.xns_connection.specs.declared.owed.Owed.{Owed}
@@ -80,15 +81,15 @@ pub so_on_err : (r : Result (Option (List ℕ)) AllocError) (b : Bool) → b ≡
 so_on_err (Ok p) b is = tt
 so_on_err (Err e) b is = is
 
-pub waits_closed : (closed : Option Why) (w : Waiting) (s : State) (now : ℕ) → closed ≢ None → w ≡ wait_moved closed closed w s now
-waits_closed (Some x) w s now some = refl
-waits_closed None w s now some = absurd (some refl)
+pub waits_closed : (closed : Option Why) (w : Waiting) (x : Scene) (now : ℕ) → closed ≢ None → w ≡ wait_moved closed closed w x now
+waits_closed (Some y) w x now some = refl
+waits_closed None w x now some = absurd (some refl)
 
-pub unless_closed : (end : Held) (s : State) (closed : Option Why) (w v : Waiting) (now : ℕ) → StandsFor end s
-    → (closed ≡ None → (s : State) → StandsFor end s → v ≡ after_step w (waits s) now) → (closed ≢ None → v ≡ w)
-    → v ≡ wait_moved closed closed w s now
-unless_closed end s (Some x) w v now stands going kept = kept (λ z. cc)
-unless_closed end s None w v now stands going kept = going refl s stands
+pub unless_closed : (t : Conversation) (s : State) (closed : Option Why) (w v : Waiting) (now : ℕ) → StandsFor t.endpoint s
+    → (closed ≡ None → (s : State) → StandsFor t.endpoint s → v ≡ after_step w (waits s) (wants_answer t.side) now) → (closed ≢ None → v ≡ w)
+    → v ≡ wait_moved closed closed w (scene t s) now
+unless_closed t s (Some x) w v now stands going kept = kept (λ z. cc)
+unless_closed t s None w v now stands going kept = going refl s stands
 
 -- whichever it was, the end keeps a history
 pub given_history : (r : Result (Option (List ℕ)) AllocError) (t u : Conversation) (o v : Owed) → HasHistory t.endpoint

@@ -17,8 +17,9 @@ use Rattle.xns_spp.specs.State.{State}
 use Rattle.xns_connection.specs.Connecting.{again_for, goes_again, is_again, is_closed_due, is_foreign, is_open_due, owed_after, owed_heard, wait_heard, why_after}
 use Rattle.xns_connection.specs.Moving.{HasHistory, IsAt, Scene, Settles, is_calm, scene}
 use Rattle.xns_connection.specs.Step.{May, MovesOwed, Step, WaitsBy, is_calm_then, parts_of}
-use Rattle.xns_connection.specs.Deeds.{Deed, Parts, acted, acted_by, given_up, heard, Moved, ClosesThen, GoesOnBy, closed_moved, done, given_up_by, is_starved, owed_by, owed_moved, shut, took, wait_by}
+use Rattle.xns_connection.specs.Deeds.{Deed, Parts, acted, acted_by, given_up, heard, Moved, ClosesThen, GoesOnBy, closed_moved, done, given_up_by, is_starved, owed_by, owed_moved, shut, took, wait_by, wait_moved}
 use Rattle.xns_connection.specs.Closing.{drains}
+use Rattle.xns_connection.specs.Story.{wants_answer}
 use Rattle.xns_connection.specs.Telling.{is_over, is_progress, waits}
 use Rattle.xns_connection.specs.declared.connection.Connection.{Connection}
 use Rattle.xns_connection.specs.declared.conversation.Conversation.{Conversation}
@@ -44,7 +45,7 @@ then_shut now t r None (Some y) w none some why =
 -- it is not
 pub then_open : (now : ℕ) (t : Conversation) (r : Result (Unit {0}) FeedRefusal) (was why : Option Why) (w v : Waiting) → is_some was ≡ false
     → is_some why ≡ false → ((s : State) → StandsFor t.endpoint s → why ≡ why_after t.closing (is_over t.closing s) r)
-    → ((s : State) → StandsFor t.endpoint s → v ≡ after_step w (waits s) now) → StepsAt now w v → ClosesThen now t r t was was w v
+    → ((s : State) → StandsFor t.endpoint s → v ≡ after_step w (waits s) (wants_answer t.side) now) → StepsAt now w v → ClosesThen now t r t was was w v
 then_open now t r (Some x) why w v none not why_is waits_then steps = absurd (cc)
 then_open now t r None (Some y) w v none not why_is waits_then steps = absurd (cc)
 then_open now t r None None w v none not why_is waits_then steps =
@@ -86,7 +87,7 @@ goes_on_by now old mid new r o n was closed w v settles packets next owes = reco
         at = subst (λ (t : Conversation). IsAt t (shut was closed x.0)) (sym next.is) (at_left mid x.0 was closed x.1);
         why = next.why x.0.state x.1.stands ∙ ap (closed_moved was r) (scene_at x.1);
         owes = owes s x.0.state stands x.1.stands;
-        waits = next.waits x.0.state x.1.stands;
+        waits = next.waits x.0.state x.1.stands ∙ ap (λ (y : Scene). wait_moved was closed w y now) (scene_at x.1);
       };
   packets = ap (λ (t : Conversation). t.packets) next.is ∙ packets_left mid was closed ∙ packets;
   stays = next.stays;

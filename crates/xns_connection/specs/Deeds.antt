@@ -18,7 +18,7 @@ use Rattle.xns_spp.specs.Sending.{waiting_count}
 use Rattle.xns_spp.specs.State.{State}
 use Rattle.xns_connection.specs.Connecting.{owed_after, owed_heard, wait_heard, why_after, why_given_up}
 use Rattle.xns_connection.specs.Moving.{Scene, IsAt, Settles, deafened, scene}
-use Rattle.xns_connection.specs.Story.{Story, asked_of, listed_call, waiting_message, with_handed}
+use Rattle.xns_connection.specs.Story.{Story, asked_of, listed_call, waiting_message, wants_answer, with_handed}
 use Rattle.xns_connection.specs.Telling.{is_over, waits}
 use Rattle.xns_connection.specs.declared.conversation.Conversation.{Conversation}
 use Rattle.xns_connection.specs.declared.owed.Owed.{Owed}
@@ -146,10 +146,10 @@ shut None None x = x
 shut None (Some why) x = deafened x
 
 -- and it lingers
-abbrev pub wait_moved : (was closed : Option Why) → Waiting → State → (now : ℕ) → Waiting
-wait_moved (Some why) closed w s now = w
-wait_moved None None w s now = after_step w (waits s) now
-wait_moved None (Some why) w s now = lingering w now
+abbrev pub wait_moved : (was closed : Option Why) → Waiting → Scene → (now : ℕ) → Waiting
+wait_moved (Some why) closed w x now = w
+wait_moved None None w x now = after_step w (waits x.state) (wants_answer x.side) now
+wait_moved None (Some why) w x now = lingering w now
 
 -- what comes is read no more, but for the closing exchange
 abbrev pub given_up : Conversation → Conversation
@@ -167,7 +167,7 @@ pub record ClosesThen (now : ℕ) (old : Conversation) (moved : Result (Unit {0}
   pub why : (s : State) → StandsFor old.endpoint s → closed ≡ closed_moved was moved (scene old s)
   pub stays : was ≢ None → closed ≡ was
   pub is : new ≡ given_up_by was closed old
-  pub waits : (s : State) → StandsFor old.endpoint s → wait_new ≡ wait_moved was closed wait s now
+  pub waits : (s : State) → StandsFor old.endpoint s → wait_new ≡ wait_moved was closed wait (scene old s) now
   pub steps : StepsAt now wait wait_new
 
 -- from this scene, and from what is owed, waited for and told then, what can move moved, and this came of it
@@ -178,7 +178,7 @@ pub record Moved (now : ℕ) (x : Scene) (moved : Result (Unit {0}) FeedRefusal)
   pub at : IsAt new (shut was closed to)
   pub why : closed ≡ closed_moved was moved to
   pub owes : owed_new ≡ owed_moved owed (is_starved moved) (waiting_count x.state) (waiting_count to.state)
-  pub waits : wait_new ≡ wait_moved was closed wait to.state now
+  pub waits : wait_new ≡ wait_moved was closed wait to now
 
 -- the same of the parts of a connection, whatever the history of its end
 pub record GoesOnBy (now : ℕ) (old new : Conversation) (owed owed_new : Owed) (was closed : Option Why) (wait wait_new : Waiting)

@@ -15,7 +15,7 @@ use Rattle.xns_connection.specs.Giving.{Giving, GivesAs, IsGiving, IsShort, givi
 use Rattle.xns_connection.specs.Living.{GoesFrom}
 use Rattle.xns_connection.specs.Moving.{is_calm, scene}
 use Rattle.xns_connection.specs.Reasons.{answer_fault_of, call_fault_of}
-use Rattle.xns_connection.specs.Story.{Story, waiting_message}
+use Rattle.xns_connection.specs.Story.{Story, waiting_message, wants_answer}
 use Rattle.xns_connection.specs.Telling.{waits as waits_for}
 use Rattle.xns_connection.specs.Telling.{CalmFrom, Goes, HasSaidEnd, HasSaidReply, MovesAndGives, OwesRoom, ReadsAll, Rested}
 use Rattle.xns_connection.specs.declared.connection.Connection.{Connection}
@@ -30,7 +30,7 @@ pub record IsMade (pace : Pace) (now : ℕ) (again : Bool) (c : Connection) : Ty
   pub unclosed : c.closed ≡ None
   pub untold : c.told ≡ false
   pub owes : c.owed ≡ record NONE { again = again }
-  pub waits : (s : State) → StandsFor c.conversation.endpoint s → c.wait ≡ after_step (new_waiting pace now) (waits_for s) now
+  pub waits : (s : State) → StandsFor c.conversation.endpoint s → c.wait ≡ after_step (new_waiting pace now) (waits_for s) (wants_answer c.conversation.side) now
   pub began : StepsAt now (new_waiting pace now) c.wait
 
 -- ---- a step
@@ -106,7 +106,7 @@ pub record GivesNext (now : ℕ) (result : Result (Option (List ℕ)) AllocError
   pub beside : (new.conversation.side ≡ mid.conversation.side) × (new.conversation.closing ≡ mid.conversation.closing)
   pub closed : new.closed ≡ mid.closed
   pub told : new.told ≡ mid.told
-  pub waits : (s : State) → StandsFor new.conversation.endpoint s → new.wait ≡ wait_moved mid.closed mid.closed mid.wait s now
+  pub waits : (s : State) → StandsFor new.conversation.endpoint s → new.wait ≡ wait_moved mid.closed mid.closed mid.wait (scene new.conversation s) now
   pub steps : StepsAt now old.wait new.wait
 
 -- a connection owes no EndReply any longer, unless memory was refused while items moved, or this step closed it

@@ -92,6 +92,11 @@ abbrev pub has_call : Side → Bool
 has_call (Calls t) = t.waiting
 has_call (Answers a) = is_busy a
 
+-- a call of its own wants its answer
+abbrev pub wants_answer : Side → Bool
+wants_answer (Calls t) = t.waiting
+wants_answer (Answers a) = false
+
 -- a call whose program and version are listed
 abbrev pub listed_call : List Program → Option Message → Option Message
 listed_call programs None = None

@@ -13,6 +13,7 @@ ghost use Rattle.xns_connection.specs.Closing.{drains};
 ghost use Rattle.xns_connection.specs.Connecting.{is_again, is_open_due, is_closed_due, why_after, owed_after, again_for, is_foreign, is_repeat};
 ghost use Rattle.xns_connection.specs.Moving.{HasHistory};
 ghost use Rattle.xns_connection.specs.Deeds.{ClosesThen, GoesOnBy, is_starved};
+ghost use Rattle.xns_connection.specs.Story.{wants_answer};
 ghost use Rattle.xns_connection.specs.Telling.{waits};
 ghost use Rattle.xns_agenda.specs.Waiting.{StepsAt, after_step, after_word};
 ghost use Rattle.xns_agenda.specs.declared.act.Act.TheVariants.{GiveUp};
@@ -40,12 +41,13 @@ fn is_foreign(dropped: Option<Dropped>) -> bool
 #[tactic(auto, using(crate::proofs::Moments::one_step))]
 pub fn wait_on(conversation: &Conversation, wait: &mut Wait, now: u64)
     requires { is_open_due wait.old.due ≡ true }
-    ensures waits { (s : State) → StandsFor conversation.now.endpoint s → wait.new ≡ after_step wait.old (waits s) now }
+    ensures waits { (s : State) → StandsFor conversation.now.endpoint s
+        → wait.new ≡ after_step wait.old (waits s) (wants_answer conversation.now.side) now }
     ensures steps { StepsAt now wait.old wait.new }
     ensures timed { (s : State) → StandsFor conversation.now.endpoint s → tick_answer s ≢ [] → is_again wait.new.due ≡ true }
     ensures open_due { is_open_due wait.new.due ≡ true }
 {
-    wait.step(conversation.waits(), now);
+    wait.step(conversation.waits(), conversation.side.wants_answer(), now);
 }
 
 /// Notes why a connection is closed after its items moved, if it is, and what is waited for then.
@@ -191,7 +193,8 @@ pub fn owed_after(owed: Owed, act: Act) -> Owed
 pub fn wait_unless(conversation: &Conversation, closed: Option<Why>, wait: &mut Wait, now: u64)
     requires open_due { closed ≡ None → is_open_due wait.old.due ≡ true }
     ensures kept { closed ≢ None → wait.new ≡ wait.old }
-    ensures waits { closed ≡ None → (s : State) → StandsFor conversation.now.endpoint s → wait.new ≡ after_step wait.old (waits s) now }
+    ensures waits { closed ≡ None → (s : State) → StandsFor conversation.now.endpoint s
+        → wait.new ≡ after_step wait.old (waits s) (wants_answer conversation.now.side) now }
     ensures timed { closed ≡ None → (s : State) → StandsFor conversation.now.endpoint s → tick_answer s ≢ []
         → is_again wait.new.due ≡ true }
     ensures open_due { closed ≡ None → is_open_due wait.new.due ≡ true }

@@ -7,7 +7,7 @@ ghost use Rattle.xns_spp.specs.Held.{StandsFor};
 ghost use Rattle.xns_spp.specs.Sending.{waiting_count};
 ghost use Rattle.xns_spp.specs.State.{State};
 ghost use Rattle.xns_connection.specs.Story.{IsListed, IsUnlisted, is_stopped, out_of, has_call};
-ghost use Rattle.xns_connection.specs.Story.{has_message, waiting_message};
+ghost use Rattle.xns_connection.specs.Story.{has_message, waiting_message, wants_answer};
 ghost use Rattle.xns_connection.specs.Moving.{Converses, Pumps, Rejects};
 ghost use Rattle.xns_connection.specs.Deeds.{side_answered, side_called, side_taken};
 ghost use Rattle.xns_connection.specs.Refusing.{Answers, side_call_fault, side_answer_fault, call_result, answer_result};
@@ -82,6 +82,16 @@ impl Side {
         match self {
             Side::Calls(caller) => caller.is_waiting(),
             Side::Answers(server) => server.is_busy(),
+        }
+    }
+
+    /// Whether a call of its own wants its answer.
+    pub fn wants_answer(&self) -> bool
+        ensures { result ≡ wants_answer self.now }
+    {
+        match self {
+            Side::Calls(caller) => caller.is_waiting(),
+            Side::Answers(_) => false,
         }
     }
 

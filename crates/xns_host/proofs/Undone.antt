@@ -31,19 +31,19 @@ linger_on w (AgainAt t) now is at = absurd (cc)
 linger_on w (AskAt t) now is at = absurd (cc)
 linger_on w (ForgetAt t) now is at = at
 
-linger_idle : (w : Waiting) (d : Due) → is_lingering d ≡ true → is_lingering w.due ≡ true → is_lingering (idling w d).due ≡ true
-linger_idle w Never is at = absurd (cc)
-linger_idle w (AgainAt t) is at = absurd (cc)
-linger_idle w (AskAt t) is at = absurd (cc)
-linger_idle w (ForgetAt t) is at = at
+linger_idle : (w : Waiting) (d : Due) (wants : Bool) → is_lingering d ≡ true → is_lingering w.due ≡ true → is_lingering (idling w d wants).due ≡ true
+linger_idle w Never wants is at = absurd (cc)
+linger_idle w (AgainAt t) wants is at = absurd (cc)
+linger_idle w (AskAt t) wants is at = absurd (cc)
+linger_idle w (ForgetAt t) wants is at = at
 
-linger_step : (w : Waiting) (b : Bool) (now : ℕ) → is_lingering w.due ≡ true → is_lingering (after_step w b now).due ≡ true
-linger_step w true now at = linger_on w w.due now at at
-linger_step w false now at = linger_idle w w.due at at
+linger_step : (w : Waiting) (b wants : Bool) (now : ℕ) → is_lingering w.due ≡ true → is_lingering (after_step w b wants now).due ≡ true
+linger_step w true wants now at = linger_on w w.due now at at
+linger_step w false wants now at = linger_idle w w.due wants at at
 
 lingers_on : (now : ℕ) (w : Waiting) {v : Waiting} → is_lingering w.due ≡ true → StepsAt now w v → is_lingering v.due ≡ true
 lingers_on now w at still = at
-lingers_on now w at (step {v = u} next b) = linger_step u b now (lingers_on now w at next)
+lingers_on now w at (step {v = u} next b wants) = linger_step u b wants now (lingers_on now w at next)
 lingers_on now w at (close next) = refl
 
 linger_heard : (w : Waiting) (d : Due) (more again : Bool) (now : ℕ) → is_lingering d ≡ true → is_lingering w.due ≡ true → is_lingering (after_heard w d more again now).due ≡ true

@@ -6,6 +6,7 @@ use Rattle.xns_connection.specs.declared.connection.Connection.{Connection}
 use Rattle.xns_connection.specs.declared.terms.Terms.{Terms}
 use Rattle.xns_host.specs.declared.host_fault.HostFault.{HostFault}
 use Rattle.xns_host.specs.declared.host_fault.HostFault.TheVariants.{OutOfRange}
+use Rattle.xns_agenda.specs.Waiting.{usual_idle}
 use Rattle.xns_agenda.specs.declared.pace.Pace.{Pace}
 use Rattle.xns_host.specs.declared.setting.Setting.{Setting}
 use Rattle.xns_host.specs.declared.setting.Setting.TheVariants.{Connections, Window, Backlog, FirstWait, LongestWait, Tries, Strays}
@@ -19,7 +20,7 @@ usual_settings = record {
   backlog = 16;
   first_wait = 250;
   longest_wait = 8000;
-  idle = 10000;
+  idle = usual_idle;
   tries = 8;
   strays = 16;
   answers_echo = true;

@@ -23,7 +23,8 @@ pub struct Settings {
     pub first_wait: u32,
     /// The longest wait: from `first_wait`.
     pub longest_wait: u32,
-    /// How long the peer may be silent before it is asked for a word, where nothing waits for it. 0: it is never asked.
+    /// How long the peer may be silent before it is asked for a word, where nothing waits for it. 0: it is never asked, but after 10 seconds
+    /// while a call wants its answer.
     pub idle: u32,
     /// How many waits without a word of the peer are borne: from 1. After one more it is given up. Measured waits that are shorter than the
     /// first one do not count.
@@ -44,7 +45,7 @@ impl Default for Settings {
             backlog: 16,
             first_wait: 250,
             longest_wait: 8_000,
-            idle: 10_000,
+            idle: Pace::USUAL_IDLE,
             tries: 8,
             strays: 16,
             answers_echo: true,

@@ -3,6 +3,7 @@ use Rattle.xns_connection.proofs.Dead.{dead_closed}
 use Rattle.xns_connection.proofs.Moments.{steps_then}
 use Rattle.xns_connection.proofs.Nexts.{given_history, next_alive, none_dead, so_on_err, unless_closed, waits_closed}
 use Rattle.xns_connection.specs.Connecting.{is_dead}
+use Rattle.xns_connection.specs.Moving.{scene}
 use Rattle.xns_connection.specs.Step.{GivesNext}
 use Rattle.xns_connection.proofs.Steps.{moved_steps}
 use Rattle.xns_connection.proofs.connection.Connection.next_packet.Goals as goal
@@ -19,7 +20,7 @@ returns c = let step : GivesNext c.args.now _ c.args.self.now _ = record {
   beside = c.next_packet-packet.ensures.side;
   closed = refl;
   told = refl;
-  waits = λ s stands. unless_closed c.next_packet-packet.new.self.endpoint s c.move_owed.new.self.closed c.move_owed.new.self.wait c.wait_unless.new.wait c.args.now stands
+  waits = λ s stands. unless_closed c.next_packet-packet.new.self s c.move_owed.new.self.closed c.move_owed.new.self.wait c.wait_unless.new.wait c.args.now stands
       c.wait_unless.ensures.waits c.wait_unless.ensures.kept;
   steps = steps_then _ _ _ (moved_steps c.args.self.now.owed.moving c.args.now c.args.self.now c.move_owed.new.self c.move_owed.ensures.moved) c.wait_unless.ensures.steps;
 } in record { step = step }
@@ -35,7 +36,7 @@ returns-then-is_dead c = let step : GivesNext c.args.now _ c.args.self.now _ = r
   beside = (refl, refl);
   closed = refl;
   told = refl;
-  waits = λ s stands. waits_closed c.move_owed.new.self.closed c.move_owed.new.self.wait s c.args.now (dead_closed c.move_owed.new.self.closed (search rules));
+  waits = λ s stands. waits_closed c.move_owed.new.self.closed c.move_owed.new.self.wait (scene c.move_owed.new.self.conversation s) c.args.now (dead_closed c.move_owed.new.self.closed (search rules));
   steps = moved_steps c.args.self.now.owed.moving c.args.now c.args.self.now c.move_owed.new.self c.move_owed.ensures.moved;
 } in record { step = step }
 
