@@ -4,7 +4,7 @@
     random_notation.py --directed DIR      writes a case for each reason and limit that random cases seldom meet: DIR/NAME
 
 A case is a folder: a.courier and b.courier, the second of which depends upon the first; lines, as tests/notation_account.py takes them;
-and answers, which is what that account says. Of random cases every second has a token gone, doubled or changed.
+and answers, which is what that account says. Of random cases every second has a token gone, doubled or changed, or two exchanged.
 """
 
 import os
@@ -227,19 +227,25 @@ def lines_of(dice, programs):
     return lines
 
 
+def end_of(text, place):
+    """The end of the token at a place; of a string, of its quote."""
+    end = place + 1
+    while end < len(text) and text[end : end + 1].isalnum() and text[place : place + 1].isalnum():
+        end += 1
+    return end
+
+
 def mutated(dice, text):
-    """The text with one token or byte gone, doubled or changed; in every second case a name is exchanged for another."""
+    """The text with one token or byte gone, doubled or changed, or two tokens exchanged; every second time with one name in the place of another."""
     tokens = ref.lex(text)
     if dice.random() < 0.5:
         names = [(word, place) for kind, word, place in tokens if kind == "name"]
         word, place = dice.choice(names)
         return text[:place] + dice.choice(names)[0].encode() + text[place + len(word) :]
     kind, _, place = dice.choice(tokens)
-    end = place + 1
-    while end < len(text) and text[end : end + 1].isalnum() and text[place : place + 1].isalnum():
-        end += 1
+    end = end_of(text, place)
     token = text[place:end]
-    change = dice.randrange(5)
+    change = dice.randrange(6)
     if change == 0:
         return text[:place] + text[end:]
     if change == 1:
@@ -250,6 +256,12 @@ def mutated(dice, text):
     if change == 3:
         _, _, other = dice.choice(tokens)
         return text[:place] + text[other : other + (end - place)] + text[end:]
+    if change == 4:
+        one, other = sorted(dice.choice(tokens)[2] for _ in range(2))
+        if one == other:
+            return text
+        behind, last = end_of(text, one), end_of(text, other)
+        return text[:one] + text[other:last] + text[behind:other] + text[one:behind] + text[last:]
     at = dice.randrange(len(text))
     return text[:at] + bytes([dice.randrange(256)]) + text[at + 1 :]
 

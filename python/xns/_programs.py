@@ -119,8 +119,8 @@ class Procedure:
 
 
 class Program:
-    """A program that was read. Its errors, types and constants are its attributes, as `program.Limit`; of a name that is none of those, as `client`, see
-    `declared`. `client` gives a typed client, `server` a typed server."""
+    """A program that was read. Its errors, its types but for recursive ones, and its constants that are numbers are its attributes, as `program.Limit`. What has
+    the name of a method, as `client`, is in `declared`. `client` gives a typed client, `server` a typed server."""
 
     def __init__(self, name: str, number: int, version: int, table: List[Node]) -> None:
         self.name, self.number, self.version = name, number, version
@@ -149,7 +149,7 @@ class Program:
         declared = self.__dict__.get("declared", {})
         if name in declared:
             return declared[name]
-        raise AttributeError(f"the program declares no {name}")
+        raise AttributeError(f"the program has no error, no number and no type that is not recursive by the name {name}")
 
     def __dir__(self) -> List[str]:
         return [*super().__dir__(), *self.declared]

@@ -76,6 +76,9 @@ class ReadingTest(unittest.TestCase):
             programs["Filing"]
         with self.assertRaises(AttributeError):
             programs["Tally"].Sub
+        self.assertEqual(programs["Clearinghouse"].WhichArgument.second, 2)
+        with self.assertRaises(AttributeError):
+            programs["Clearinghouse"].StreamOfOrganization
 
     def test_faults(self):
         programs = xns.Programs()

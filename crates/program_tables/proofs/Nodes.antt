@@ -1,10 +1,8 @@
--- Parts counted and appended, and types as they are seen.
-use Rattle.std.proofs.Common.{◌≡◌, ◌≢◌, ◌<◌, ℕ, zero, suc, ◌+◌, List, [], ◌∷◌, ◌++◌, drop, get_or, Vec, Global, Result, Ok, Err, OnErr, OnOk, map, length, refl, sym, ap, ◌∙◌, append_assoc, arith, rules}
-use Rattle.courier_texts.specs.declared.named.Named.{Named, Record, Choice, the_lemmas}
-use Rattle.courier_texts.specs.Named.{NamedModel, component_and, variant_and, component_models, variant_models, named_model, components_seen as level_components, variants_seen as level_variants}
-use Rattle.std.proofs.lemmas.List.{drop_more}
+-- Parts counted and appended.
+use Rattle.std.proofs.Common.{◌≡◌, ◌≢◌, ℕ, zero, suc, ◌+◌, List, [], ◌∷◌, ◌++◌, drop, Vec, Global, Result, Ok, Err, OnErr, OnOk, map, length, refl, sym, ap, ◌∙◌, append_assoc, arith}
 use Rattle.std.specs.List.{flat_map}
-use Rattle.courier_programs.specs.Meanings.{components_seen, components_from}
+use Rattle.courier_texts.specs.declared.named.Named.{Named}
+use Rattle.courier_texts.specs.Named.{NamedModel, component_models, variant_models}
 use Rattle.program_tables.specs.Tables.{NodeModel, component_count, component_nodes, node, type_nodes, variant_count, variant_nodes}
 use Rattle.program_tables.specs.declared.node.NodeKind.TheVariants as kinds
 
@@ -15,30 +13,6 @@ components_counted (x ∷ xs) = let rest = components_counted xs in omega (arith
 pub variants_counted : (xs : List (Vec ℕ Global × (ℕ × Named))) → variant_count (variant_models xs) ≡ length xs
 variants_counted [] = refl
 variants_counted (x ∷ xs) = let rest = variants_counted xs in omega (arith, rest)
-
-pub components_are : (xs : List (Vec ℕ Global × Named)) → component_models xs ≡ components_from (components_seen xs)
-components_are [] = refl
-components_are (x ∷ xs) = ap (component_and x.0.items (named_model x.1)) (components_are xs)
-
-components_level : (xs : List (Vec ℕ Global × Named)) → level_components (map (λ c. (c.0, named_model c.1)) xs) ≡ component_models xs
-components_level [] = refl
-components_level (x ∷ xs) = ap (component_and x.0.items (named_model x.1)) (components_level xs)
-
-record_level : (v : Vec (Vec ℕ Global × Named) Global) → named_model (Record v) ≡ NamedModel.components (level_components (map (λ c. (c.0, named_model c.1)) v.items))
-record_level v = search (rules, the_lemmas)
-
-pub named_record : (v : Vec (Vec ℕ Global × Named) Global) → named_model (Record v) ≡ NamedModel.components (component_models v.items)
-named_record v = record_level v ∙ ap NamedModel.components (components_level v.items)
-
-variants_level : (xs : List (Vec ℕ Global × (ℕ × Named))) → level_variants (map (λ c. (c.0, (c.1.0, named_model c.1.1))) xs) ≡ variant_models xs
-variants_level [] = refl
-variants_level (x ∷ xs) = ap (variant_and x.0.items x.1.0 (named_model x.1.1)) (variants_level xs)
-
-choice_level : (v : Vec (Vec ℕ Global × (ℕ × Named)) Global) → named_model (Choice v) ≡ NamedModel.choice (level_variants (map (λ c. (c.0, (c.1.0, named_model c.1.1))) v.items))
-choice_level v = search (rules, the_lemmas)
-
-pub named_choice : (v : Vec (Vec ℕ Global × (ℕ × Named)) Global) → named_model (Choice v) ≡ NamedModel.choice (variant_models v.items)
-named_choice v = choice_level v ∙ ap NamedModel.choice (variants_level v.items)
 
 -- ---- a record or a choice, in front of its parts
 
@@ -86,9 +60,6 @@ type_is_there name (NamedModel.choice parts) = λ e. absurd cc
 pub both_empty : {A : Type 0} (xs ys : List A) → xs ++ ys ≡ [] → (xs ≡ []) × (ys ≡ [])
 both_empty [] ys e = (refl, e)
 both_empty (x ∷ xs) ys e = absurd cc
-
-pub item_here : {X : Type 0} (xs : List X) (i : ℕ) (x : X) → i < length xs → x ≡ get_or xs i x → drop i xs ≡ x ∷ drop (i + 1) xs
-item_here xs i x lt e = drop_more xs i x lt ∙ ap (λ y. y ∷ drop (i + 1) xs) (sym e)
 
 -- what one of them has, all of them have
 pub one_of_them : {A B C : Type 0} (f : B → List C) (g : A → B) (xs : List A) (i : ℕ) (x : A) (rest : List A) → drop i xs ≡ x ∷ rest → f (g x) ≢ [] → flat_map f (map g xs) ≢ []

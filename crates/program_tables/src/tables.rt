@@ -1,6 +1,6 @@
 //! Programs as tables.
 
-ghost use Rattle.std.specs.Prelude.{◌≡◌, ◌≢◌, ◌++◌, ◌∷◌, [], IfOk, OnErr, OnOk, map};
+ghost use Rattle.std.specs.Prelude.{◌≡◌, ◌≢◌, ◌++◌, ◌∷◌, ◌<◌, [], IfOk, OnErr, OnOk, length, map};
 ghost use Rattle.std.specs.List.{flat_map};
 ghost use Rattle.courier_texts.specs.Named.{NamedModel, component_models, members_seen, named_model, variant_models};
 ghost use Rattle.courier_programs.specs.Meanings.{error_model, fields_model, meaning_model, meanings_seen, procedure_model, resolved_model};
@@ -39,7 +39,8 @@ fn append_members(
     out: &mut Vec<Node>,
     members: &[(Vec<u8>, u16)],
 ) -> Result<(), AllocError>
-    ensures { OnOk result (nodes_seen out.new.items ≡ nodes_seen out.old.items ++ map member_node (members_seen members.now)) }
+    ensures nodes { OnOk result (nodes_seen out.new.items ≡ nodes_seen out.old.items ++ map member_node (members_seen members.now)) }
+    ensures memory { OnErr result (0 < length members.now) }
 {
     for member in members {
         append_node(
@@ -62,7 +63,8 @@ fn append_components(
     out: &mut Vec<Node>,
     components: &[(Vec<u8>, Named)],
 ) -> Result<(), AllocError>
-    ensures { OnOk result (nodes_seen out.new.items ≡ nodes_seen out.old.items ++ component_nodes (component_models components.now)) }
+    ensures nodes { OnOk result (nodes_seen out.new.items ≡ nodes_seen out.old.items ++ component_nodes (component_models components.now)) }
+    ensures memory { OnErr result (0 < length components.now) }
 {
     for component in components {
         append_type(alloc, out, &component.0, &component.1)?;
@@ -100,7 +102,8 @@ fn append_variants(
     out: &mut Vec<Node>,
     variants: &[(Vec<u8>, (u16, Named))],
 ) -> Result<(), AllocError>
-    ensures { OnOk result (nodes_seen out.new.items ≡ nodes_seen out.old.items ++ variant_nodes (variant_models variants.now)) }
+    ensures nodes { OnOk result (nodes_seen out.new.items ≡ nodes_seen out.old.items ++ variant_nodes (variant_models variants.now)) }
+    ensures memory { OnErr result (0 < length variants.now) }
 {
     for variant in variants {
         append_candidate(alloc, out, &variant.0, variant.1.0, &variant.1.1)?;

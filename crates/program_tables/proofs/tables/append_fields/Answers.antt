@@ -1,4 +1,4 @@
-use Rattle.program_tables.proofs.Nodes.{components_are}
+use Rattle.courier_programs.proofs.Models.{components_are}
 use Rattle.program_tables.proofs.tables.append_fields.Goals as goal
 
 pub returns : goal.returns
