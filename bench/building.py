@@ -10,6 +10,10 @@ TIRPC = ("-I/usr/include/tirpc", "-ltirpc")
 @functools.cache
 def built_program(crate):
     """The program of a crate, proved and built."""
+    if "XNS_PROGRAMS" in os.environ:
+        program = pathlib.Path(os.environ["XNS_PROGRAMS"]).resolve() / crate
+        print(f"a try: the program is {program}, which was not built and proved here")
+        return program
     program = CRATES / crate / "out" / crate
     program.unlink(missing_ok=True)
     built = subprocess.run(["rt", "run"], cwd=CRATES / crate, stdin=subprocess.DEVNULL, stdout=subprocess.DEVNULL, stderr=subprocess.PIPE, check=False)

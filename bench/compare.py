@@ -2,6 +2,7 @@
 """Times a proved program beside a plain Rust peer, five runs of each in turn, or fifteen of `exchange` and `calls`, which scatter, and
 prints the medians and their ratio.
 
+    python3 bench/compare.py readme       README's table, in some ten minutes once all is built; with --write behind it stands in README
     python3 bench/compare.py all          all of those below, and then the table of their ratios, with the peer of each, the processor and the compilers
     python3 bench/compare.py checksum     the cycle checksum of a million packets of 576 bytes
     python3 bench/compare.py values       Courier values read, read over pieces, and written; the least time of many
@@ -34,78 +35,25 @@ prints the medians and their ratio.
                                           for all; processor time and instructions likewise
 
 What needs gcc, libtirpc or valgrind is left out where that is not installed, and a line says so. If XNS_ARCHIVE is in the environment, it names the
-library for C, as `rt lib` makes it, and none is built: for a try.
+library for C, as `rt lib` makes it, and none is built: for a try. XNS_PROGRAMS likewise names a folder with the programs of the crates.
 
 The proved program is built by `rt run` in its crate, the peer by `rustc -O`. Absolute times say little on a shared machine; the
 ratio is of processor time in one run. What is printed is thrown away, once it is known that both print the same; that of `xns dump` goes
 into a file too, which costs both the same time of the system's.
 """
-import os, pathlib, re, statistics, subprocess, sys, tempfile, time
+import os, pathlib, statistics, subprocess, sys, tempfile
 
-from building import BENCH, EXAMPLES, TIRPC, built_c, built_peer, built_program, built_shared, has_gcc, has_tirpc, has_valgrind
-from loopback import Kind, bare_datagrams, compare_kinds, onc_rpc, ours_over_udp
-
-RUNS = 5
-MANY_RUNS = 15
-
-
-def output_of(words, given):
-    with open(given, "rb") as lines:
-        return subprocess.run(words, stdin=lines, stdout=subprocess.PIPE, check=False).stdout
-
-
-def made_by(script, *words):
-    return subprocess.run([sys.executable, BENCH / script, *words], stdout=subprocess.PIPE, check=True).stdout
-
-
-def seconds_of(words, given, to=os.devnull):
-    """Processor seconds of one run, whose output goes to a file."""
-    with open(given, "rb") as lines, open(to, "wb") as output:
-        started = subprocess.Popen(words, stdin=lines, stdout=output)
-        _, _, used = os.wait4(started.pid, 0)
-        return used.ru_utime + used.ru_stime
-
-
-def held_by(words, given):
-    """The most memory that one run holds, in KiB, as its process tells while it runs."""
-    most = 0
-    with open(given, "rb") as lines, subprocess.Popen(words, stdin=lines, stdout=subprocess.DEVNULL) as started:
-        while started.poll() is None:
-            status = pathlib.Path(f"/proc/{started.pid}/status").read_text()
-            most = max([most, *(int(line.split()[1]) for line in status.splitlines() if line.startswith("VmHWM"))])
-            time.sleep(0.005)
-    return most
-
-
-def instructions_of(words, given):
-    """How many instructions one run has, by callgrind."""
-    with open(given, "rb") as lines, tempfile.NamedTemporaryFile() as found:
-        counting = ["valgrind", "--tool=callgrind", f"--callgrind-out-file={found.name}"]
-        said = subprocess.run([*counting, *words], stdin=lines, stdout=subprocess.DEVNULL, stderr=subprocess.PIPE, check=False, text=True).stderr
-    return int(re.search(r"Collected : ([0-9]+)", said).group(1))
-
-
-def compare(ours, peer, given, to=os.devnull, runs=RUNS):
-    if output_of(ours, given) != output_of(peer, given):
-        sys.exit("the two programs print different things")
-    times = {"ours": [], "peer": []}
-    for _ in range(runs):
-        for name, words in (("ours", ours), ("peer", peer)):
-            times[name].append(seconds_of(words, given, to))
-    medians = {name: statistics.median(spent) for name, spent in times.items()}
-    print(f"ours {medians['ours']:.3f} s, peer {medians['peer']:.3f} s: the peer takes {medians['peer'] / medians['ours']:.1f} times as long, ours {medians['ours'] / medians['peer']:.2f} of its time")
-    return medians
-
+from building import built_c, built_peer, built_program, has_gcc, has_valgrind
+from kinds import RUNS_OF, WINDOWS, add_kinds, bare_adds, large_kinds, large_onc, python_kinds
+from loopback import compare_kinds
+from measuring import MANY_RUNS, RUNS, compare, held_by, instructions_of, made_by, output_of, ratio_of, seconds_of
+from readme import made_table, write_table
 
 def nanoseconds_of(words):
     """What a program of values found: its lines of counts, and the nanoseconds by value and kind of work."""
     lines = subprocess.run([*words, "200"], stdout=subprocess.PIPE, check=True, text=True).stdout.splitlines()
     counts = [line for line in lines if line.endswith(" words")]
     return counts, {line.rsplit(" ", 1)[0]: int(line.rsplit(" ", 1)[1]) for line in lines if line not in counts}
-
-
-def ratio_of(medians):
-    return medians["ours"] / medians["peer"]
 
 
 def compare_values(ours, peer):
@@ -244,43 +192,22 @@ def time_captures(folder, given):
         yield f"`xns calls x.pcap` of 65,536 packets, {which}", "captures_peer", ratio
 
 
-CALL_SIZES = (56, 50)  # bytes of the packets of a call Add, and of its answer
-LARGE, LARGE_ITEMS = 100_000, 188  # bytes there and back, and the packets that they fill
-LARGE_SIZES = (576, 576)
-
-
 def time_loopback(folder, _given):
     if not has_gcc():
         return
-    server = built_c("server", folder, True, source=EXAMPLES / "c")
-    client, back, bare = (built_c(name, folder, name != "datagrams") for name in ("udp_calls", "udp_back", "datagrams"))
-    onc = built_c("onc_calls", folder, False, *TIRPC) if has_tirpc() else None
-    adds = [ours_over_udp(server, client, 0), *([onc_rpc(onc, carrier, 0) for carrier in ("udp", "tcp")] if onc else [])]
-    alone = [bare_datagrams(bare, kind, CALL_SIZES, 1, 2) for kind in ("batched", "single")]
-    yield from compare_kinds("a call Add over loopback", [*adds, *alone], RUNS, 50_000, 2_000)
-    yield from compare_kinds("the same of 16 clients at once", adds, RUNS, 10_000, 250, clients=16)
-    for name, given, window in (("the default window", 0, 8), ("window 64", 64, 64)):
-        kinds = [ours_over_udp(back, client, LARGE, given), *(bare_datagrams(bare, kind, LARGE_SIZES, LARGE_ITEMS, window) for kind in ("batched", "single"))]
-        yield from compare_kinds(f"100,000 bytes there and back, {name}", [*kinds, *([onc_rpc(onc, "tcp", LARGE)] if onc else [])], RUNS, 300, 20)
+    adds = add_kinds(folder, "udp", "tcp")
+    yield from compare_kinds("a call Add over loopback", [*adds, *bare_adds(folder, "batched", "single")], RUNS, *RUNS_OF["add"])
+    yield from compare_kinds("the same of 16 clients at once", adds, RUNS, *RUNS_OF["crowd"], clients=16)
+    for name in WINDOWS:
+        kinds = [*large_kinds(folder, name, "batched", "single"), *large_onc(folder)]
+        yield from compare_kinds(f"100,000 bytes there and back, {name}", kinds, RUNS, *RUNS_OF["large"])
 
 
 def time_python(folder, _given):
     if not has_gcc():
         return
-    tally, script = EXAMPLES / "python" / "tally.py", BENCH / "python_calls.py"
-    paths = f"{BENCH.parent / 'python'}:{tally.parent}"
-    environment = {"PYTHONPATH": paths, "XNS_LIBRARY": str(built_shared(folder)), "PYTHONHASHSEED": "0", "PYTHONDONTWRITEBYTECODE": "1"}
-    ours = Kind("ours", lambda port: [sys.executable, tally, "serve", port], lambda port, calls: [sys.executable, script, "xns", "ask", port, calls])
-    theirs = [
-        Kind(
-            f"xmlrpc, {kind.upper().replace('HTTP', 'HTTP/')}",
-            lambda port, kind=kind: [sys.executable, script, kind, "serve", port],
-            lambda port, calls, kind=kind: [sys.executable, script, kind, "ask", port, calls],
-            is_tcp=True,
-        )
-        for kind in ("http1.0", "http1.1")
-    ]
-    yield from compare_kinds("a call Add of Python over loopback", [ours, *theirs], RUNS, 3_000, 300, environment=environment)
+    kinds, environment = python_kinds(folder, "1.0", "1.1")
+    yield from compare_kinds("a call Add of Python over loopback", kinds, RUNS, *RUNS_OF["python"], environment=environment)
 
 
 TIMINGS = {
@@ -308,22 +235,34 @@ def processor():
     return f"{len(names)} x {names[0]}" if names else f"{os.cpu_count()} processors without a name"
 
 
+def circumstances(before):
+    after = os.getloadavg()[0]
+    return f"Processor {processor()}, load {before:.1f} before and {after:.1f} after. Ours by {first_line('rt', 'version')}; the peers in bench/ by {first_line('rustc', '--version')}, `rustc -O`."
+
+
 def print_table(rows, before):
     """The rows as a table in Markdown, under what they were measured on."""
-    after = os.getloadavg()[0]
-    print(f"\nProcessor {processor()}, load {before:.1f} before and {after:.1f} after. Ours by {first_line('rt', 'version')}; the peers in bench/ by {first_line('rustc', '--version')}, `rustc -O`.\n")
-    print("| What | Peer | Ratio |\n|---|---|---|")
+    print(f"\n{circumstances(before)}\n\n| What | Peer | Ratio |\n|---|---|---|")
     for what, peer, ratio in rows:
         print(f"| {what} | {peer} | {ratio:.2f} |")
 
 
+def print_readme(folder, is_written, before):
+    table = made_table(folder)
+    print(f"\n{circumstances(before)}\n\n{table}", end="")
+    if is_written:
+        write_table(table)
+
+
 def main():
-    which = sys.argv[1] if len(sys.argv) == 2 else ""
-    if which not in TIMINGS and which != "all":
+    which, further = sys.argv[1] if len(sys.argv) > 1 else "", sys.argv[2:]
+    if (which not in TIMINGS and which not in ("all", "readme")) or further not in ([], ["--write"] if which == "readme" else []):
         sys.exit(__doc__)
     before = os.getloadavg()[0]
     rows = []
     with tempfile.TemporaryDirectory() as folder:
+        if which == "readme":
+            return print_readme(folder, further != [], before)
         for name in TIMINGS if which == "all" else [which]:
             if which == "all":
                 print(f"\n{name}", flush=True)

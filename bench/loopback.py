@@ -98,18 +98,23 @@ def instructions(kind, calls, clients, environment):
     return (totals[1] - totals[0]) / (calls * clients)
 
 
-def compare_kinds(what, kinds, runs, calls, counted, clients=1, environment=None):
-    """Each kind of server and client in turn, ours first. Rows of processor time of both sides, and of instructions where a peer's mean something."""
+def measured_kinds(kinds, runs, calls, counted, clients=1, environment=None):
+    """Of each kind of server and client, run in turn: the seconds of processor of a call, both sides together, and its instructions where they mean something."""
     environment = environment or {}
     times = {kind: [] for kind in kinds}
     for _ in range(runs):
         for kind in kinds:
-            times[kind].append(run(kind, calls, clients, environment))
-    medians = {kind: statistics.median(spent) for kind, spent in times.items()}
+            times[kind].append(run(kind, calls, clients, environment) / calls / clients)
     counts = {kind: instructions(kind, counted, clients, environment) for kind in kinds if kind.is_counted and has_valgrind()}
+    return {kind: statistics.median(spent) for kind, spent in times.items()}, counts
+
+
+def compare_kinds(what, kinds, runs, calls, counted, clients=1, environment=None):
+    """Each kind of server and client, ours first. Rows of processor time of both sides, and of instructions."""
+    medians, counts = measured_kinds(kinds, runs, calls, counted, clients, environment)
     for kind in kinds:
         told = f", {counts[kind]:.0f} instructions" if kind in counts else ""
-        print(f"{what}, {kind.name}: {medians[kind] / calls / clients * 1e6:.1f} us of processor a call{told}")
+        print(f"{what}, {kind.name}: {medians[kind] * 1e6:.1f} us of processor a call{told}")
     ours = kinds[0]
     for peer in kinds[1:]:
         yield what, peer.name, medians[ours] / medians[peer]

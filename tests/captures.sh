@@ -2,7 +2,6 @@
 # Tries the commands of docs/CAPTURES.md, whose function it takes from there, on captures that it makes itself, and compares what the
 # program reads of a capture with what it prints of the lines that tshark makes of it. It builds the program first.
 # Without tshark or text2pcap it says so and ends with 0; without tcpdump that one command is passed over.
-# Its last line is 'N passed, M failed', and it ends with 1 where one failed.
 set -u
 cd "$(dirname "$0")/.."
 for tool in tshark text2pcap; do
@@ -11,31 +10,21 @@ for tool in tshark text2pcap; do
         exit 0
     fi
 done
-work=$(mktemp -d)
-trap 'rm -rf "$work"' EXIT
 root=$PWD
-program=$root/crates/xns/out/xns
-rm -f "$program"
-if ! (cd crates/xns && rt run -- sim < stdin) > "$work/build" 2>&1 || [ ! -x "$program" ]; then
-    cat "$work/build"
-    echo "the program was not built"
-    exit 1
-fi
+. tests/lib.sh
+build_program xns -- sim
 sed -n '/^```sh$/,/^```$/p' docs/CAPTURES.md | sed '/^```/d' > "$work/functions"
 PATH=$PWD/crates/xns/out:$PATH
 cd "$work" || exit 1
 . ./functions
-passed=0
-failed=0
 
-# The file is what was expected.
+# The file is what was expected, which is not empty.
 same() {
-    if cmp -s "$2" "$3"; then
-        passed=$((passed + 1))
+    if [ -s "$2" ] && cmp -s "$2" "$3"; then
+        pass
     else
-        failed=$((failed + 1))
-        echo "FAILED $1:"
-        diff "$2" "$3" | head -5
+        diff "$2" "$3" | head -5 > "$work/differs"
+        fail "$1:" "$work/differs"
     fi
 }
 
@@ -125,9 +114,9 @@ for kind in calls.pcap calls.pcapng calls_nano.pcap; do
     for style in --times:frame.time_epoch --times=relative:frame.time_relative; do
         tshark -r $kind -T fields -e frame.number -e "${style#*:}" 2> /dev/null | awk '{sub(/0+$/, "", $2); print $2, $1}' | sort > frame_times
         xns calls "${style%:*}" $kind | awk '{sub(/0+$/, "", $1); print $1, $2}' | sort -u > line_times
-        if [ -s line_times ]; then comm -23 line_times frame_times; else echo none; fi > strange_times
-        : > nothing
-        same "times of $kind, ${style%:*}" nothing strange_times
+        [ -s line_times ] || echo none > line_times
+        comm -12 line_times frame_times > known_times
+        same "times of $kind, ${style%:*}" line_times known_times
     done
 done
 
@@ -141,7 +130,6 @@ same 'a connection that comes again' once from_again
 at=$(xns dump again.pcap | grep ' spp .* target 0000 ' | tail -1 | cut -d ' ' -f 1)
 editcap -r again.pcap new.pcap "$at-999999" 2> /dev/null
 xns calls new.pcap > from_new
-[ -s once ] || echo nothing > from_new
 same 'the same cut at its second opening' once from_new
 
 # ---- live: what comes through a pipe is printed before the next packet comes
@@ -189,7 +177,7 @@ same 'frame numbers' later numbered
 text2pcap -q -r '^(?<data>[0-9a-f]+)$' calls_behind.hex calls_behind.pcap 2> /dev/null
 xns calls calls_behind.pcap > calls_numbered
 sed -E 's/ of ([0-9]+) / of @\1 /' calls_expected | awk '{$1=$1+2} $6~/^@/{$6=substr($6,2)+2} 1' > calls_later
-grep -q ' of [0-9]' calls_later || : > calls_numbered
+grep -q ' of [0-9]' calls_later || : > calls_later
 same 'frame numbers of calls and of what they answer' calls_later calls_numbered
 
 if command -v tcpdump > /dev/null; then
@@ -208,5 +196,4 @@ text2pcap -q -r '^(?<data>[0-9a-f]+)$' -e 0x600 lower.hex back.pcap 2> /dev/null
 xns dump back.pcap > from_back
 same 'a capture made of hex' text from_back
 
-echo "$passed passed, $failed failed"
-[ "$failed" -eq 0 ]
+finish

@@ -32,6 +32,16 @@ saw() {
     if [ "$2" -eq 0 ]; then pass; else fail "$1"; fi
 }
 
+# A command whose text of $work/in goes to a full device, and one that is to read a directory.
+writes_nowhere_and_reads_a_directory() {
+    "$program" "$1" < "$work/in" > /dev/full 2> "$work/err"
+    ended=$?
+    expect "$1 for a full device" 3 'xns: write fault' -
+    "$program" "$1" < / > "$work/out" 2> "$work/err"
+    ended=$?
+    expect "$1 of a directory" 3 'xns: read fault' "$work/nothing"
+}
+
 # As many bytes of one kind as asked.
 repeat() {
     head -c "$1" /dev/zero | tr '\0' "$2"
@@ -244,22 +254,15 @@ ended=$lines
 expect 'the text of 65,536 lines' 65536 '' -
 
 cat "$work/packet" > "$work/in"
-"$program" dump < "$work/in" > /dev/full 2> "$work/err"
-ended=$?
-expect 'a full device' 3 'xns: write fault' -
+writes_nowhere_and_reads_a_directory dump
 
 "$program" dump < "$work/in" >&- 2> "$work/err"
 ended=$?
 expect 'a closed writer' 3 'xns: write fault' -
 
-: > "$work/text"
-"$program" dump < / > "$work/out" 2> "$work/err"
-ended=$?
-expect 'a directory as reader' 3 'xns: read fault' "$work/text"
-
 "$program" dump <&- > "$work/out" 2> "$work/err"
 ended=$?
-expect 'a closed reader' 3 'xns: read fault' "$work/text"
+expect 'a closed reader' 3 'xns: read fault' "$work/nothing"
 
 # Of calls the same faults, behind the text of the lines before them.
 { cat "$work/conversation" && repeat 4097 ' '; } > "$work/in"
@@ -274,12 +277,7 @@ saw 'the text of more than 65,536 lines of calls is not there' $?
 cp "$work/behind" "$work/out"
 expect 'more than 65,536 lines of calls' 1 '' "$work/conversation.text"
 cat "$work/conversation" > "$work/in"
-"$program" calls < "$work/in" > /dev/full 2> "$work/err"
-ended=$?
-expect 'calls for a full device' 3 'xns: write fault' -
-"$program" calls < / > "$work/out" 2> "$work/err"
-ended=$?
-expect 'a directory as capture' 3 'xns: read fault' "$work/nothing"
+writes_nowhere_and_reads_a_directory calls
 
 repeat 65536 '\n' > "$work/in"
 plays '65,536 lines of a script' 0 'calls 0' 'carried 0' 'total 0' 'packets 0'
@@ -299,12 +297,7 @@ ended=$?
 expect 'endless lines' 3 'xns: too many lines' "$work/nothing"
 
 cat "$crate/stdin" > "$work/in"
-"$program" sim < "$work/in" > /dev/full 2> "$work/err"
-ended=$?
-expect 'a play for a full device' 3 'xns: write fault' -
-"$program" sim < / > "$work/out" 2> "$work/err"
-ended=$?
-expect 'a directory as script' 3 'xns: read fault' "$work/nothing"
+writes_nowhere_and_reads_a_directory sim
 
 # ---- the command line, with 2, and help, with 0
 

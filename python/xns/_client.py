@@ -58,7 +58,7 @@ class Conversation:
             self.station.send()
             if found is not None:
                 return found
-            if not self.station.host.connections:  # that it is closed was told to a call that Ctrl-C ended
+            if not self.station.host.connections:  # a call that Ctrl-C ended has fetched the event that it is closed
                 self.closed = Closed(self._number, Why.SILENT, None)
         return self.closed
 

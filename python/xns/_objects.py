@@ -211,7 +211,7 @@ class Host(Object):
         self._done("call", unsigned(now, 64, "now"), unsigned(number, 64, "number"), *numbers, *words_of(words))
 
     def answer(self, now: int, number: int, reply: Reply) -> None:
-        """Answers the call that was told. `NoCallError` where none waits for an answer; `NoConnectionError`, `ClosingError`, `TooLongError`."""
+        """Answers the call that was fetched. `NoCallError` where none waits for an answer; `NoConnectionError`, `ClosingError`, `TooLongError`."""
         if not isinstance(reply, tuple) or len(reply) != 3:
             raise TypeError(f"reply is no Reply: it is of type {type(reply).__name__}")
         kind, words, code = reply
@@ -224,7 +224,7 @@ class Host(Object):
         self._done("close", unsigned(now, 64, "now"), unsigned(number, 64, "number"))
 
     def abandon(self, number: int) -> None:
-        """Abandons a connection: nothing of it goes out or is told any more, and its number may be another one's. `NoConnectionError`."""
+        """Abandons a connection: nothing of it goes out or is an event any more, and its number may be another one's. `NoConnectionError`."""
         self._done("abandon", unsigned(number, 64, "number"))
 
     def set_tag(self, number: int, tag: int) -> None:

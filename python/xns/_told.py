@@ -1,4 +1,4 @@
-"""What the library tells and is told: its numbers, and the tuples of what packets and events have."""
+"""The numbers of the library, and the tuples of what packets and events have."""
 import enum
 from typing import Iterable, List, NamedTuple, Optional, Union
 

@@ -27,7 +27,7 @@ _ADDRESS = "HOST, NETWORK.HOST or NETWORK.HOST.SOCKET, in hex as `xns calls` pri
 _SERVICE = """what answers calls: a function of a `xns.Call` that gives a reply, or a class of such objects; without it a tally: program 7, version 1,
 procedure 1 adds a cardinal, procedure 2 returns its words"""
 _PROGRAM = "a program that is served, with its versions; else those that the service has as `programs`, else each"
-_PROGRAMS = """a program in Courier's notation, by whose names and types is called and told; again for each file, what one depends upon before it"""
+_PROGRAMS = """a program in Courier's notation, by whose names and types calls are made and answers printed; again for each file, what one depends upon before it"""
 _END = """statuses: 0 done; 1 the network or the other side failed; 2 wrong words; 3 a call was aborted or rejected; 130 Ctrl-C ended a call"""
 
 
