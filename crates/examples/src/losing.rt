@@ -5,7 +5,7 @@ use courier_sessions::{Answer, Program};
 use host_world::{Pair, Station};
 use item_world::Side;
 use std::alloc::{AllocError, Global};
-use xns_host::Settings;
+use xns_host::{Call, Settings};
 use xns_spp::Bytes;
 
 /// What the service answers.
@@ -42,10 +42,22 @@ pub fn talk(rt: &HostRuntime) -> Result<(), anyhow::Error> {
 
 /// Makes two calls one after the other, and prints what comes of them.
 fn converse(rt: &HostRuntime, pair: &mut Pair) -> Result<(), anyhow::Error> {
-    pair.call(rt.alloc(), 0, Side::A, 7, 2, 1, &[1, 2, 3])?;
+    call(rt, pair, 0, &[1, 2, 3])?;
     meet(rt, pair, 0)?;
-    pair.call(rt.alloc(), 10_000, Side::A, 7, 2, 1, &[4, 5])?;
+    call(rt, pair, 10_000, &[4, 5])?;
     meet(rt, pair, 10_000)
+}
+
+/// Calls procedure 1 of the service.
+fn call(rt: &HostRuntime, pair: &mut Pair, now: u64, words: &[u16]) -> Result<(), anyhow::Error> {
+    let call = Call {
+        program: LISTED.number,
+        version: LISTED.lowest,
+        procedure: 1,
+        words,
+    };
+    pair.call(rt.alloc(), now, Side::A, &call)?;
+    Ok(())
 }
 
 /// The network loses what goes out first, and carries the rest. Each call is answered by its own words.

@@ -2,7 +2,7 @@
 
 use crate::hosts::{CALLER, SERVER};
 use courier_sessions::{Answer, Program};
-use xns_host::{Event, Host, HostFault, Settings};
+use xns_host::{Call, Event, Host, HostFault, Settings};
 
 /// What the service answers.
 const LISTED: Program = Program {
@@ -28,7 +28,13 @@ pub fn talk(rt: &HostRuntime) -> Result<(), anyhow::Error> {
 fn meet(rt: &HostRuntime, client: &mut Host, service: &mut Host) -> Result<(), anyhow::Error> {
     service.serve(SERVER.socket, &[LISTED])?;
     let number = client.connect(0, 0, CALLER.socket, SERVER)?;
-    client.call(0, number, 7, 2, 1, &[1, 2, 3])?;
+    let call = Call {
+        program: 7,
+        version: 2,
+        procedure: 1,
+        words: &[1, 2, 3],
+    };
+    client.call(0, number, &call)?;
     let mut now = 0;
     for _ in 0..40 {
         carry(now, client, service)?;

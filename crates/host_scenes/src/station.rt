@@ -1,6 +1,6 @@
 use courier_sessions::{Answer, Program};
 use std::alloc::Global;
-use xns_host::{Event, Host, HostFault, Outgoing, Settings};
+use xns_host::{Call, Event, Host, HostFault, Outgoing, Settings};
 use xns_idp::Address;
 
 /// A host that is played. Its calls are those of the host, and promise nothing: a play tells what came of them. So no proof of a play reads
@@ -44,7 +44,13 @@ impl Station {
         program: u32,
         words: &[u16],
     ) -> Result<(), HostFault> {
-        self.host.call(now, number, program, 2, 1, words)
+        let call = Call {
+            program,
+            version: 2,
+            procedure: 1,
+            words,
+        };
+        self.host.call(now, number, &call)
     }
 
     pub fn answer(

@@ -3,7 +3,6 @@
 ghost use Rattle.std.specs.Prelude.{◌≡◌, ◌<◌, ◌||◌, ℕ, List, [], IfOk, IfSome, OnOk, OnErr, Ok, Err, Some, None, true, false, if◌then◌else◌};
 ghost use Rattle.std.specs.Borrow.{sem};
 ghost use Rattle.std.specs.Option.{is_some, option_to_list};
-ghost use Rattle.courier_messages.specs.RawCalls.{words_call};
 ghost use Rattle.courier_sessions.specs.Answering.{answer_message};
 ghost use Rattle.courier_sessions.specs.declared.program.Program.{Program};
 ghost use Rattle.xns_spp.specs.Held.{StandsFor};
@@ -11,6 +10,7 @@ ghost use Rattle.xns_spp.specs.Packet.{SppPacketModel, spp_packet_of};
 ghost use Rattle.xns_spp.specs.Receiving.{StoresBytes};
 ghost use Rattle.xns_spp.specs.State.{State};
 ghost use Rattle.xns_spp.specs.declared.dropped.Dropped.{Dropped};
+ghost use Rattle.xns_connection.specs.Calls.{call_model};
 ghost use Rattle.xns_connection.specs.Connecting.{is_dead};
 ghost use Rattle.xns_connection.specs.Deeds.{acted};
 ghost use Rattle.xns_connection.specs.Reasons.{call_fault_of, answer_fault_of};
@@ -34,7 +34,7 @@ use std::alloc::{AllocError, Global};
 use xns_connection::laws::{
     a_connection_gives_what_it_made, a_message_is_handed_as_by_a_step, a_step_keeps_its_promises,
 };
-use xns_connection::{Act, Connection, Due, Refusal, Why};
+use xns_connection::{Act, Call, Connection, Due, Refusal, Why};
 use xns_spp::{Bytes, read_packet};
 
 /// Two connections: the one at `A` calls, and the one at `B` is called.
@@ -99,21 +99,15 @@ impl Pair {
         alloc: Global,
         now: u64,
         side: Side,
-        program: u32,
-        version: u16,
-        procedure: u16,
-        words: &[u16],
+        call: &Call<'_>,
     ) -> Result<(), Refusal>
-        ensures answer { Answers (call_fault_of (connection_at self.old side).conversation
-            (words_call program version procedure words.now)) result }
-        ensures steps { OnOk result (Steps self.old self.new side
-            (one_call_more (words_call program version procedure words.now)) []) }
+        ensures answer { Answers (call_fault_of (connection_at self.old side).conversation (call_model call.now)) result }
+        ensures steps { OnOk result (Steps self.old self.new side (one_call_more (call_model call.now)) []) }
         ensures waits { StepsAt now (connection_at self.old side).wait (connection_at self.new side).wait }
         ensures unchanged { OnErr result (self.new ≡ self.old) }
     {
         a_step_keeps_its_promises();
-        self.at(side)
-            .call(alloc, now, program, version, procedure, words)
+        self.at(side).call(alloc, now, call)
     }
 
     /// Answers the call that was handed at this side. It is refused, and nothing is changed, as by [`Connection::answer`].

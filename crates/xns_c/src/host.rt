@@ -24,7 +24,7 @@ use crate::results::{NO_HOST, OK};
 use crate::settings::XnsSettings;
 use courier_sessions::Program;
 use std::alloc::Global;
-use xns_host::{HostFault, Settings};
+use xns_host::{Call, HostFault, Settings};
 
 /// The host in a box. Where memory is refused it is freed.
 fn boxed(alloc: Global, host: KeptHost) -> Result<Box<KeptHost>, HostFault>
@@ -173,7 +173,13 @@ pub extern "C" fn xns_host_call(
     let Some(mut kept) = handle.take(alloc) else {
         return NO_HOST;
     };
-    let result = kept.call(now, number, program, version, procedure, words);
+    let call = Call {
+        program,
+        version,
+        procedure,
+        words,
+    };
+    let result = kept.call(now, number, &call);
     handle.put(kept);
     result
 }

@@ -1,7 +1,7 @@
 //! A host that C holds.
 
 ghost use Rattle.std.specs.Prelude.{◌≡◌, ◌≢◌, IfOk, OnErr, Some, None, Ok, Err, length};
-ghost use Rattle.courier_messages.specs.RawCalls.{words_call};
+ghost use Rattle.xns_connection.specs.Calls.{call_model};
 ghost use Rattle.xns_host.specs.Settings.{wrong_setting};
 ghost use Rattle.xns_host.specs.Standing.{IsNewHost};
 ghost use Rattle.xns_host.specs.Turn.{GivesOut, TellsNext};
@@ -24,7 +24,7 @@ use crate::results::{BAD_ARGUMENT, BUSY, NO_MEMORY, NOTHING, OK, SHORT_BUFFER};
 use crate::telling_events::{give_event, is_answer, number_of, set_tag};
 use courier_sessions::Program;
 use std::alloc::Global;
-use xns_host::{Event, Host, HostFault, Outgoing, Settings};
+use xns_host::{Call, Event, Host, HostFault, Outgoing, Settings};
 
 /// Never: a time that does not come.
 pub const NEVER: u64 = u64::MAX;
@@ -107,24 +107,13 @@ impl KeptHost {
     }
 
     /// Puts out a call, unless the answer to the one before is kept.
-    pub fn call(
-        &mut self,
-        now: u64,
-        number: usize,
-        program: u32,
-        version: u16,
-        procedure: u16,
-        words: &[u16],
-    ) -> u32
-        ensures { Calls self.old self.new now number (words_call program version procedure words.now) result }
+    pub fn call(&mut self, now: u64, number: usize, call: &Call<'_>) -> u32
+        ensures { Calls self.old self.new now number (call_model call.now) result }
     {
         if self.keeps_answer(number) {
             return BUSY;
         }
-        host_told(
-            self.host
-                .call(now, number, program, version, procedure, words),
-        )
+        host_told(self.host.call(now, number, call))
     }
 
     /// Lets the event go that is kept of the connection with this number, where the call of it was done.

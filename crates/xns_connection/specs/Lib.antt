@@ -1,5 +1,6 @@
 pub mod Acting
 pub mod Agreeing
+pub mod Calls
 pub mod Closed
 pub mod Closing
 pub mod Connecting

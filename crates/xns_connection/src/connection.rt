@@ -3,7 +3,6 @@
 ghost use Rattle.std.specs.Prelude.{◌≡◌, ◌≢◌, ◌<◌, ◌&&◌, ◌||◌, [], ℕ, List, not, if◌then◌else◌, true};
 ghost use Rattle.std.specs.Prelude.{OnOk, OnErr, Some, None, Ok};
 ghost use Rattle.std.specs.Option.{is_some};
-ghost use Rattle.courier_messages.specs.RawCalls.{words_call};
 ghost use Rattle.xns_spp.specs.Ends.{is_open, is_ours_at};
 ghost use Rattle.xns_spp.specs.Held.{StandsFor};
 ghost use Rattle.xns_spp.specs.Packet.{IsSppPacket, spp_packet_of};
@@ -11,6 +10,7 @@ ghost use Rattle.xns_spp.specs.Receiving.{StoresBytes};
 ghost use Rattle.xns_spp.specs.Sending.{tick_answer};
 ghost use Rattle.xns_spp.specs.State.{State};
 ghost use Rattle.xns_spp.specs.Telling.{is_out, own_name, peer_name};
+ghost use Rattle.xns_connection.specs.Calls.{call_model};
 ghost use Rattle.xns_connection.specs.Closing.{drains};
 ghost use Rattle.xns_connection.specs.Connecting.{is_again, is_dead, is_open_due, is_closed_due, why_given_up, owed_after};
 ghost use Rattle.xns_connection.specs.Moving.{HasHistory};
@@ -25,6 +25,7 @@ ghost use Rattle.xns_connection.specs.declared.why.Why.TheVariants.{NotServed, S
 
 mod making;
 
+use crate::call::Call;
 use crate::conversation::Conversation;
 use crate::owed::Owed;
 use crate::refusal::Refusal;
@@ -166,21 +167,12 @@ impl Connection {
     /// Puts out a call. It is refused, and nothing is changed, as `Closing` where the connection closes or is closed; `PeerCalls`; `Busy`
     /// where a call waits for its answer, or the answer was not fetched; `TooLong` over 65,530 words; `NoMemory`.
     #[tactic(auto, using(crate::proofs::Moments::no_step))]
-    pub fn call(
-        &mut self,
-        alloc: Global,
-        now: u64,
-        program: u32,
-        version: u16,
-        procedure: u16,
-        words: &[u16],
-    ) -> Result<(), Refusal>
-        ensures refused { Answers (call_fault_of self.old.conversation (words_call program version procedure words.now)) result }
-        ensures step { OnOk result (Step now (made (words_call program version procedure words.now)) self.old self.new) }
+    pub fn call(&mut self, alloc: Global, now: u64, call: &Call<'_>) -> Result<(), Refusal>
+        ensures refused { Answers (call_fault_of self.old.conversation (call_model call.now)) result }
+        ensures step { OnOk result (Step now (made (call_model call.now)) self.old self.new) }
         ensures unchanged { OnErr result (self.new ≡ self.old) }
     {
-        self.conversation
-            .call(alloc, program, version, procedure, words)?;
+        self.conversation.call(alloc, call)?;
         settled(
             &mut self.conversation,
             alloc,

@@ -1,13 +1,13 @@
 //! An endpoint, its side, and the closing exchange between both.
 
 ghost use Rattle.std.specs.Prelude.{◌≡◌, ◌≢◌, ◌||◌, ℕ, [], List, true, false, is_ok, IfOk, OnOk, OnErr, Some, None, Ok, Err};
-ghost use Rattle.courier_messages.specs.RawCalls.{words_call};
 ghost use Rattle.courier_sessions.specs.declared.feed_refusal.FeedRefusal.TheVariants.{NoMemory};
 ghost use Rattle.xns_spp.specs.Held.{StandsFor};
 ghost use Rattle.xns_spp.specs.Packet.{IsSppPacket, spp_packet_of};
 ghost use Rattle.xns_spp.specs.Receiving.{input_answer, after_receive, StoresBytes};
 ghost use Rattle.xns_spp.specs.Sending.{send_answer, after_send, tick_answer, waiting_count};
 ghost use Rattle.xns_spp.specs.State.{State};
+ghost use Rattle.xns_connection.specs.Calls.{call_model};
 ghost use Rattle.xns_connection.specs.Closing.{closing_item, noted, drains};
 ghost use Rattle.xns_connection.specs.Moving.{IsAt, Moves, Scene, Settles, closed_up, drained_out, ended, is_calm, replied, scene, taken_many, taken_one};
 ghost use Rattle.xns_connection.specs.Deeds.{side_answered, side_called, side_taken};
@@ -17,6 +17,7 @@ ghost use Rattle.xns_connection.specs.Story.{waiting_message};
 
 mod giving;
 
+use crate::call::Call;
 use crate::closing::Closing;
 use crate::refusal::Refusal;
 use crate::side::Side;
@@ -295,17 +296,9 @@ impl Conversation {
 
     /// Puts out a call. It is refused, and nothing is changed, as `Closing` where the conversation closes; `PeerCalls`; `Busy`; `TooLong`;
     /// `NoMemory`.
-    pub fn call(
-        &mut self,
-        alloc: Global,
-        program: u32,
-        version: u16,
-        procedure: u16,
-        words: &[u16],
-    ) -> Result<(), Refusal>
-        ensures answer { Answers (call_fault_of self.old (words_call program version procedure words.now)) result }
-        ensures is { result ≡ Ok tt
-            → self.new ≡ record self.old { side = side_called self.old.side (words_call program version procedure words.now) } }
+    pub fn call(&mut self, alloc: Global, call: &Call<'_>) -> Result<(), Refusal>
+        ensures answer { Answers (call_fault_of self.old (call_model call.now)) result }
+        ensures is { result ≡ Ok tt → self.new ≡ record self.old { side = side_called self.old.side (call_model call.now) } }
         ensures drains { drains self.new.side self.new.closing ≡ drains self.old.side self.old.closing }
         ensures endpoint { self.new.endpoint ≡ self.old.endpoint }
         ensures packets { self.new.packets ≡ self.old.packets }
@@ -317,7 +310,7 @@ impl Conversation {
         if self.closing.wanted {
             return Err(Refusal::Closing);
         }
-        self.side.call(alloc, program, version, procedure, words)
+        self.side.call(alloc, call)
     }
 
     /// Answers the call that was handed. It is refused, and nothing is changed, as `Closing` where the conversation closes; `NoCall`;

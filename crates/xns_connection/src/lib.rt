@@ -1,6 +1,7 @@
 //! One Courier conversation over the Sequenced Packet Protocol, with time.
 #![tactic(auto)]
 
+mod call;
 mod closing;
 mod connection;
 mod conversation;
@@ -13,6 +14,7 @@ mod terms;
 mod why;
 mod why_closed;
 
+pub use call::Call;
 pub use connection::Connection;
 pub use refusal::Refusal;
 pub use terms::Terms;

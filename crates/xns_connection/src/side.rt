@@ -1,17 +1,18 @@
 //! A side of a conversation: the one that calls or the one that is called.
 
 ghost use Rattle.std.specs.Prelude.{◌≡◌, ◌≤◌, true, false, OnOk, OnErr, None, Ok};
-ghost use Rattle.courier_messages.specs.RawCalls.{words_call};
 ghost use Rattle.courier_sessions.specs.Answering.{has_items};
 ghost use Rattle.xns_spp.specs.Held.{StandsFor};
 ghost use Rattle.xns_spp.specs.Sending.{waiting_count};
 ghost use Rattle.xns_spp.specs.State.{State};
+ghost use Rattle.xns_connection.specs.Calls.{call_model};
 ghost use Rattle.xns_connection.specs.Story.{IsListed, IsUnlisted, is_stopped, out_of, has_call};
 ghost use Rattle.xns_connection.specs.Story.{has_message, waiting_message, wants_answer};
 ghost use Rattle.xns_connection.specs.Moving.{Converses, Pumps, Rejects};
 ghost use Rattle.xns_connection.specs.Deeds.{side_answered, side_called, side_taken};
 ghost use Rattle.xns_connection.specs.Refusing.{Answers, side_call_fault, side_answer_fault, call_result, answer_result};
 
+use crate::call::Call;
 use crate::refusal::Refusal;
 use courier_messages::PiecedMessage;
 use courier_sessions::{
@@ -107,23 +108,20 @@ impl Side {
     }
 
     /// Puts out a call.
-    pub fn call(
-        &mut self,
-        alloc: Global,
-        program: u32,
-        version: u16,
-        procedure: u16,
-        words: &[u16],
-    ) -> Result<(), Refusal>
-        ensures answer { Answers (side_call_fault self.old (words_call program version procedure words.now)) result }
-        ensures is { result ≡ Ok tt → self.new ≡ side_called self.old (words_call program version procedure words.now) }
+    pub fn call(&mut self, alloc: Global, call: &Call<'_>) -> Result<(), Refusal>
+        ensures answer { Answers (side_call_fault self.old (call_model call.now)) result }
+        ensures is { result ≡ Ok tt → self.new ≡ side_called self.old (call_model call.now) }
         ensures stopped { is_stopped self.new ≡ is_stopped self.old }
         ensures unchanged { OnErr result (self.new ≡ self.old) }
     {
         match self {
-            Side::Calls(caller) => {
-                call_result(caller.call(alloc, program, version, procedure, words))
-            }
+            Side::Calls(caller) => call_result(caller.call(
+                alloc,
+                call.program,
+                call.version,
+                call.procedure,
+                call.words,
+            )),
             Side::Answers(_) => Err(Refusal::PeerCalls),
         }
     }

@@ -8,7 +8,7 @@ ghost use Rattle.xns_spp.specs.Ends.{is_ours_at};
 ghost use Rattle.xns_spp.specs.Held.{StandsFor};
 ghost use Rattle.xns_spp.specs.Packet.{IsSppPacket, spp_packet_of};
 ghost use Rattle.xns_spp.specs.State.{State};
-ghost use Rattle.courier_messages.specs.RawCalls.{words_call};
+ghost use Rattle.xns_connection.specs.Calls.{call_model};
 ghost use Rattle.xns_connection.specs.Deeds.{asked, gave, made};
 ghost use Rattle.xns_host.specs.Quotes.{is_sent_by};
 ghost use Rattle.xns_connection.specs.Reasons.{call_fault_of, answer_fault_of};
@@ -24,7 +24,7 @@ use crate::quote::Quote;
 use courier_sessions::Answer;
 use std::alloc::Global;
 use xns_agenda::Facts;
-use xns_connection::Connection;
+use xns_connection::{Call, Connection};
 use xns_idp::Address;
 use xns_spp::SppPacket;
 
@@ -61,23 +61,12 @@ impl Guest {
     }
 
     /// Puts out a call.
-    pub fn call(
-        &mut self,
-        alloc: Global,
-        now: u64,
-        program: u32,
-        version: u16,
-        procedure: u16,
-        words: &[u16],
-    ) -> Result<(), HostFault>
-        ensures refused { TellsRefusal (call_fault_of self.old.connection.conversation (words_call program version procedure words.now)) result }
-        ensures step { OnOk result (GuestStep now (made (words_call program version procedure words.now)) self.old self.new) }
+    pub fn call(&mut self, alloc: Global, now: u64, call: &Call<'_>) -> Result<(), HostFault>
+        ensures refused { TellsRefusal (call_fault_of self.old.connection.conversation (call_model call.now)) result }
+        ensures step { OnOk result (GuestStep now (made (call_model call.now)) self.old self.new) }
         ensures unchanged { OnErr result (self.new ≡ self.old) }
     {
-        told(
-            self.connection
-                .call(alloc, now, program, version, procedure, words),
-        )
+        told(self.connection.call(alloc, now, call))
     }
 
     /// Answers the call that was handed.

@@ -2,7 +2,7 @@
 
 ghost use Rattle.std.specs.Prelude.{◌≡◌, ◌≤◌, ◌⊎◌, Option, length, false, IfOk, OnErr, Some, None, Ok, Err, count_by, slice_get};
 ghost use Rattle.std.specs.Option.{is_some};
-ghost use Rattle.courier_messages.specs.RawCalls.{words_call};
+ghost use Rattle.xns_connection.specs.Calls.{call_model};
 ghost use Rattle.xns_connection.specs.Deeds.{asked, gave, made};
 ghost use Rattle.xns_host.specs.Hosting.{HasNoRoom, HasNoneDone, IsAllInUse, IsAllNoted, IsFirstWant, address_in, has_guest};
 ghost use Rattle.xns_host.specs.Numbers.{IsNumberFrom};
@@ -31,8 +31,8 @@ use crate::strays::Strays;
 use courier_sessions::{Answer, Program};
 use std::alloc::{AllocError, Global};
 use xns_agenda::{Agenda, Clock};
-use xns_connection::Connection;
 use xns_connection::laws::a_step_keeps_its_promises;
+use xns_connection::{Call, Connection};
 use xns_idp::Address;
 
 /// Many Courier conversations behind one address. It is given packets and the time, and gives packets, calls, answers, and when it
@@ -211,19 +211,11 @@ impl Host {
     /// [`HostFault::Closing`] where it is closed or was asked to close, [`HostFault::Busy`] while a call waits or its answer was not
     /// fetched, [`HostFault::TooLong`] over 65,530 words, or [`HostFault::NoMemory`].
     #[tactic(auto, using(crate::proofs::Noting::put_back))]
-    pub fn call(
-        &mut self,
-        now: u64,
-        number: usize,
-        program: u32,
-        version: u16,
-        procedure: u16,
-        words: &[u16],
-    ) -> Result<(), HostFault>
+    pub fn call(&mut self, now: u64, number: usize, call: &Call<'_>) -> Result<(), HostFault>
         ensures none { has_guest (slice_get self.old.guests.items number) ≡ false → result ≡ Err (NoConnection number) }
         ensures refused { (g : Guest) → slice_get self.old.guests.items number ≡ Some (Some g)
-            → TellsRefusal (call_fault_of g.connection.conversation (words_call program version procedure words.now)) result }
-        ensures turn { Turn now number (made (words_call program version procedure words.now)) result self.old self.new }
+            → TellsRefusal (call_fault_of g.connection.conversation (call_model call.now)) result }
+        ensures turn { Turn now number (made (call_model call.now)) result self.old self.new }
     {
         a_step_keeps_its_promises();
         let now = self.clock.tell(now);
@@ -233,7 +225,7 @@ impl Host {
         let Some(guest) = &mut self.guests[number] else {
             return Err(HostFault::NoConnection { number });
         };
-        guest.call(self.alloc, now, program, version, procedure, words)?;
+        guest.call(self.alloc, now, call)?;
         note(self.guests.as_slice(), &mut self.agenda, number);
         Ok(())
     }

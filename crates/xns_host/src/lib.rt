@@ -30,4 +30,4 @@ pub use services::Services;
 pub use setting::Setting;
 pub use settings::Settings;
 pub use strays::Strays;
-pub use xns_connection::{Act, Connection, Due, Pace, Refusal, Terms, Why};
+pub use xns_connection::{Act, Call, Connection, Due, Pace, Refusal, Terms, Why};

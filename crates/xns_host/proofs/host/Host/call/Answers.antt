@@ -1,5 +1,5 @@
 use Rattle.std.proofs.Common.{subst, ◌≡◌, ◌∙◌, refl, rules, arith, Some, Ok}
-use Rattle.courier_messages.specs.RawCalls.{words_call}
+use Rattle.xns_connection.specs.Calls.{call_model}
 use Rattle.xns_connection.specs.Deeds.{made}
 use Rattle.xns_connection.specs.Reasons.{call_fault_of}
 use Rattle.xns_host.specs.Refusing.{TellsRefusal}
@@ -10,17 +10,17 @@ use Rattle.xns_host.proofs.host.Host.call.Goals as goal
 pub note-requires-clause-others : goal.note-requires-clause-others
 note-requires-clause-others c =
     stays_noted c.args.self.now.agenda c.args.self.now.guests.items c.as_slice.result.now c.args.number c.index_mut.result.now c.in-Some.guest c.call.new.self
-    c.args.self.now.noted c.in-Some.is (step_stays c.a_step_keeps_its_promises.ensures c.tell-now.result (made (words_call c.args.program c.args.version c.args.procedure c.args.words.now)) _ _ (λ side h. refl) c.in_ok-call.ensures.step) (omega arith) (search rules) (search rules)
+    c.args.self.now.noted c.in-Some.is (step_stays c.a_step_keeps_its_promises.ensures c.tell-now.result (made (call_model c.args.call.now)) _ _ (λ side h. refl) c.in_ok-call.ensures.step) (omega arith) (search rules) (search rules)
 
 pub invariant_of-self-2-clause-registered : goal.invariant_of-self-2-clause-registered
 invariant_of-self-2-clause-registered c =
     stays_registered c.args.self.now.register c.args.self.now.guests.items c.args.number c.index_mut.result.now c.in-Some.guest c.call.new.self
-    c.args.self.now.registered c.in-Some.is (step_stays c.a_step_keeps_its_promises.ensures c.tell-now.result (made (words_call c.args.program c.args.version c.args.procedure c.args.words.now)) _ _ (λ side h. refl) c.in_ok-call.ensures.step) (omega arith) (search rules)
+    c.args.self.now.registered c.in-Some.is (step_stays c.a_step_keeps_its_promises.ensures c.tell-now.result (made (call_model c.args.call.now)) _ _ (λ side h. refl) c.in_ok-call.ensures.step) (omega arith) (search rules)
 
 pub invariant_of-self-2-clause-not_done : goal.invariant_of-self-2-clause-not_done
 invariant_of-self-2-clause-not_done c =
     stays_undone c.args.self.now.guests.items c.args.number c.index_mut.result.now c.in-Some.guest c.call.new.self
-    c.args.self.now.not_done c.in-Some.is (step_undone c.tell-now.result (made (words_call c.args.program c.args.version c.args.procedure c.args.words.now)) _ _ c.in_ok-call.ensures.step.step) (omega arith) (search rules)
+    c.args.self.now.not_done c.in-Some.is (step_undone c.tell-now.result (made (call_model c.args.call.now)) _ _ c.in_ok-call.ensures.step.step) (omega arith) (search rules)
 
 pub returns-clause-none : goal.returns-clause-none
 returns-clause-none c = λ none.
@@ -30,7 +30,7 @@ returns-clause-none c = λ none.
 
 pub returns-clause-turn : goal.returns-clause-turn
 returns-clause-turn c = record {
-  went = went_set c.tell-now.result _ (made (words_call c.args.program c.args.version c.args.procedure c.args.words.now)) c.args.self.now.guests.items c.args.number c.index_mut.result.now c.in-Some.guest c.call.new.self c.tell-now.ensures.result
+  went = went_set c.tell-now.result _ (made (call_model c.args.call.now)) c.args.self.now.guests.items c.args.number c.index_mut.result.now c.in-Some.guest c.call.new.self c.tell-now.ensures.result
       (omega arith) (search rules) c.in-Some.is c.in_ok-call.ensures.step;
   apart = set_apart c.args.self.now.guests.items c.args.number (Some c.call.new.self);
   noted = λ place there. c.note.ensures.is place (search rules);
@@ -43,4 +43,4 @@ pub returns-clause-refused : goal.returns-clause-refused
 returns-clause-refused c = λ g there.
     let here = is_there c.args.self.now.guests.items c.args.number c.index_mut.result.now c.in-Some.guest (omega arith) (search rules) c.in-Some.is in
     let same : c.in-Some.guest ≡ g = one_guest c.args.self.now.guests.items c.args.number c.in-Some.guest g here there in
-    subst (λ (x : Guest). TellsRefusal (call_fault_of x.connection.conversation (words_call c.args.program c.args.version c.args.procedure c.args.words.now)) (Ok tt)) same c.in_ok-call.ensures.refused
+    subst (λ (x : Guest). TellsRefusal (call_fault_of x.connection.conversation (call_model c.args.call.now)) (Ok tt)) same c.in_ok-call.ensures.refused
