@@ -1,6 +1,6 @@
 //! The texts of calls, returns and aborts.
 
-ghost use Rattle.std.specs.Prelude.{◌≡◌, ◌++◌, IfOk, codes};
+ghost use Rattle.std.specs.Prelude.{◌≡◌, ◌+◌, ◌<◌, ◌++◌, IfOk, OnErr, codes, length, vec_capacity, vec_len};
 ghost use Rattle.courier_programs.specs.Meanings.{resolved_model};
 ghost use Rattle.call_texts.specs.Calls.{AbortWants, CallWants, ReturnWants, ShowsDeclared, abort_shown, call_shown, program_name, return_shown};
 ghost use Rattle.call_texts.specs.Showing.{IfNoMemory};
@@ -13,7 +13,8 @@ use std::alloc::{AllocError, Global};
 
 /// The text behind a front.
 fn text_behind(front: Vec<u8>, text: &[u8]) -> Result<Vec<u8>, AllocError>
-    ensures { IfOk result (λ whole. whole.items ≡ front.items ++ text.now) }
+    ensures whole { IfOk result (λ whole. whole.items ≡ front.items ++ text.now) }
+    ensures memory { OnErr result (vec_capacity front < vec_len front + length text.now) }
 {
     let mut whole = front;
     whole.extend_from_slice(text)?;

@@ -1,6 +1,6 @@
 //! Words as the text of a record.
 
-ghost use Rattle.std.specs.Prelude.{◌≡◌};
+ghost use Rattle.std.specs.Prelude.{◌≡◌, ◌<◌, length};
 ghost use Rattle.courier_types.specs.Value.{value_model, value_models};
 ghost use Rattle.call_texts.specs.declared.unread.Unshown.TheVariants.{Unread as UnreadWord};
 ghost use Rattle.courier_programs.specs.Meanings.{components_seen, fields_model};
@@ -30,7 +30,7 @@ fn unread(place: usize, reason: UnreadReason) -> Unshown
 }
 
 /// The text of a record, if it is not too long.
-#[tactic(auto, using(crate::proofs::Values::components_are))]
+#[tactic(auto, using(courier_programs::proofs::Models::components_are))]
 fn text_of_record(
     alloc: Global,
     components: &[(Vec<u8>, Named)],
@@ -47,13 +47,14 @@ fn text_of_record(
 }
 
 /// The text of a value of a record, if it is not too long.
-#[tactic(auto, using(crate::proofs::Values::value_fields))]
+#[tactic(auto, using(courier_texts::proofs::Printed::value_fields))]
 fn text_of(
     alloc: Global,
     components: &[(Vec<u8>, Named)],
     value: &Value,
 ) -> Result<Vec<u8>, Unshown>
-    ensures { Shows result (limited (record_text (components_seen components.now) (value_model value.now))) }
+    ensures text { Shows result (limited (record_text (components_seen components.now) (value_model value.now))) }
+    ensures memory { IfNoMemory result (0 < length (record_text (components_seen components.now) (value_model value.now))) }
 {
     match value {
         Value::Fields(values) => text_of_record(alloc, components, values),
