@@ -1,5 +1,6 @@
-"""README's table of speed, with its wording. `ratios` gives a cell: times and instructions of ours divided by those of a peer."""
-import pathlib, statistics
+"""README's table of speed, with its wording: processor time and instructions of ours divided by those of a peer. Instructions are counted over fewer calls, events and
+packets where the whole takes too long."""
+import functools, itertools, pathlib, statistics
 from typing import NamedTuple
 
 from building import BENCH, built_c, built_peer, built_program, has_gcc, has_tirpc, has_valgrind
@@ -10,6 +11,7 @@ from measuring import RUNS, compare, held_by, instructions_of, made_by, ratio_of
 README = BENCH.parent / "README.md"
 HEAD = "| What | Time | Instructions |\n|---|---|---|\n"
 CAPTURES = "short", "flows", "long", "endless"
+FEW = 8_192  # packets
 
 
 class Ratio(NamedTuple):
@@ -24,27 +26,43 @@ class Row(NamedTuple):
     groups: list  # of lists of Ratio
 
 
-def counted_ratio(ours, peer, given):
-    return instructions_of(ours, given) / instructions_of(peer, given) if has_valgrind() else None
+@functools.cache
+def counted(words, given):
+    return instructions_of(words, given)
 
 
-def beside(ours, peer, given, runs=RUNS, fewer=lambda words: words):
-    """Ours beside a peer. `fewer` makes of the words of both those of the runs whose instructions are counted."""
-    return Ratio(ratio_of(compare(ours, peer, given, runs=runs)), counted_ratio(fewer(ours), fewer(peer), given))
+def beside(ours, peer, given, runs=RUNS, fewer=lambda words: words, few=None):
+    """Ours beside a peer. `fewer` makes of the words of both those of the runs whose instructions are counted, and `few` is what these are given."""
+    counts = [counted(tuple(fewer(words)), few or given) for words in (ours, peer)] if has_valgrind() else None
+    return Ratio(ratio_of(compare(ours, peer, given, runs=runs)), counts[0] / counts[1] if counts else None)
 
 
 def made(given, script, *words):
-    given.write_bytes(made_by(script, *words))
-    return given
+    """A file of its own with what a script writes, and one with the first of its lines."""
+    whole, few = (given.with_name("-".join([script, *words, size])) for size in ("whole", "few"))
+    whole.write_bytes(made_by(script, *words))
+    with open(whole, "rb") as lines:
+        few.write_bytes(b"".join(itertools.islice(lines, FEW)))
+    return whole, few
+
+
+def beside_lines(ours, peer, given, *script):
+    whole, few = made(given, *script)
+    return beside(ours, peer, whole, few=few)
+
+
+def held_by_both(ours, peer, given, *script):
+    whole, _ = made(given, *script)
+    return held_by(ours, whole), held_by(peer, whole)
 
 
 def dump_row(folder, given):
     ours, peer = [built_program("xns"), "dump"], [built_peer("dump_peer", folder)]
     yield Row(
         "`xns dump` of 65,536 packets of one flow; of those that end messages of Courier",
-        [[beside(ours, peer, made(given, "packets.py", *words))] for words in (("sequenced", "1"), ("messages",))],
+        [[beside_lines(ours, peer, given, "packets.py", *words)] for words in (("sequenced", "1"), ("messages",))],
     )
-    held = [(held_by(ours, made(given, "packets.py", "sequenced", flows)), held_by(peer, given)) for flows in ("1", "65536")]
+    held = [held_by_both(ours, peer, given, "packets.py", "sequenced", flows) for flows in ("1", "65536")]
     shown = "; ".join(f"{mine / 1000:.1f} of {theirs / 1000:.1f} MB" for mine, theirs in held)
     yield f"| most resident memory of `xns dump`, beside the peer: one flow; 65,536 flows | {shown} | |"
 
@@ -53,15 +71,16 @@ def calls_rows(folder, given):
     ours, peer = [built_program("xns"), "calls"], [built_peer("captures_peer", folder)]
     yield Row(
         "`xns calls` of as many: short calls, each in a flow of its own, long ones, messages that never end",
-        [[beside(ours, peer, made(given, "captures.py", which)) for which in CAPTURES]],
+        [[beside_lines(ours, peer, given, "captures.py", which) for which in CAPTURES]],
     )
-    held = [held_by(ours, made(given, "captures.py", which)) for which in ("endless", "endless-flows")]
-    capture, cells = pathlib.Path(folder) / "capture.pcap", []
+    held = [held_by(ours, made(given, "captures.py", which)[0]) for which in ("endless", "endless-flows")]
+    cells = []
     given.write_bytes(b"")
     for which in ("short", "flows", "reversed"):
-        made(capture, "captures.py", which, "pcap")
-        cells.append(beside([*ours, capture], [*peer, capture], given))
-    given.write_bytes(b"")
+        capture, few = (pathlib.Path(folder) / f"{which}-{size}.pcap" for size in ("whole", "few"))
+        capture.write_bytes(made_by("captures.py", which, "pcap"))
+        few.write_bytes(made_by("captures.py", which, "pcap", str(FEW)))
+        cells.append(beside([*ours, capture], [*peer, capture], given, fewer=lambda words, few=few: [*words[:-1], few]))
     yield Row("`xns calls x.pcap` of as many: short calls, each in a flow of its own, out of order", [cells])
     yield f"| of `xns calls`: one flow; 65,536 flows that each kept 534 bytes of a message | {held[0] / 1000:.1f} MB; {held[1] / 1000:.0f} MB | |"
 
@@ -82,8 +101,8 @@ def bench_rows(folder, given):
         [[beside([*ours, "exchange", order, "3"], [peer, order, "3"], given, 9, fewer) for order in ("ordered", "late", "lossy")] for peer in peers],
     )
     peer = [built_peer("sim_peer", folder, "--cfg", "standard")]
-    play = beside([*ours, "play", "calls"], peer, made(given, "script.py", "1000", "96"))
-    sim = beside([built_program("xns"), "sim"], peer, made(given, "script.py", "5000", "6"))
+    play = beside([*ours, "play", "calls"], peer, made(given, "script.py", "1000", "96")[0])
+    sim = beside([built_program("xns"), "sim"], peer, made(given, "script.py", "5000", "6")[0])
     yield Row("a play of 1,000 calls and 100,000 events; `xns sim` of 5,000 calls with repeats", [[play], [sim]])
 
 
