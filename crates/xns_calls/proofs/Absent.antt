@@ -1,5 +1,5 @@
 -- A flow that has not begun stays so, where no packet of its own begins it.
-use Rattle.std.proofs.Common.{◌≡◌, ◌∙◌, ap, sym, ℕ, zero, suc, ◌+◌, ◌==◌, Bool, true, false, cond, List, [], ◌∷◌, Option, Some, None}
+use Rattle.std.proofs.Common.{◌≡◌, ◌∙◌, ap, sym, ℕ, zero, suc, ◌+◌, ◌==◌, Bool, true, false, cond, List, [], ◌∷◌, Option, Some, None, is_some}
 use Rattle.std.specs.Prelude.{nat_lt, ◌-◌}
 use Rattle.courier_messages.specs.declared.message.Message.{Message}
 use Rattle.courier_messages.specs.declared.message.Message.TheVariants.{Call, Reject, Return, Abort}
@@ -19,7 +19,9 @@ use Rattle.xns_calls.specs.declared.side.Side.{Side}
 use Rattle.xns_calls.specs.declared.track.Track.{Track}
 use Rattle.xns_calls.specs.declared.unanswered.Calls.{Calls}
 use Rattle.xns_calls.specs.declared.waiting.Waiting.{Waiting}
-use Rattle.xns_calls.specs.Exchange.{Scene, advance_other, advance_own, advance_track, advanced, after_content, after_data, after_new, after_number, after_packet, begin_track, begun, behind_last, carried, ended, new_number, no_side, of_other, other_reached, own_reached, reached, scene, seen_from_other, take_in_track, told_of}
+use Rattle.xns_calls.specs.AtEnd.{both_ended, end_turn, ended_of, ended_times, first_in, one_ended, own_ended, read_behind}
+use Rattle.xns_calls.specs.declared.first_kept.FirstKept.{FirstKept}
+use Rattle.xns_calls.specs.Exchange.{Scene, advance_other, advance_own, advance_track, advanced, after_content, after_data, after_new, after_number, after_packet, begin_track, begun, carried, new_number, no_side, of_other, other_reached, own_reached, reached, scene, seen_from_other, take_in_track, told_of}
 use Rattle.xns_calls.specs.Numbers.{most_early}
 use Rattle.xns_calls.specs.Reading.{Told, after_heard, brought, brought_over, first_read, first_read_over, item_read, item_taken, passed, past, read_next, said_item}
 use Rattle.xns_calls.specs.Read.{handled, kept_count, one_read, own_read, read_in_track, read_of, read_times, settled}
@@ -214,13 +216,6 @@ alone h due packet f content own other own' other' page page' is e =
     let none : other' ≡ no_side = ap (λ (x : Scene). x.other) e ∙ settled_other_none h due.given (after_packet h due packet f content s) (packet_none h due packet f content s is) in
     ap (λ x. scene own' x page') (sym none) ∙ e ∙ ap (λ x. handled h due packet f content (scene own x page)) is
 
-pub ended_alone : (h : Heading) (own other own' other' : Side) (page page' : Page) → other ≡ no_side
-    → scene own' other' page' ≡ ended h (scene own other page) → scene own' no_side page' ≡ ended h (scene own no_side page)
-unfolding ended
-ended_alone h own other own' other' page page' is e =
-    let none : other' ≡ no_side = ap (λ (s : Scene). s.other) e ∙ own_none h (behind_last own.track) (scene own other page) is in
-    ap (λ x. scene own' x page') (sym none) ∙ e ∙ ap (λ x. ended h (scene own x page)) is
-
 -- ---- where a flow has not begun itself
 
 other_none : (h : Heading) (o : Option ℕ) (s : Scene) → s.own ≡ no_side → (advance_other h o s).own ≡ no_side
@@ -246,3 +241,39 @@ before h due packet f content own other own' other' page page' is system e =
     ap (λ (x : Scene). x.own) (ap (own_reached h due.own) (system_stays h due.acknowledged packet f content known system)) ∙ own_stays h due.own known stays in
     let none : own' ≡ no_side = ap (λ (x : Scene). x.own) e ∙ settled_own_none h due.given (after_packet h due packet f content s) taken in
     ap (λ x. scene x other' page') (sym none) ∙ e ∙ ap (λ x. handled h due packet f content (scene x other page)) is
+
+-- ---- at the end
+
+behind_other_none : (h : Heading) (o : Option FirstKept) (s : Scene) → s.other ≡ no_side → (read_behind h o s).other ≡ no_side
+behind_other_none h None s none = none
+behind_other_none h (Some first) s none = advanced_none h (first.number + 1) (other_reached h first.acknowledged s) (reached_none h first.acknowledged s none)
+
+ended_other_none : (h : Heading) (s : Scene) → s.other ≡ no_side → (own_ended h s).other ≡ no_side
+unfolding own_ended
+ended_other_none h s none = behind_other_none h (first_in s.own.track) s none
+
+ended_own_none : (h : Heading) (s : Scene) → s.own ≡ no_side → (own_ended h s).own ≡ no_side
+unfolding own_ended
+ended_own_none h s none = ap (λ (x : Side). (read_behind h (first_in x.track) s).own) none ∙ none
+
+end_turn_none : (h : Heading) (o : Option Bool) (s : Scene) → s.other ≡ no_side → (ended_of h o s).other ≡ no_side
+end_turn_none h None s none = none
+end_turn_none h (Some false) s none = ended_other_none h s none
+end_turn_none h (Some true) s none = ended_own_none (of_other h) (seen_from_other s) none
+
+end_times_none : (n : ℕ) (h : Heading) (s : Scene) → s.other ≡ no_side → (ended_times n h s).other ≡ no_side
+end_times_none zero h s none = none
+end_times_none (suc n) h s none = end_times_none n h (one_ended h s) (end_turn_none h (end_turn s.own.track s.other.track) s none)
+
+both_none : (h : Heading) (s : Scene) → s.other ≡ no_side → (both_ended h s).other ≡ no_side
+unfolding both_ended
+both_none h s none = end_times_none (kept_count s.own.track + kept_count s.other.track) h s none
+
+pub ended_alone : (h : Heading) (own other own' other' : Side) (page page' : Page) → other ≡ no_side
+    → scene own' other' page' ≡ both_ended h (scene own other page) → scene own' no_side page' ≡ both_ended h (scene own no_side page)
+ended_alone h own other own' other' page page' is e =
+    let none : other' ≡ no_side = ap (λ (s : Scene). s.other) e ∙ both_none h (scene own other page) is in
+    ap (λ x. scene own' x page') (sym none) ∙ e ∙ ap (λ x. both_ended h (scene own x page)) is
+
+pub alone_wants : (own other : Side) → other ≡ no_side → is_some (end_turn own.track other.track) ≡ true → is_some (end_turn own.track None) ≡ true
+alone_wants own other is e = ap (λ (x : Side). is_some (end_turn own.track x.track)) (sym is) ∙ e

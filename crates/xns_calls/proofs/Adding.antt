@@ -8,7 +8,7 @@ use Rattle.xns_spp.specs.declared.header.Header.{Header}
 use Rattle.xns_spp.specs.declared.item.Item.{Item}
 use Rattle.xns_calls.specs.declared.carried.Carried.{Carried}
 use Rattle.xns_calls.specs.Events.{acknowledged_event, after_events, brought_if, captured_event}
-use Rattle.xns_calls.specs.Exchange.{Scene, advance_other, advance_own, advance_track, advanced, after_content, after_data, after_new, after_number, after_packet, begin_track, begun, behind_last, carried, ended, is_repeat, new_number, of_other, other_reached, own_reached, reached, seen_from_other, take_in_track, told_of, up_to}
+use Rattle.xns_calls.specs.Exchange.{Scene, advance_other, advance_own, advance_track, advanced, after_content, after_data, after_new, after_number, after_packet, begin_track, begun, carried, is_repeat, new_number, of_other, other_reached, own_reached, reached, seen_from_other, take_in_track, told_of, up_to}
 use Rattle.xns_calls.specs.Input.{Said, begins, lacks, message, refuses, said_text, said_texts}
 use Rattle.xns_calls.specs.Numbers.{most_early}
 use Rattle.xns_calls.specs.Reading.{Told, after_heard, brought, brought_over, first_read, first_read_over, item_read, item_taken, passed, past, read_next, said_item}
@@ -137,7 +137,7 @@ data_adds h a packet f content s =
     (number_adds h (new_number u.own.track f.sequence) (carried h a f content) u)
 
 -- what an item of the packet's own flow adds
-own_adds : (h : Heading) (o : Option ℕ) (s : Scene) → Adds h s.text (advance_own h o s).text
+pub own_adds : (h : Heading) (o : Option ℕ) (s : Scene) → Adds h s.text (advance_own h o s).text
 own_adds h None s = adds_none h s.text
 own_adds h (Some n) s = advanced_adds h n s
 
@@ -182,9 +182,3 @@ pub both_add : (p : Bool) (h : Heading) (o : Option ℕ) (item : Carried) (a : O
     → Adds h t.text (after_events (cond p [] (captured_event h o item)) t).text
     × Adds h (after_events (cond p [] (captured_event h o item)) t).text (after_events (acknowledged_event h a) (after_events (cond p [] (captured_event h o item)) t)).text
 both_add p h o item a t = (item_adds_to p h o item t, effect_adds h a (after_events (cond p [] (captured_event h o item)) t))
-
--- ---- the end
-
-pub ended_adds : (h : Heading) (s : Scene) → Adds h s.text (ended h s).text
-unfolding ended
-ended_adds h s = own_adds h (behind_last s.own.track) s

@@ -17,7 +17,7 @@ use Rattle.xns_calls.specs.Anew.{begins_anew}
 use Rattle.xns_calls.specs.Calls.{after_line, known_from, line_taken, text_from}
 use Rattle.xns_calls.specs.Capture.{Known, after_at, after_in, after_new_flow, after_place, after_sequenced, after_there, forgotten, heading_at, is_behind_in, new_connection, place_of, renewed, renewed_there, scene_in, settled_at, settled_there, taken_in, with_new, with_scene}
 use Rattle.xns_calls.specs.Events.{Event, acknowledged_event, after_events, captured_event}
-use Rattle.xns_calls.specs.Exchange.{Scene, advance_other, advance_own, after_content, after_data, after_packet, after_told, begin_track, begun, behind_last, carried, ended, first_track, new_number, of_other, other_reached, own_reached, reached, seen_from_other, take_number, told_of}
+use Rattle.xns_calls.specs.Exchange.{Scene, advance_other, advance_own, after_content, after_data, after_packet, after_told, begin_track, begun, behind_last, carried, first_track, new_number, of_other, other_reached, own_reached, reached, seen_from_other, take_number, told_of}
 use Rattle.xns_calls.specs.Input.{Arrival, FlowName, Part, arrival, begins, connection_at, connection_of, ending_events, events_at, events_between, events_from, events_there, field_at, field_between, field_there, first_field_from, is_same, item_events, name_in, next_name, or_later, part_text, parts_text, said_texts, text_in, texts_in, told}
 use Rattle.xns_calls.specs.Numbers.{near}
 use Rattle.xns_calls.specs.Over.{side_in}
@@ -31,14 +31,16 @@ use Rattle.xns_calls.specs.declared.heading.Heading.{Heading}
 use Rattle.xns_calls.specs.declared.track.Track.{Track}
 use Rattle.xns_calls.proofs.Adding.{number_adds}
 use Rattle.xns_calls.proofs.Whole.{after_append}
+use Rattle.xns_calls.proofs.EndReads.{ends_say, other_ends_rest, own_ends_rest}
+use Rattle.xns_calls.proofs.Fits.{Fits, fits, fits_on}
 use Rattle.xns_calls.proofs.Gaps.{IsOrdered, equal_tells, events_ordered, new_ordered}
 use Rattle.xns_calls.proofs.Onwards.{Rests, other_settles, own_settles, settled_says}
-use Rattle.xns_calls.proofs.Happenings.{IsOn, IsPlain, far_ended, far_texts, forgotten_parts, in_text, near_events, new_there, none_acknowledged, none_due, none_new, settled_step, settled_text, side_track, stands_own}
+use Rattle.xns_calls.proofs.Happenings.{IsOn, IsPlain, far_texts, in_text, near_events, new_there, none_acknowledged, none_due, none_new, settled_step, settled_text, side_track, stands_own}
 use Rattle.xns_calls.proofs.Inputs.{events_front, line_is, lines_ran, numbered_line}
-use Rattle.xns_calls.proofs.Parts.{reached_is, reached_said, reached_text, added, behind_text, captured_new, captured_plain, drop_all, ended_parts, ended_text, first_ended, first_ended_said, flow_append, flow_at, number_tells, other_text, own_text, packet_parts, packet_said, plain, plain_one, said_text_of, scene_text, second_ended, second_ended_said, two_of, two_texts}
+use Rattle.xns_calls.proofs.Parts.{reached_is, reached_said, reached_text, added, behind_text, captured_new, captured_plain, drop_all, flow_append, flow_at, number_tells, other_text, own_text, packet_parts, packet_said, plain, plain_one, said_text_of, scene_text, two_of, two_texts}
 use Rattle.xns_calls.proofs.Numbered.{AllKeep, IsNumbered, keep_more, keep_set, numbered_more, numbered_renewed, numbered_taken, same_number, scene_number}
 use Rattle.xns_calls.proofs.Others.{get_last, get_same}
-use Rattle.xns_calls.proofs.Packets.{ended_other, number_event, packet_other, reached_own, up_to_none}
+use Rattle.xns_calls.proofs.Packets.{number_event, packet_other, reached_own, up_to_none}
 use Rattle.xns_calls.proofs.Places.{place_there}
 use Rattle.xns_calls.specs.declared.origin.Origin.{Origin}
 use Rattle.xns_calls.specs.Origins.{line_origin}
@@ -72,7 +74,7 @@ record Starts (m : ℕ) (b : Bool) (before : List ℕ) (k : Known) (happened : L
   start : Told
   track : start.track ≡ first_track first
   events : List Event
-  are : plain events ≡ happened
+  are : Fits happened (plain events)
   stands : IsOn m b k (after_events events start)
   heading : Heading
   packet : PacketModel
@@ -181,7 +183,8 @@ own_starts n i b packet f content c k there none e =
       start = start;
       track = refl;
       events = events;
-      are = captured_plain h o item ∙ sym (append-nil events) ∙ sym (ap (λ a. events ++ acknowledged_event h a) nothing) ∙ sym (ap (λ p. cond p [] events ++ acknowledged_event h due.own) e);
+      are = fits (item_events h f content (acknowledged_in b f c) None ++ acknowledged_event h (due_of b c)) (plain events)
+          (captured_plain h o item ∙ sym (append-nil events) ∙ sym (ap (λ a. events ++ acknowledged_event h a) nothing) ∙ sym (ap (λ p. cond p [] events ++ acknowledged_event h due.own) e));
       stands = inl (stands_own i b f c new k there u (events_ordered events start (begun_ordered f.sequence start refl)) (ap (λ (x : Scene). x.own.track) after) (sym (ap (λ (x : Scene). told_of u.track x) after)));
       heading = h;
       packet = packet;
@@ -352,7 +355,7 @@ met_settled n m i b q before k xs field numbered (inr w) =
       start = w.start;
       track = w.track;
       events = w.events ++ v.events;
-      are = flat_map-append plain_one w.events v.events ∙ ap (λ z. plain w.events ++ z) v.are ∙ append-nil (plain w.events) ∙ w.are;
+      are = subst (λ es. Fits es (plain (w.events ++ v.events))) (append-nil xs) (fits_on xs [] w.events v.events w.are v.are);
       stands = subst (IsOn m b (settled_at n i q k)) (sym (after_append w.events v.events w.start)) v.stands;
       heading = w.heading;
       packet = w.packet;
@@ -410,26 +413,6 @@ new_meets plain_places n m b flow packet f content k numbered all = by_system (i
 
 -- ---- a connection that begins anew
 
-ended_none : (h : Heading) (s : Scene) → s.own.track ≡ None → ended h s ≡ s
-unfolding ended
-ended_none h s none = ap (λ o. advance_own h (behind_last o) s) none
-
-unsaid : (n : Origin) (m : ℕ) (b : Bool) (c : Connection) (k : Known) → m ≡ c.number → (side_in b c).track ≡ None → texts_in (flow_at m b) (ended_parts n m (scene_in false c k)) ≡ []
-unsaid n m false c k same none =
-    let s = scene_in false c k in
-    let P = flow_at m false in
-    two_of (text_in P (told n P (first_ended_said n m s))) (text_in P (told n (flow_at m true) (second_ended_said n m s))) [] []
-    (own_text n m false (first_ended_said n m s) ∙ sym (first_ended n m s) ∙ ap (λ (x : Scene). drop (length s.text) x.text) (ended_none (heading_at n m false) s none) ∙ drop_all s.text)
-    (other_text n m false (second_ended_said n m s))
-unsaid n m true c k same none =
-    let s = scene_in false c k in
-    let s' = seen_from_other (ended (heading_at n m false) s) in
-    let P = flow_at m true in
-    two_of (text_in P (told n (flow_at m false) (first_ended_said n m s))) (text_in P (told n P (second_ended_said n m s))) [] []
-    (other_text n m true (first_ended_said n m s))
-    (own_text n m true (second_ended_said n m s) ∙ sym (second_ended n m s)
-    ∙ ap (λ (x : Scene). drop (length s'.text) x.text) (ended_none (heading_at n m true) s' (ended_other (heading_at n m false) s ∙ none)) ∙ drop_all s'.text)
-
 forget_waits : (n : Origin) (m i : ℕ) (b : Bool) (flow : Flow) (c : Connection) (k : Known) → slice_get k.connections i ≡ Some c → AllKeep m b k.connections None
     → Awaits m b k.text (forgotten n i flow c k) (ending_events (flow_at m b) (heading_at n m b) c) None
 forget_waits n m i b flow c k there all = by_number (m == c.number) refl
@@ -437,25 +420,41 @@ forget_waits n m i b flow c k there all = by_number (m == c.number) refl
     still_none : AllKeep m b (forgotten n i flow c k).connections None
     still_none = keep_set m b k.connections i (new_connection (k.count + 1) flow) None all (λ is. none_new b (k.count + 1) flow)
 
+    waits_near : (b : Bool) → AllKeep c.number b (forgotten n i flow c k).connections None → (side_in b c).track ≡ None
+        → Awaits c.number b k.text (forgotten n i flow c k) (acknowledged_event (heading_at n c.number b) (behind_last (side_in b c).track)) None
+    waits_near true still none =
+        let w = other_ends_rest n c.number false (scene_in false c k) none in record {
+          none = still;
+          nothing = ap (λ o. acknowledged_event (heading_at n c.number true) (behind_last o)) none;
+          later = refl;
+          parts = w.parts;
+          text = w.text;
+          own = w.own;
+        }
+    waits_near false still none =
+        let w = own_ends_rest n c.number false (scene_in false c k) none in record {
+          none = still;
+          nothing = ap (λ o. acknowledged_event (heading_at n c.number false) (behind_last o)) none;
+          later = refl;
+          parts = w.parts;
+          text = w.text;
+          own = w.own;
+        }
+
     by_number : (p : Bool) → (m == c.number) ≡ p → Awaits m b k.text (forgotten n i flow c k) (cond p (acknowledged_event (heading_at n m b) (behind_last (side_in b c).track)) []) None
     by_number true e =
         let same : m ≡ c.number = equal_tells m c.number e in
-        let none : (side_in b c).track ≡ None = all i c there (sym same) in record {
+        subst (λ g. Awaits g b k.text (forgotten n i flow c k) (acknowledged_event (heading_at n g b) (behind_last (side_in b c).track)) None) (sym same)
+        (waits_near b (subst (λ g. AllKeep g b (forgotten n i flow c k).connections None) same still_none) (all i c there (sym same)))
+    by_number false e =
+        let w = ends_say n c.number false (scene_in false c k) in record {
           none = still_none;
-          nothing = ap (λ o. acknowledged_event (heading_at n m b) (behind_last o)) none;
+          nothing = refl;
           later = refl;
-          parts = forgotten_parts n c k;
-          text = ended_text n c.number (scene_in false c k);
-          own = ap (λ g. texts_in (flow_at m b) (ended_parts n g (scene_in false c k))) (sym same) ∙ unsaid n m b c k same none;
+          parts = w.parts;
+          text = w.text;
+          own = w.far m b e;
         }
-    by_number false e = record {
-      none = still_none;
-      nothing = refl;
-      later = refl;
-      parts = forgotten_parts n c k;
-      text = ended_text n c.number (scene_in false c k);
-      own = far_ended n m b c.number (scene_in false c k) e;
-    }
 
 met_behind : (m : ℕ) (b : Bool) (before : List ℕ) (k k' : Known) (xs ys : List Event) (field : Option ℕ) → Awaits m b before k xs None → Met m b k.text k' ys field → Met m b before k' (xs ++ ys) field
 met_behind m b before k k' xs ys field w (inl v) = inl (record {
@@ -472,7 +471,7 @@ met_behind m b before k k' xs ys field w (inr v) = inr (record {
   start = v.start;
   track = v.track;
   events = v.events;
-  are = v.are ∙ sym (ap (λ z. z ++ ys) w.nothing);
+  are = subst (λ es. Fits es (plain v.events)) (sym (ap (λ z. z ++ ys) w.nothing)) v.are;
   stands = v.stands;
   heading = v.heading;
   packet = v.packet;
@@ -560,7 +559,7 @@ pub record Began (m : ℕ) (b : Bool) (text : List ℕ) (k : Known) (happened : 
   pub start : Told
   pub track : start.track ≡ first_track first
   pub events : List Event
-  pub are : plain events ≡ happened
+  pub are : Fits happened (plain events)
   pub stands : IsOn m b k (after_events events start)
   pub heading : Heading
   pub packet : PacketModel
@@ -601,7 +600,7 @@ module _ (programs : Programs) where
             start = v.start;
             track = v.track;
             events = v.events;
-            are = v.are ∙ sym (ap (λ z. z ++ rest) w.nothing);
+            are = subst (λ es. Fits es (plain v.events)) (sym (ap (λ z. z ++ rest) w.nothing)) v.are;
             stands = v.stands;
             heading = v.heading;
             packet = v.packet;
@@ -618,7 +617,7 @@ module _ (programs : Programs) where
             start = w.start;
             track = w.track ∙ ap first_track same;
             events = w.events ++ v.events;
-            are = flat_map-append plain_one w.events v.events ∙ ap (λ z. z ++ plain v.events) w.are ∙ ap (λ z. here ++ z) v.are;
+            are = fits_on here rest w.events v.events w.are v.are;
             stands = subst (IsOn m b (known_from programs (n + 1) next lines)) (sym (after_append w.events v.events w.start)) v.stands;
             heading = w.heading;
             packet = w.packet;

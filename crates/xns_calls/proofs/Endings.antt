@@ -14,7 +14,8 @@ use Rattle.xns_calls.specs.Naming.{Programs}
 use Rattle.xns_calls.specs.Calls.{calls_text, end_count, known_from, known_of, known_with_end, line_taken, nothing_known, text_of, text_with_end}
 use Rattle.xns_calls.specs.Capture.{Known, after_end, ended_there, heading_at, scene_in, with_scene}
 use Rattle.xns_calls.specs.Events.{Event, acknowledged_event, after_event, after_events, meanwhile}
-use Rattle.xns_calls.specs.Exchange.{Scene, after_told, behind_last, both_ended, ended, of_other, seen_from_other, told_of}
+use Rattle.xns_calls.specs.AtEnd.{both_ended}
+use Rattle.xns_calls.specs.Exchange.{Scene, told_of}
 use Rattle.xns_calls.specs.Input.{FlowName, Part, TellsConversation, events_in, first_field, part_text, parts_text, text_in, texts_in, told}
 use Rattle.xns_calls.specs.Reading.{Told}
 use Rattle.xns_calls.specs.Texts.{flow_line}
@@ -23,15 +24,21 @@ use Rattle.xns_calls.specs.declared.connection.Connection.{Connection}
 use Rattle.xns_calls.specs.declared.heading.Heading.{Heading}
 use Rattle.xns_calls.specs.declared.speech.Speech.TheVariants.{Hearing}
 use Rattle.xns_calls.proofs.Beginnings.{lines_met}
+use Rattle.xns_calls.proofs.EndReads.{ends_say, other_ends, own_ends}
+use Rattle.xns_calls.proofs.Fits.{fits_whole}
 use Rattle.xns_calls.proofs.Gaps.{IsOrdered, equal_tells, events_ordered, le_tells, lt_tells}
-use Rattle.xns_calls.proofs.Happenings.{IsAt, IsGone, IsOn, ended_event, far_ended, first_ends, gone_set, other_place, others_plain, second_ends, second_others, still}
+use Rattle.xns_calls.proofs.Happenings.{IsAt, IsGone, IsOn, gone_set, other_place, still}
+use Rattle.xns_calls.proofs.LastKept.{AreAcks, AreBelow}
+use Rattle.xns_calls.proofs.LessAtEnd.{both_left, other_left, own_left}
+use Rattle.xns_calls.proofs.Onwards.{Says}
 use Rattle.xns_calls.proofs.Inputs.{from_front, numbered_line}
-use Rattle.xns_calls.proofs.Parts.{acknowledged_plain, ended_parts, ended_text, flow_append, flow_at, number_tells, plain, plain_one, plain_whole}
+use Rattle.xns_calls.proofs.Parts.{flow_append, flow_at, number_tells, plain, plain_whole}
 use Rattle.xns_calls.proofs.Numbered.{AllKeep, IsNumbered, numbered_none, numbered_set}
 use Rattle.xns_calls.proofs.Others.{get_same, get_set}
-use Rattle.xns_calls.proofs.Packets.{ended_other}
+use Rattle.xns_calls.proofs.Steps.{early_of}
 use Rattle.xns_calls.proofs.Places.{plain_places}
-use Rattle.xns_calls.proofs.Whole.{after_append, end_bound, end_empty, first_of, get_below, whole_said, whole_with}
+use Rattle.xns_calls.proofs.Whole.{after_append, first_of, get_below, whole_said}
+use Rattle.xns_calls.proofs.WholeEnds.{acks_whole, whole_below}
 use Rattle.xns_calls.specs.declared.origin.Origin.{Origin}
 use Rattle.xns_calls.specs.Origins.{line_origin}
 
@@ -40,7 +47,7 @@ use Rattle.xns_calls.specs.Origins.{line_origin}
 record EndStep (m i : ℕ) (b : Bool) (k k' : Known) (t : Told) : Type 0 where
   events : List Event
   stands : IsOn m b k' (after_events events t)
-  are : (plain events ≡ []) ⊎ ((h : Heading) × (plain events ≡ acknowledged_event h (behind_last (Some t.track))))
+  acks : (bound : ℕ) → AreBelow bound (early_of t) → AreAcks bound events
   parts : List Part
   text : k'.text ≡ k.text ++ parts_text parts
   own : texts_in (flow_at m b) parts ≡ flow_text events t
@@ -53,7 +60,7 @@ step_far : (m i : ℕ) (b : Bool) (k k' : Known) (t : Told) (parts : List Part) 
 step_far m i b k k' t parts text own a same not_here = record {
   events = meanwhile t.calls k'.text k'.is_refused ∷ [];
   stands = inl (still m b k k' t a same);
-  are = inl refl;
+  acks = λ bound below. tt;
   parts = parts;
   text = text;
   own = own;
@@ -65,7 +72,7 @@ step_gone : (m i : ℕ) (b : Bool) (k k' : Known) (t : Told) (parts : List Part)
 step_gone m i b k k' t parts text own gone = record {
   events = [];
   stands = inr gone;
-  are = inl refl;
+  acks = λ bound below. tt;
   parts = parts;
   text = text;
   own = own;
@@ -73,80 +80,59 @@ step_gone m i b k k' t parts text own gone = record {
   keeps = λ none. none;
 }
 
--- the flow that began first
-first_step : (n : Origin) (i : ℕ) (c : Connection) (k : Known) (t : Told) → slice_get k.connections i ≡ Some c → IsOrdered t → (scene_in false c k).own.track ≡ Some t.track → t ≡ told_of t.track (scene_in false c k)
-    → EndStep c.number i false k (ended_there n i (Some c) k) t
-unfolding both_ended
-first_step n i c k t there ordered track is =
-    let m = c.number in
-    let h = heading_at n m false in
+-- all that it keeps is read
+near_end : (n : Origin) (i : ℕ) (b : Bool) (c : Connection) (k : Known) (t : Told) → slice_get k.connections i ≡ Some c → IsOrdered t → (scene_in b c k).own.track ≡ Some t.track → t ≡ told_of t.track (scene_in b c k)
+    → EndStep c.number i b k (ended_there n i (Some c) k) t
+near_end n i false c k t there ordered track is =
+    let h = heading_at n c.number false in
     let s = scene_in false c k in
-    let acks = acknowledged_event h (behind_last (Some t.track)) in
     let new = both_ended h s in
     let c' = with_scene false new c in
-    let others = meanwhile (record { own = new.own.call; asked = new.other.call }) new.text new.is_refused in
-    let u = after_events acks t in
-    let after : ended h s ≡ after_told u s = ended_event h s t.track track ∙ ap (λ (x : Told). after_told (after_events acks x) s) (sym is) in
-    let joined = after_append acks (others ∷ []) t in
-    let empty : u.track.early ≡ [] = end_empty h t ordered in
-    let none : (after_events (acks ++ others ∷ []) t).track.early ≡ [] = ap (λ (x : Told). x.track.early) joined ∙ empty in record {
-      events = acks ++ others ∷ [];
-      stands = inl (subst (IsAt m false (ended_there n i (Some c) k)) (sym joined)
-          (record {
-            place = i;
-            connection = c';
-            there = get_same k.connections i c c' there;
-            number = refl;
-            track = ended_other (of_other h) (seen_from_other (ended h s)) ∙ ap (λ (x : Scene). x.own.track) after;
-            is = refl;
-            ordered = events_ordered acks t ordered;
-          }));
-      are = inr (h, acknowledged_plain h (behind_last (Some t.track)) others refl);
-      parts = ended_parts n m s;
-      text = ended_text n m s;
-      own = first_ends n c k t track is ∙ sym (append-nil (flow_text acks t)) ∙ sym (flow_append acks (others ∷ []) t);
-      done = λ d e same. none;
-      keeps = λ e. none;
-    }
-
--- and the one behind it
-second_step : (n : Origin) (i : ℕ) (c : Connection) (k : Known) (t : Told) → slice_get k.connections i ≡ Some c → IsOrdered t → (scene_in true c k).own.track ≡ Some t.track
-    → EndStep c.number i true k (ended_there n i (Some c) k) t
-unfolding both_ended second_others
-second_step n i c k t there ordered track =
-    let m = c.number in
-    let h = heading_at n m false in
-    let s = scene_in false c k in
-    let s' = seen_from_other (ended h s) in
-    let acks = acknowledged_event (of_other h) (behind_last (Some t.track)) in
-    let new = both_ended h s in
-    let c' = with_scene false new c in
-    let v = told_of t.track s' in
-    let u = after_events acks v in
-    let after : ended (of_other h) s' ≡ after_told u s' = ended_event (of_other h) s' t.track (ended_other h s ∙ track) in
-    let empty : u.track.early ≡ [] = end_empty (of_other h) v ordered in record {
-      events = second_others n c k ∷ acks;
+    let w = own_ends n c.number false s t track is ordered in
+    let u = after_events w.events t in
+    let empty : u.track.early ≡ [] = own_left u.track new.own.track new.other.track w.track (both_left h s) in record {
+      events = w.events;
       stands = inl (record {
         place = i;
         connection = c';
         there = get_same k.connections i c c' there;
         number = refl;
-        track = ap (λ (x : Scene). x.own.track) after;
-        is = sym (ap (λ (x : Scene). told_of u.track x) after);
-        ordered = events_ordered acks v ordered;
+        track = w.track;
+        is = w.is;
+        ordered = events_ordered w.events t ordered;
       });
-      are = inr (of_other h, others_plain n c k (of_other h) (behind_last (Some t.track)));
-      parts = ended_parts n m s;
-      text = ended_text n m s;
-      own = second_ends n c k t track;
+      acks = λ bound below. (w.acks bound below).0;
+      parts = w.parts;
+      text = w.text;
+      own = w.own;
       done = λ d e same. empty;
       keeps = λ e. empty;
     }
-
-near_end : (n : Origin) (i : ℕ) (b : Bool) (c : Connection) (k : Known) (t : Told) → slice_get k.connections i ≡ Some c → IsOrdered t → (scene_in b c k).own.track ≡ Some t.track → t ≡ told_of t.track (scene_in b c k)
-    → EndStep c.number i b k (ended_there n i (Some c) k) t
-near_end n i false c k t there ordered track is = first_step n i c k t there ordered track is
-near_end n i true c k t there ordered track is = second_step n i c k t there ordered track
+near_end n i true c k t there ordered track is =
+    let h = heading_at n c.number false in
+    let s = scene_in false c k in
+    let new = both_ended h s in
+    let c' = with_scene false new c in
+    let w = other_ends n c.number false s t track is ordered in
+    let u = after_events w.events t in
+    let empty : u.track.early ≡ [] = other_left u.track new.own.track new.other.track w.track (both_left h s) in record {
+      events = w.events;
+      stands = inl (record {
+        place = i;
+        connection = c';
+        there = get_same k.connections i c c' there;
+        number = refl;
+        track = w.track;
+        is = w.is;
+        ordered = events_ordered w.events t ordered;
+      });
+      acks = λ bound below. (w.acks bound below).0;
+      parts = w.parts;
+      text = w.text;
+      own = w.own;
+      done = λ d e same. empty;
+      keeps = λ e. empty;
+    }
 
 there_end : (n : Origin) (m i : ℕ) (b : Bool) (c : Connection) (k : Known) (t : Told) → IsNumbered k.connections k.count → slice_get k.connections i ≡ Some c → IsOn m b k t → EndStep m i b k (ended_there n i (Some c) k) t
 there_end n m i b c k t numbered there on = by_number (m == c.number) refl on
@@ -156,6 +142,9 @@ there_end n m i b c k t numbered there on = by_number (m == c.number) refl on
 
     c' : Connection
     c' = with_scene false (both_ended (heading_at n c.number false) s) c
+
+    says : Says c.number s (both_ended (heading_at n c.number false) s)
+    says = ends_say n c.number false s
 
     other_here : (m ≡ c.number → ⊥) → (d : Connection) → slice_get (slice_set k.connections i c') i ≡ Some d → d.number ≡ m → ⊥
     other_here other d e is =
@@ -172,11 +161,11 @@ there_end n m i b c k t numbered there on = by_number (m == c.number) refl on
         subst (λ g. EndStep g i b k (ended_there n i (Some c) k) t) (sym (equal_tells m c.number e)) (near_end n i b c k t there a.ordered track is)
     by_number true e (inr gone) = absurd (gone.none i c there (sym (equal_tells m c.number e)))
     by_number false e (inl a) =
-        step_far m i b k (ended_there n i (Some c) k) t (ended_parts n c.number s) (ended_text n c.number s) (far_ended n m b c.number s e) a
+        step_far m i b k (ended_there n i (Some c) k) t says.parts says.text (says.far m b e) a
         (get_set k.connections a.place i c' (other_place k a.place i a.connection c a.there there (λ same. number_tells m c.number e (sym a.number ∙ same))))
         (other_here (number_tells m c.number e))
     by_number false e (inr gone) =
-        step_gone m i b k (ended_there n i (Some c) k) t (ended_parts n c.number s) (ended_text n c.number s) (far_ended n m b c.number s e)
+        step_gone m i b k (ended_there n i (Some c) k) t says.parts says.text (says.far m b e)
         (record { counted = gone.counted; none = gone_set m i k c c' t gone there refl; empty = gone.empty })
 
 end_step : (n : Origin) (m i : ℕ) (b : Bool) (k : Known) (t : Told) → IsNumbered k.connections k.count → IsOn m b k t → EndStep m i b k (after_end n i k) t
@@ -224,15 +213,6 @@ record Goes (items : List Item) (m : ℕ) (b : Bool) (start : Told) (line text :
   own : texts_in (flow_at m b) parts ≡ line ++ flow_text events start
   done : (j : ℕ) (c : Connection) → slice_get k.connections j ≡ Some c → c.number ≡ m → j < part → (after_events events start).track.early ≡ []
 
-ended_whole : (items : List Item) (events more : List Event) (start : Told) → start.track ≡ record { next = 0; early = []; speech = Hearing (opening []) } → IsWhole items (plain events)
-    → (plain more ≡ []) ⊎ ((h : Heading) × (plain more ≡ acknowledged_event h (behind_last (Some (after_events events start).track)))) → IsWhole items (plain (events ++ more))
-ended_whole items events more start first w (inl none) =
-    subst (IsWhole items) (sym (flat_map-append plain_one events more ∙ ap (λ z. plain events ++ z) none ∙ append-nil (plain events))) w
-ended_whole items events more start first w (inr (h, is)) =
-    let o = behind_last (Some (after_events events start).track) in
-    subst (IsWhole items) (sym (flat_map-append plain_one events more ∙ ap (λ z. plain events ++ z) is))
-    (whole_with items (plain events) h o w (end_bound items events start first (plain_whole items events w)))
-
 end_others : (n : Origin) (i j : ℕ) (k : Known) → (j ≡ i → ⊥) → slice_get (after_end n i k).connections j ≡ slice_get k.connections j
 unfolding after_end
 end_others n i j k other = by_connection (slice_get k.connections i)
@@ -262,7 +242,7 @@ goes_one n items m b start line text before count part first w =
     let joined = after_append w.events more start in
     let P = flow_at m b in record {
       events = w.events ++ more;
-      whole = ended_whole items w.events more start first w.whole v.are;
+      whole = acks_whole items w.events more w.whole (v.acks (length items) (whole_below items w.events start first (plain_whole items w.events w.whole)));
       stands = subst (IsOn m b k') (sym joined) v.stands;
       numbered = end_numbered n part k w.numbered;
       long = end_length n part k ∙ w.long;
@@ -317,7 +297,7 @@ input_told apart runs law messages ends programs input p items field has small w
     let first = first_of field w.start small w.track in
     let begun : Goes items p.connection p.is_behind w.start line (text_of programs lines) (known_of programs lines) (end_count programs lines) 0 = record {
       events = w.events;
-      whole = subst (IsWhole items) (sym w.are) whole;
+      whole = fits_whole items (events_in programs p lines) (plain w.events) w.are whole;
       stands = w.stands;
       numbered = numbered_from programs 1 nothing_known lines numbered_none;
       long = refl;

@@ -9,9 +9,10 @@ use Rattle.xns_dump.specs.Flows.{flow_of, is_place}
 use Rattle.xns_dump.specs.declared.flows.flow.Flow.{Flow}
 use Rattle.xns_calls.specs.Acknowledged.{acknowledged_in, due_in, due_of, given_in, noted}
 use Rattle.xns_calls.specs.Anew.{begins_anew}
+use Rattle.xns_calls.specs.AtEnd.{both_ended}
 use Rattle.xns_calls.specs.Capture.{Known, after_at, after_in, after_new_flow, after_place, after_scene, after_sequenced, after_there, forgotten, heading_at, is_behind_in, new_connection, place_of, renewed, renewed_there, scene_in, settled_at, settled_there, taken_in, with_new, with_scene}
 use Rattle.xns_calls.specs.Events.{Event, acknowledged_event, after_event, after_events, brought_if, meanwhile, own_events, with_others}
-use Rattle.xns_calls.specs.Exchange.{Scene, advance_own, advance_track, advanced, after_packet, after_told, behind_last, carried, ended, of_other, other_reached, seen_from_other, told_of, up_to}
+use Rattle.xns_calls.specs.Exchange.{Scene, advance_own, advance_track, advanced, after_packet, after_told, behind_last, carried, of_other, other_reached, seen_from_other, told_of, up_to}
 use Rattle.xns_calls.specs.Input.{Part, connection_at, connection_of, ending_events, events_between, events_there, is_same, item_events, name_in, next_name, part_text, parts_text, text_in, texts_in, told}
 use Rattle.xns_calls.specs.Numbers.{near}
 use Rattle.xns_calls.specs.Over.{side_in}
@@ -23,15 +24,19 @@ use Rattle.xns_calls.specs.declared.connection.Connection.{Connection}
 use Rattle.xns_calls.specs.declared.due.Due.{Due}
 use Rattle.xns_calls.specs.declared.heading.Heading.{Heading}
 use Rattle.xns_calls.specs.declared.track.Track.{Track}
+use Rattle.xns_calls.proofs.EndReads.{ends_say, other_ends, own_ends}
+use Rattle.xns_calls.proofs.Fits.{Fits, acks_fit, fits, fits_on}
 use Rattle.xns_calls.proofs.Gaps.{IsOrdered, equal_tells, events_ordered}
+use Rattle.xns_calls.proofs.LastKept.{all_below, bound_of}
+use Rattle.xns_calls.proofs.LessAtEnd.{both_left, other_left, own_left}
 use Rattle.xns_calls.proofs.Numbered.{IsNumbered, fresh_number, more_cases, numbered_more, numbered_renewed, numbered_taken, same_number, scene_number, set_cases}
 use Rattle.xns_calls.proofs.Others.{get_front, get_last, get_same, get_set}
 use Rattle.xns_calls.proofs.Places.{place_there}
 use Rattle.xns_calls.proofs.Onwards.{Says, other_settled, own_settled, settled_says}
-use Rattle.xns_calls.proofs.Whole.{after_append, end_empty, get_below, least_same}
-use Rattle.xns_calls.proofs.Packets.{reached_event, ended_other, packet_events, packet_other, put_back}
+use Rattle.xns_calls.proofs.Whole.{after_append, get_below}
+use Rattle.xns_calls.proofs.Packets.{reached_event, packet_events, packet_other, put_back}
 use Rattle.xns_calls.specs.declared.origin.Origin.{Origin}
-use Rattle.xns_calls.proofs.Parts.{ack_plain, acknowledged_new, acknowledged_plain, behind_text, both_new, both_plain, ended_parts, ended_text, far_text, first_ended, first_ended_said, flow_append, flow_at, number_tells, other_number, other_text, own_text, packet_parts, packet_said, packet_text, plain, plain_one, reached_said, reached_text, said_text_of, scene_text, second_ended, second_ended_said, two_of}
+use Rattle.xns_calls.proofs.Parts.{acknowledged_new, acknowledged_plain, behind_text, both_new, both_plain, far_text, flow_append, flow_at, number_tells, other_number, other_text, own_text, packet_parts, packet_said, packet_text, plain, plain_one, reached_said, reached_text, said_text_of, scene_text, two_of}
 
 -- ---- where a flow stands that has begun
 
@@ -90,7 +95,7 @@ still m false k k' t a same = record {
 
 pub record Stepped (m : ℕ) (b : Bool) (k k' : Known) (t : Told) (happened : List Event) : Type 0 where
   pub events : List Event
-  pub are : plain events ≡ happened
+  pub are : Fits happened (plain events)
   pub stands : IsOn m b k' (after_events events t)
   pub parts : List Part
   pub text : k'.text ≡ k.text ++ parts_text parts
@@ -100,7 +105,7 @@ pub unchanged : (m : ℕ) (b : Bool) (k k' : Known) (t : Told) (parts : List Par
     → (a : IsAt m b k t) → slice_get k'.connections a.place ≡ slice_get k.connections a.place → Stepped m b k k' t []
 unchanged m b k k' t parts text own a same = record {
   events = meanwhile t.calls k'.text k'.is_refused ∷ [];
-  are = refl;
+  are = fits [] [] refl;
   stands = inl (still m b k k' t a same);
   parts = parts;
   text = text;
@@ -108,7 +113,7 @@ unchanged m b k k' t parts text own a same = record {
 }
 
 pub stays_gone : (m : ℕ) (b : Bool) (k k' : Known) (t : Told) (parts : List Part) → k'.text ≡ k.text ++ parts_text parts → texts_in (flow_at m b) parts ≡ [] → IsGone m k' t → Stepped m b k k' t []
-stays_gone m b k k' t parts text own gone = record { events = []; are = refl; stands = inr gone; parts = parts; text = text; own = own }
+stays_gone m b k k' t parts text own gone = record { events = []; are = fits [] [] refl; stands = inr gone; parts = parts; text = text; own = own }
 
 -- nothing happens
 pub nothing_step : (m : ℕ) (b : Bool) (k : Known) (t : Told) → IsOn m b k t → Stepped m b k k t []
@@ -121,7 +126,7 @@ two_steps m b k k' k'' t xs ys w next =
     let v = next (after_events w.events t) w.stands in
     let P = flow_at m b in record {
       events = w.events ++ v.events;
-      are = flat_map-append plain_one w.events v.events ∙ ap (λ z. z ++ plain v.events) w.are ∙ ap (λ z. xs ++ z) v.are;
+      are = fits_on xs ys w.events v.events w.are v.are;
       stands = subst (IsOn m b k'') (sym (after_append w.events v.events t)) v.stands;
       parts = w.parts ++ v.parts;
       text = v.text ∙ ap (λ z. z ++ parts_text v.parts) w.text ∙ append_assoc k.text (parts_text w.parts) (parts_text v.parts) ∙ ap (λ z. k.text ++ z) (sym (flat_map-append part_text w.parts v.parts));
@@ -144,7 +149,7 @@ own_step n i b packet f content c k t e ordered track is =
     let o = near t.track.next f.sequence in
     let after : new ≡ after_told u known = packet_events h due packet f content s t.track track ∙ ap (λ (x : Told). after_told (after_events events x) known) (sym is) in record {
       events = events;
-      are = both_plain (is_system f) h o (carried h due.acknowledged f content) due.own;
+      are = fits (item_events h f content (acknowledged_in b f c) (Some t.track) ++ acknowledged_event h (due_of b c)) (plain events) (both_plain (is_system f) h o (carried h due.acknowledged f content) due.own);
       stands = inl (stands_own i b f c new k e u (events_ordered events t ordered) (ap (λ (x : Scene). x.own.track) after) (sym (ap (λ (x : Scene). told_of u.track x) after)));
       parts = packet_parts n m b due packet f content s;
       text = packet_text n m b due packet f content s ∙ ap (λ z. z ++ parts_text (packet_parts n m b due packet f content s)) (scene_text b c k);
@@ -171,7 +176,7 @@ behind_step n i q packet f content c k t e ordered track is =
     reached_event h due.other s t.track track ∙ ap (λ (x : Told). seen_from_other (after_told (after_events acks x) (seen_from_other s))) (sym is) in
     let P = flow_at m (not q) in record {
       events = acks ++ others ∷ [];
-      are = acknowledged_plain (of_other h) due.other others refl;
+      are = fits acks (plain (acks ++ others ∷ [])) (acknowledged_plain (of_other h) due.other others refl);
       stands = inl (subst (IsAt m (not q) (taken_in n i q packet f content c k)) (sym (after_append acks (others ∷ []) t))
           (stands_behind i q f c new k e (after_event others v) (events_ordered acks t ordered) (packet_other h due packet f content s ∙ ap (λ (x : Scene). x.other.track) after) refl));
       parts = packet_parts n m q due packet f content s;
@@ -188,11 +193,6 @@ pub far_texts : (n : Origin) (m : ℕ) (b q : Bool) (due : Due) (packet : Packet
 far_texts n m b q due packet f content g s far =
     two_of (text_in (flow_at m b) (told n (flow_at g (not q)) (reached_said n g q due s))) (text_in (flow_at m b) (told n (flow_at g q) (packet_said n g q due packet f content s))) [] []
     (far_text n m g b (not q) (reached_said n g q due s) far) (far_text n m g b q (packet_said n g q due packet f content s) far)
-
-pub far_ended : (n : Origin) (m : ℕ) (b : Bool) (g : ℕ) (s : Scene) → (m == g) ≡ false → texts_in (flow_at m b) (ended_parts n g s) ≡ []
-far_ended n m b g s far =
-    two_of (text_in (flow_at m b) (told n (flow_at g false) (first_ended_said n g s))) (text_in (flow_at m b) (told n (flow_at g true) (second_ended_said n g s))) [] []
-    (far_text n m g b false (first_ended_said n g s) far) (far_text n m g b true (second_ended_said n g s) far)
 
 pub in_text : (n : Origin) (i : ℕ) (q : Bool) (packet : PacketModel) (f : Header) (content : List ℕ) (c : Connection) (k : Known)
     → (taken_in n i q packet f content c k).text ≡ k.text ++ parts_text (packet_parts n c.number q (due_in q f c) packet f content (scene_in q c k))
@@ -269,22 +269,22 @@ near_settled n i true true c k t there ordered track is =
     let s = scene_in true c k in
     let w = own_settled n c.number true (given_in true c) s t track is in
     let c' = with_scene true (settled (heading_at n c.number true) (given_in true c) s) c in
-    record { events = w.events; are = w.are; stands = inl (record { place = i; connection = c'; there = get_same k.connections i c c' there; number = refl; track = w.track; is = w.is; ordered = events_ordered w.events t ordered }); parts = w.parts; text = w.text; own = w.own }
+    record { events = w.events; are = fits [] (plain w.events) w.are; stands = inl (record { place = i; connection = c'; there = get_same k.connections i c c' there; number = refl; track = w.track; is = w.is; ordered = events_ordered w.events t ordered }); parts = w.parts; text = w.text; own = w.own }
 near_settled n i false false c k t there ordered track is =
     let s = scene_in false c k in
     let w = own_settled n c.number false (given_in false c) s t track is in
     let c' = with_scene false (settled (heading_at n c.number false) (given_in false c) s) c in
-    record { events = w.events; are = w.are; stands = inl (record { place = i; connection = c'; there = get_same k.connections i c c' there; number = refl; track = w.track; is = w.is; ordered = events_ordered w.events t ordered }); parts = w.parts; text = w.text; own = w.own }
+    record { events = w.events; are = fits [] (plain w.events) w.are; stands = inl (record { place = i; connection = c'; there = get_same k.connections i c c' there; number = refl; track = w.track; is = w.is; ordered = events_ordered w.events t ordered }); parts = w.parts; text = w.text; own = w.own }
 near_settled n i true false c k t there ordered track is =
     let s = scene_in false c k in
     let w = other_settled n c.number false (given_in false c) s t track is in
     let c' = with_scene false (settled (heading_at n c.number false) (given_in false c) s) c in
-    record { events = w.events; are = w.are; stands = inl (record { place = i; connection = c'; there = get_same k.connections i c c' there; number = refl; track = w.track; is = w.is; ordered = events_ordered w.events t ordered }); parts = w.parts; text = w.text; own = w.own }
+    record { events = w.events; are = fits [] (plain w.events) w.are; stands = inl (record { place = i; connection = c'; there = get_same k.connections i c c' there; number = refl; track = w.track; is = w.is; ordered = events_ordered w.events t ordered }); parts = w.parts; text = w.text; own = w.own }
 near_settled n i false true c k t there ordered track is =
     let s = scene_in true c k in
     let w = other_settled n c.number true (given_in true c) s t track is in
     let c' = with_scene true (settled (heading_at n c.number true) (given_in true c) s) c in
-    record { events = w.events; are = w.are; stands = inl (record { place = i; connection = c'; there = get_same k.connections i c c' there; number = refl; track = w.track; is = w.is; ordered = events_ordered w.events t ordered }); parts = w.parts; text = w.text; own = w.own }
+    record { events = w.events; are = fits [] (plain w.events) w.are; stands = inl (record { place = i; connection = c'; there = get_same k.connections i c c' there; number = refl; track = w.track; is = w.is; ordered = events_ordered w.events t ordered }); parts = w.parts; text = w.text; own = w.own }
 
 pub settled_text : (n : Origin) (i : ℕ) (q : Bool) (c : Connection) (k : Known)
     → (settled_there n i q (Some c) k).text ≡ k.text ++ parts_text (settled_says n c.number q (given_in q c) (scene_in q c k)).parts
@@ -332,72 +332,8 @@ at_step n m i b q packet f content c k t numbered there on =
 
 -- ---- the end of a connection that begins anew
 
--- the end of a flow is its event
-pub ended_event : (h : Heading) (s : Scene) (track : Track) → s.own.track ≡ Some track → ended h s ≡ after_told (after_events (acknowledged_event h (behind_last (Some track))) (told_of track s)) s
-unfolding ended advanced
-ended_event h s track e = ap (λ o. advance_own h (behind_last o) s) e ∙ by_last (last_number track.early) refl
-  where
-    by_last : (o : Option ℕ) → last_number track.early ≡ o
-        → advance_own h (option_map (λ number. number + 1) o) s ≡ after_told (after_events (acknowledged_event h (option_map (λ number. number + 1) o)) (told_of track s)) s
-    by_last None none = sym (put_back s track e)
-    by_last (Some last) is =
-        ap (λ o. advance_track h (last + 1) o s) e
-        ∙ ap (λ x. after_told (brought h x (told_of track s)) s) (sym (least_same (last + 1)))
-        ∙ ap (λ o. after_told (brought_if h (up_to o (Some (last + 1))) (told_of track s)) s) (sym is)
-
--- what a flow says as its connection is forgotten
-pub first_ends : (n : Origin) (c : Connection) (k : Known) (t : Told) → (scene_in false c k).own.track ≡ Some t.track → t ≡ told_of t.track (scene_in false c k)
-    → texts_in (flow_at c.number false) (ended_parts n c.number (scene_in false c k)) ≡ flow_text (acknowledged_event (heading_at n c.number false) (behind_last (Some t.track))) t
-first_ends n c k t track is =
-    let m = c.number in
-    let h = heading_at n m false in
-    let s = scene_in false c k in
-    let o = behind_last (Some t.track) in
-    let u = after_events (acknowledged_event h o) t in
-    let P = flow_at m false in
-    two_of (text_in P (told n P (first_ended_said n m s))) (text_in P (told n (flow_at m true) (second_ended_said n m s))) (flow_text (acknowledged_event h o) t) []
-    (own_text n m false (first_ended_said n m s) ∙ sym (first_ended n m s)
-    ∙ ap (λ (x : Scene). drop (length s.text) x.text) (ended_event h s t.track track ∙ ap (λ (x : Told). after_told (after_events (acknowledged_event h o) x) s) (sym is))
-    ∙ ap (λ (x : Told). drop (length x.text) u.text) (sym is) ∙ sym (acknowledged_new h o t))
-    (other_text n m false (second_ended_said n m s))
-    ∙ append-nil (flow_text (acknowledged_event h o) t)
-
-unfoldable pub second_others : Origin → Connection → Known → Event
-second_others n c k =
-    let s = ended (heading_at n c.number false) (scene_in false c k) in
-    meanwhile (record { own = s.other.call; asked = s.own.call }) s.text s.is_refused
-
-pub second_ends : (n : Origin) (c : Connection) (k : Known) (t : Told) → (scene_in true c k).own.track ≡ Some t.track
-    → texts_in (flow_at c.number true) (ended_parts n c.number (scene_in false c k))
-    ≡ flow_text (second_others n c k ∷ acknowledged_event (heading_at n c.number true) (behind_last (Some t.track))) t
-unfolding second_others
-second_ends n c k t track =
-    let m = c.number in
-    let h = heading_at n m true in
-    let s = scene_in false c k in
-    let s' = seen_from_other (ended (heading_at n m false) s) in
-    let there : s'.own.track ≡ Some t.track = ended_other (heading_at n m false) s ∙ track in
-    let o = behind_last (Some t.track) in
-    let v = told_of t.track s' in
-    let u = after_events (acknowledged_event h o) v in
-    let P = flow_at m true in
-    two_of (text_in P (told n (flow_at m false) (first_ended_said n m s))) (text_in P (told n P (second_ended_said n m s))) [] (flow_text (acknowledged_event h o) v)
-    (other_text n m true (first_ended_said n m s))
-    (own_text n m true (second_ended_said n m s) ∙ sym (second_ended n m s)
-    ∙ ap (λ (x : Scene). drop (length s'.text) x.text) (ended_event h s' t.track there)
-    ∙ sym (acknowledged_new h o v))
-
-pub others_plain : (n : Origin) (c : Connection) (k : Known) (h : Heading) (o : Option ℕ) → plain (second_others n c k ∷ acknowledged_event h o) ≡ acknowledged_event h o
-unfolding second_others
-others_plain n c k h o = ack_plain h o
-
-others_empty : (n : Origin) (c : Connection) (k : Known) (h : Heading) (t : Told) → IsOrdered t
-    → (after_events (second_others n c k ∷ acknowledged_event h (behind_last (Some t.track))) t).track.early ≡ []
-unfolding second_others
-others_empty n c k h t ordered = end_empty h (after_event (second_others n c k) t) ordered
-
 abbrev pub forgotten_parts : Origin → Connection → Known → List Part
-forgotten_parts n c k = ended_parts n c.number (scene_in false c k)
+forgotten_parts n c k = (ends_say n c.number false (scene_in false c k)).parts
 
 -- the number of the next connection is none of these
 pub next_other : (m n : ℕ) → m ≤ n → (m == n + 1) ≡ false
@@ -430,31 +366,40 @@ pub forget_near : (n : Origin) (i : ℕ) (b : Bool) (flow : Flow) (c : Connectio
     → Stepped c.number b k (forgotten n i flow c k) t (acknowledged_event (heading_at n c.number b) (behind_last (side_in b c).track))
 forget_near n i false flow c k t numbered there ordered track is =
     let h = heading_at n c.number false in
+    let s = scene_in false c k in
+    let w = own_ends n c.number false s t track is ordered in
+    let o = behind_last (Some t.track) in
     subst (λ o. Stepped c.number false k (forgotten n i flow c k) t (acknowledged_event h (behind_last o))) (sym track)
     (record {
-      events = acknowledged_event h (behind_last (Some t.track));
-      are = ack_plain h (behind_last (Some t.track));
-      stands = inr (gone_now k i flow n c (after_events (acknowledged_event h (behind_last (Some t.track))) t) numbered there (end_empty h t ordered));
-      parts = forgotten_parts n c k;
-      text = ended_text n c.number (scene_in false c k);
-      own = first_ends n c k t track is;
+      events = w.events;
+      are = acks_fit h o w.events (w.acks (bound_of o) (all_below t ordered)).0;
+      stands = inr (gone_now k i flow n c (after_events w.events t) numbered there (own_left (after_events w.events t).track (both_ended h s).own.track (both_ended h s).other.track w.track (both_left h s)));
+      parts = w.parts;
+      text = w.text;
+      own = w.own;
     })
 forget_near n i true flow c k t numbered there ordered track is =
-    let h = heading_at n c.number true in
-    subst (λ o. Stepped c.number true k (forgotten n i flow c k) t (acknowledged_event h (behind_last o))) (sym track)
+    let h = heading_at n c.number false in
+    let s = scene_in false c k in
+    let w = other_ends n c.number false s t track is ordered in
+    let o = behind_last (Some t.track) in
+    subst (λ o. Stepped c.number true k (forgotten n i flow c k) t (acknowledged_event (heading_at n c.number true) (behind_last o))) (sym track)
     (record {
-      events = second_others n c k ∷ acknowledged_event h (behind_last (Some t.track));
-      are = others_plain n c k h (behind_last (Some t.track));
-      stands = inr (gone_now k i flow n c (after_events (second_others n c k ∷ acknowledged_event h (behind_last (Some t.track))) t) numbered there (others_empty n c k h t ordered));
-      parts = forgotten_parts n c k;
-      text = ended_text n c.number (scene_in false c k);
-      own = second_ends n c k t track;
+      events = w.events;
+      are = acks_fit (heading_at n c.number true) o w.events (w.acks (bound_of o) (all_below t ordered)).0;
+      stands = inr (gone_now k i flow n c (after_events w.events t) numbered there (other_left (after_events w.events t).track (both_ended h s).own.track (both_ended h s).other.track w.track (both_left h s)));
+      parts = w.parts;
+      text = w.text;
+      own = w.own;
     })
 
 pub forget_step : (n : Origin) (m i : ℕ) (b : Bool) (flow : Flow) (c : Connection) (k : Known) (t : Told) → IsNumbered k.connections k.count → slice_get k.connections i ≡ Some c → IsOn m b k t
     → Stepped m b k (forgotten n i flow c k) t (ending_events (flow_at m b) (heading_at n m b) c)
 forget_step n m i b flow c k t numbered there on = by_number (m == c.number) refl on
   where
+    ended : Says c.number (scene_in false c k) (both_ended (heading_at n c.number false) (scene_in false c k))
+    ended = ends_say n c.number false (scene_in false c k)
+
     by_number : (p : Bool) → (m == c.number) ≡ p → IsOn m b k t → Stepped m b k (forgotten n i flow c k) t (cond p (acknowledged_event (heading_at n m b) (behind_last (side_in b c).track)) [])
     by_number true e (inl a) =
         let place : a.place ≡ i = numbered.alone a.place i a.connection c a.there there (a.number ∙ equal_tells m c.number e) in
@@ -466,10 +411,10 @@ forget_step n m i b flow c k t numbered there on = by_number (m == c.number) ref
         (forget_near n i b flow c k t numbered there a.ordered track is)
     by_number true e (inr gone) = absurd (gone.none i c there (sym (equal_tells m c.number e)))
     by_number false e (inl a) =
-        unchanged m b k (forgotten n i flow c k) t (forgotten_parts n c k) (ended_text n c.number (scene_in false c k)) (far_ended n m b c.number (scene_in false c k) e) a
+        unchanged m b k (forgotten n i flow c k) t (forgotten_parts n c k) ended.text (ended.far m b e) a
         (get_set k.connections a.place i _ (other_place k a.place i a.connection c a.there there (λ same. number_tells m c.number e (sym a.number ∙ same))))
     by_number false e (inr gone) =
-        stays_gone m b k (forgotten n i flow c k) t (forgotten_parts n c k) (ended_text n c.number (scene_in false c k)) (far_ended n m b c.number (scene_in false c k) e)
+        stays_gone m b k (forgotten n i flow c k) t (forgotten_parts n c k) ended.text (ended.far m b e)
         (gone_renewed m i flow n c k t gone)
 
 -- ---- a connection that begins

@@ -24,6 +24,7 @@ use Rattle.xns_calls.specs.declared.origin.Origin.{Origin}
 use Rattle.xns_calls.specs.Origins.{line_origin}
 use Rattle.xns_calls.proofs.Whole.{after_append}
 use Rattle.xns_calls.proofs.Parts.{flow_append, flow_at, plain, plain_one}
+use Rattle.xns_calls.proofs.Fits.{Fits, fits, fits_on}
 use Rattle.xns_calls.proofs.Happenings.{IsOn, IsPlain, Stepped, nothing_step, sequenced_step, stays_gone, still, unchanged}
 
 -- ---- a line
@@ -77,7 +78,7 @@ module _ (programs : Programs) where
 
 pub record Ran (m : ℕ) (b : Bool) (text : List ℕ) (k' : Known) (t : Told) (happened : List Event) : Type 0 where
   pub events : List Event
-  pub are : plain events ≡ happened
+  pub are : Fits happened (plain events)
   pub stands : IsOn m b k' (after_events events t)
   pub parts : List Part
   pub is : text ≡ parts_text parts
@@ -98,7 +99,7 @@ from_front m b k t (inr gone) = inr (record { counted = gone.counted; none = gon
 
 module _ (programs : Programs) where
   pub lines_ran : IsPlain → (n m : ℕ) (b : Bool) (k : Known) (t : Told) → IsNumbered k.connections k.count → IsOn m b k t → (lines : List (List ℕ)) → Ran m b (text_from programs n k lines) (known_from programs n k lines) t (events_from programs (flow_at m b) n k lines)
-  lines_ran plain_places n m b k t numbered on [] = record { events = []; are = refl; stands = on; parts = []; is = refl; own = refl }
+  lines_ran plain_places n m b k t numbered on [] = record { events = []; are = fits [] [] refl; stands = on; parts = []; is = refl; own = refl }
   lines_ran plain_places n m b k t numbered on (line ∷ lines) =
       let start : Known = record k { text = [] } in
       let u : Told = with_others t.calls [] k.is_refused t in
@@ -107,7 +108,8 @@ module _ (programs : Programs) where
       let v = lines_ran plain_places (n + 1) m b next (after_events w.events u) (numbered_line programs n k line numbered) w.stands lines in
       let P = flow_at m b in record {
         events = meanwhile t.calls [] k.is_refused ∷ (w.events ++ v.events);
-        are = flat_map-append plain_one w.events v.events ∙ ap (λ z. z ++ plain v.events) (w.are ∙ events_front P (line_origin programs n) (arrival line) k) ∙ ap (λ z. events_at P (line_origin programs n) (arrival line) k ++ z) v.are;
+        are = fits_on (events_at P (line_origin programs n) (arrival line) k) (events_from programs P (n + 1) next lines) w.events v.events
+            (subst (λ es. Fits es (plain w.events)) (events_front P (line_origin programs n) (arrival line) k) w.are) v.are;
         stands = subst (IsOn m b (known_from programs (n + 1) next lines)) (sym (after_append w.events v.events u)) v.stands;
         parts = w.parts ++ v.parts;
         is = ap (λ z. z ++ text_from programs (n + 1) next lines) w.text ∙ ap (λ z. parts_text w.parts ++ z) v.is ∙ sym (flat_map-append part_text w.parts v.parts);

@@ -1,9 +1,11 @@
 -- The items that are kept lie in two rows, one behind the other.
-use Rattle.std.proofs.Common.{◌≡◌, ap, sym, refl, arith, ℕ, ◌+◌, ◌<◌, ◌≤◌, ◌==◌, Bool, true, false, cond, List, [], ◌∷◌, ◌++◌, length}
+use Rattle.std.proofs.Common.{◌≡◌, ◌∙◌, ap, sym, refl, arith, ℕ, ◌+◌, ◌<◌, ◌≤◌, ◌==◌, Bool, true, false, cond, List, [], ◌∷◌, ◌++◌, length}
 use Rattle.std.specs.Prelude.{nat_lt, ◌||◌}
 use Rattle.std.specs.List.{list_any}
 use Rattle.std.proofs.lemmas.List.Folds.{list_any-append}
+use Rattle.xns_calls.specs.AtEnd.{earlier, earliest}
 use Rattle.xns_calls.specs.declared.early.Early.{Early}
+use Rattle.xns_calls.specs.declared.first_kept.FirstKept.{FirstKept}
 use Rattle.xns_calls.specs.Queue.{below}
 
 front_step : (p : Bool) (b m l : ℕ) → (b < l → m ≡ b) → cond p (1 + b) 0 < 1 + l → cond p (1 + m) 0 ≡ cond p (1 + b) 0
@@ -27,3 +29,21 @@ below_all n (e ∷ xs) ys le = all_step (nat_lt e.number n) (below n xs) (below 
 pub any_joined : (m : ℕ) (xs ys : List Early)
     → list_any (λ early. early.number == m) (xs ++ ys) ≡ (list_any (λ early. early.number == m) xs || list_any (λ early. early.number == m) ys)
 any_joined m xs ys = list_any-append (λ early. early.number == m) xs ys
+
+-- ---- which of them was captured first
+
+pub earliest_joined : (first : FirstKept) (xs ys : List Early) → earliest first (xs ++ ys) ≡ earliest (earliest first xs) ys
+earliest_joined first [] ys = refl
+earliest_joined first (e ∷ xs) ys = earliest_joined (earlier first e) xs ys
+
+earlier_number : (first : FirstKept) (e : Early) → (earlier first e).number ≡ first.number
+earlier_number first e = by_line (nat_lt e.item.line first.line)
+  where
+    by_line : (p : Bool) → (cond p (record first { acknowledged = e.item.acknowledged; line = e.item.line }) first).number ≡ first.number
+    by_line true = refl
+    by_line false = refl
+
+-- the number stays that of the first item
+pub earliest_number : (first : FirstKept) (items : List Early) → (earliest first items).number ≡ first.number
+earliest_number first [] = refl
+earliest_number first (e ∷ rest) = earliest_number (earlier first e) rest ∙ earlier_number first e

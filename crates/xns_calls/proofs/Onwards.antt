@@ -147,7 +147,7 @@ pub record Rests (m : ℕ) (b : Bool) (s s' : Scene) : Type 0 where
   pub text : s'.text ≡ s.text ++ parts_text parts
   pub own : texts_in (flow_at m b) parts ≡ []
 
-rests_so : (m : ℕ) (b : Bool) (s : Scene) → s.own.track ≡ None → Rests m b s s
+pub rests_so : (m : ℕ) (b : Bool) (s : Scene) → s.own.track ≡ None → Rests m b s s
 rests_so m b s none = record { track = none; parts = []; text = sym (append-nil s.text); own = refl }
 
 rests_own : (n : Origin) (m : ℕ) (b : Bool) (s : Scene) → s.own.track ≡ None → Rests m b s (own_read (heading_at n m b) s)
@@ -168,7 +168,7 @@ rests_behind n m b s none =
       own = ap (λ z. z ++ []) (other_text n m b (read_said n m (not b) x));
     }
 
-rests_on : (m : ℕ) (b : Bool) (s s' s'' : Scene) → Rests m b s s' → Rests m b s' s'' → Rests m b s s''
+pub rests_on : (m : ℕ) (b : Bool) (s s' s'' : Scene) → Rests m b s s' → Rests m b s' s'' → Rests m b s s''
 rests_on m b s s' s'' w v = record {
   track = v.track;
   parts = w.parts ++ v.parts;
@@ -233,7 +233,7 @@ says_of n m q (Some true) s =
       far = λ m' b' e. ap (λ z. z ++ []) (far_text n m' m b' (not q) (read_said n m (not q) x) e);
     }
 
-says_on : (m : ℕ) (s s' s'' : Scene) → Says m s s' → Says m s' s'' → Says m s s''
+pub says_on : (m : ℕ) (s s' s'' : Scene) → Says m s s' → Says m s' s'' → Says m s s''
 says_on m s s' s'' w v = record {
   parts = w.parts ++ v.parts;
   text = v.text ∙ ap (λ z. z ++ parts_text v.parts) w.text ∙ append_assoc s.text (parts_text w.parts) (parts_text v.parts) ∙ ap (λ z. s.text ++ z) (sym (flat_map-append part_text w.parts v.parts));

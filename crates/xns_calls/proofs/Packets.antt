@@ -11,7 +11,7 @@ use Rattle.xns_calls.specs.declared.due.Due.{Due}
 use Rattle.xns_calls.specs.declared.heading.Heading.{Heading}
 use Rattle.xns_calls.specs.declared.track.Track.{Track}
 use Rattle.xns_calls.specs.Events.{acknowledged_event, after_events, brought_if, captured_event, own_events}
-use Rattle.xns_calls.specs.Exchange.{Scene, advance_other, advance_own, advance_track, advanced, after_content, after_data, after_new, after_number, after_packet, after_told, begin_track, begun, behind_last, carried, ended, new_number, of_other, other_reached, own_reached, reached, seen_from_other, take_in_track, take_number, told_of, unless_repeat, up_to}
+use Rattle.xns_calls.specs.Exchange.{Scene, advance_other, advance_own, advance_track, advanced, after_content, after_data, after_new, after_number, after_packet, after_told, begin_track, begun, carried, new_number, of_other, other_reached, own_reached, reached, seen_from_other, take_in_track, take_number, told_of, unless_repeat, up_to}
 use Rattle.xns_calls.specs.Numbers.{near}
 use Rattle.xns_calls.specs.Queue.{last_number}
 use Rattle.xns_calls.specs.Read.{own_read, read_in_track}
@@ -33,14 +33,9 @@ pub advanced_other : (h : Heading) (n : ℕ) (s : Scene) → (advanced h n s).ot
 unfolding advanced
 advanced_other h n s = track_other h n s.own.track s
 
-own_other : (h : Heading) (o : Option ℕ) (s : Scene) → (advance_own h o s).other.track ≡ s.other.track
+pub own_other : (h : Heading) (o : Option ℕ) (s : Scene) → (advance_own h o s).other.track ≡ s.other.track
 own_other h None s = refl
 own_other h (Some n) s = advanced_other h n s
-
--- so is the end
-pub ended_other : (h : Heading) (s : Scene) → (ended h s).other.track ≡ s.other.track
-unfolding ended
-ended_other h s = own_other h (behind_last s.own.track) s
 
 taken_other : (h : Heading) (n : ℕ) (item : Carried) (o : Option Track) (s : Scene) → (take_in_track h n item o s).other.track ≡ s.other.track
 taken_other h n item None s = refl
@@ -101,7 +96,7 @@ reached_event h number s track e = ap (λ o. advance_other h (reached o number) 
     of_number None = ap (λ o. advance_other h o s) (up_to_none (last_number track.early)) ∙ advance_event h None s track e
     of_number (Some n) = advance_event h (up_to (last_number track.early) (Some n)) s track e
 
-own_event : (h : Heading) (o : Option ℕ) (s : Scene) (track : Track) → s.own.track ≡ Some track → advance_own h o s ≡ after_told (brought_if h o (told_of track s)) s
+pub own_event : (h : Heading) (o : Option ℕ) (s : Scene) (track : Track) → s.own.track ≡ Some track → advance_own h o s ≡ after_told (brought_if h o (told_of track s)) s
 unfolding advanced
 own_event h None s track e = sym (put_back s track e)
 own_event h (Some n) s track e = ap (λ o. advance_track h n o s) e

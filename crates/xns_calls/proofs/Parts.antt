@@ -11,14 +11,14 @@ use Rattle.xns_spp.specs.declared.item.Item.{Item}
 use Rattle.xns_calls.specs.declared.carried.Carried.{Carried}
 use Rattle.xns_calls.specs.Capture.{Known, heading_at, scene_in}
 use Rattle.xns_calls.specs.Events.{AreWithinReach, Event, IsAmong, acknowledged, acknowledged_event, after_event, after_events, captured, captured_event, captured_in, meanwhile, read}
-use Rattle.xns_calls.specs.Exchange.{Scene, after_packet, both_ended, ended, of_other, other_reached, seen_from_other}
+use Rattle.xns_calls.specs.Exchange.{Scene, after_packet, of_other, other_reached, seen_from_other}
 use Rattle.xns_calls.specs.Input.{FlowName, Part, Said, is_same, parts_text, said_texts, text_in, told}
 use Rattle.xns_calls.specs.Reading.{Told}
 use Rattle.xns_calls.specs.Whole.{AreOf, IsWhole, flow_text, new_text}
 use Rattle.xns_calls.specs.declared.connection.Connection.{Connection}
 use Rattle.xns_calls.specs.declared.due.Due.{Due}
 use Rattle.xns_calls.specs.declared.heading.Heading.{Heading}
-use Rattle.xns_calls.proofs.Adding.{Adds, both_add, ended_adds, packet_adds, reached_adds}
+use Rattle.xns_calls.proofs.Adding.{Adds, both_add, packet_adds, reached_adds}
 use Rattle.xns_calls.proofs.Whole.{after_append}
 use Rattle.xns_calls.specs.declared.origin.Origin.{Origin}
 
@@ -211,33 +211,3 @@ pub said_text_of : (n : Origin) (i : ℕ) (q : Bool) (due : Due) (packet : Packe
 unfolding packet_said
 said_text_of n i q due packet f content s =
     let h = heading_at n i q in added h (other_reached h due.other s).text (after_packet h due packet f content s).text (packet_adds h due packet f content s)
-
--- what the end of a connection says of its flows
-pub first_ended_said : Origin → ℕ → Scene → List Said
-first_ended_said n m s = (ended_adds (heading_at n m false) s).said
-
-pub second_ended_said : Origin → ℕ → Scene → List Said
-second_ended_said n m s = (ended_adds (heading_at n m true) (seen_from_other (ended (heading_at n m false) s))).said
-
-abbrev pub ended_parts : Origin → ℕ → Scene → List Part
-ended_parts n m s = told n (flow_at m false) (first_ended_said n m s) ∷ told n (flow_at m true) (second_ended_said n m s) ∷ []
-
-pub ended_text : (n : Origin) (m : ℕ) (s : Scene) → (both_ended (heading_at n m false) s).text ≡ s.text ++ parts_text (ended_parts n m s)
-unfolding both_ended first_ended_said second_ended_said
-ended_text n m s =
-    let h = heading_at n m false in
-    let x = ended_adds h s in
-    let y = ended_adds (of_other h) (seen_from_other (ended h s)) in
-    two_texts s.text (ended h s).text (both_ended h s).text (said_texts h x.said) (said_texts (of_other h) y.said) x.is y.is
-
-pub first_ended : (n : Origin) (m : ℕ) (s : Scene) → drop (length s.text) (ended (heading_at n m false) s).text ≡ said_texts (heading_at n m false) (first_ended_said n m s)
-unfolding first_ended_said
-first_ended n m s = let h = heading_at n m false in added h s.text (ended h s).text (ended_adds h s)
-
-pub second_ended : (n : Origin) (m : ℕ) (s : Scene)
-    → drop (length (ended (heading_at n m false) s).text) (ended (heading_at n m true) (seen_from_other (ended (heading_at n m false) s))).text
-    ≡ said_texts (heading_at n m true) (second_ended_said n m s)
-unfolding second_ended_said
-second_ended n m s =
-    let s' = seen_from_other (ended (heading_at n m false) s) in
-    let h = heading_at n m true in added h s'.text (ended h s').text (ended_adds h s')

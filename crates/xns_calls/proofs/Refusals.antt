@@ -28,7 +28,9 @@ use Rattle.xns_calls.specs.Numbers.{most_early}
 use Rattle.xns_calls.specs.Calls.{after_body, after_bytes, after_digits, after_found, after_header, after_line, calls_text, end_count, has_refusal, has_refused, known_from, known_with_end, line_taken, nothing_known, text_from, text_with_end}
 use Rattle.xns_calls.specs.Anew.{begins_anew}
 use Rattle.xns_calls.specs.Capture.{Known, after_at, after_end, after_in, after_place, after_sequenced, after_there, ended_there, forgotten, heading_at, is_behind_in, place_of, renewed, renewed_there, scene_in, settled_at, settled_there, taken_in, with_new}
-use Rattle.xns_calls.specs.Exchange.{Scene, advance_other, advance_own, behind_last, ended, advance_track, advanced, after_content, after_data, after_new, after_number, after_packet, begin_track, begun, both_ended, carried, new_number, of_other, other_reached, own_reached, reached, seen_from_other, take_in_track, told_of}
+use Rattle.xns_calls.specs.AtEnd.{both_ended, end_turn, ended_of, ended_times, first_in, one_ended, own_ended, read_behind}
+use Rattle.xns_calls.specs.declared.first_kept.FirstKept.{FirstKept}
+use Rattle.xns_calls.specs.Exchange.{Scene, advance_other, advance_own, advance_track, advanced, after_content, after_data, after_new, after_number, after_packet, begin_track, begun, carried, new_number, of_other, other_reached, own_reached, reached, seen_from_other, take_in_track, told_of}
 use Rattle.xns_calls.specs.Reading.{Told, after_heard, brought, brought_over, first_read, first_read_over, item_read, passed, past, read_next, said_item}
 use Rattle.xns_calls.specs.Read.{kept_count, one_read, own_read, read_in_track, read_of, read_times, settled}
 use Rattle.xns_calls.specs.Turns.{next_turn}
@@ -407,13 +409,27 @@ module _ (joined : JoinedTextsSayRefused) (only : OnlyRefusalsSayRefused) where
   unfolding after_at
   at_says b n plain i flow p f content k s = there_says b n plain i flow p f content (slice_get k.connections i) k s
 
-  ended_says : (b : Bool) (h : Heading) (plain : IsPlain h) (s : Scene) → SaysScene b s → SaysScene b (ended h s)
-  unfolding ended
-  ended_says b h plain s k = own_says b h plain (behind_last s.own.track) s k
+  behind_says : (b : Bool) (h : Heading) (plain : IsPlain h) (o : Option FirstKept) (s : Scene) → SaysScene b s → SaysScene b (read_behind h o s)
+  behind_says b h plain None s k = k
+  behind_says b h plain (Some first) s k =
+      let u = other_reached h first.acknowledged s in own_says b h plain (Some (first.number + 1)) u (reached_says b h plain first.acknowledged s k)
+
+  own_ended_says : (b : Bool) (h : Heading) (plain : IsPlain h) (s : Scene) → SaysScene b s → SaysScene b (own_ended h s)
+  unfolding own_ended
+  own_ended_says b h plain s k = behind_says b h plain (first_in s.own.track) s k
+
+  end_says : (b : Bool) (h : Heading) (plain : IsPlain h) (o : Option Bool) (s : Scene) → SaysScene b s → SaysScene b (ended_of h o s)
+  end_says b h plain None s k = k
+  end_says b h plain (Some false) s k = own_ended_says b h plain s k
+  end_says b h plain (Some true) s k = own_ended_says b (of_other h) plain (seen_from_other s) k
+
+  ends_say : (b : Bool) (h : Heading) (plain : IsPlain h) (n : ℕ) (s : Scene) → SaysScene b s → SaysScene b (ended_times n h s)
+  ends_say b h plain zero s k = k
+  ends_say b h plain (suc n) s k = ends_say b h plain n (one_ended h s) (end_says b h plain (end_turn s.own.track s.other.track) s k)
 
   both_say : (b : Bool) (h : Heading) (plain : IsPlain h) (s : Scene) → SaysScene b s → SaysScene b (both_ended h s)
   unfolding both_ended
-  both_say b h plain s k = ended_says b (of_other h) plain (seen_from_other (ended h s)) (ended_says b h plain s k)
+  both_say b h plain s k = ends_say b h plain (kept_count s.own.track + kept_count s.other.track) s k
 
   renewed_says : (b : Bool) (n : Origin) (plain : n.programs ≡ None) (i : ℕ) (flow : Flow) (f : Header) (k : Known) → SaysKnown b k → SaysKnown b (renewed n i flow f k)
   unfolding renewed
@@ -459,9 +475,9 @@ module _ (joined : JoinedTextsSayRefused) (only : OnlyRefusalsSayRefused) where
 
   -- ---- the end
 
-  end_says : (b : Bool) (n : Origin) (plain : n.programs ≡ None) (part : ℕ) (k : Known) → SaysKnown b k → SaysKnown b (after_end n part k)
+  part_end_says : (b : Bool) (n : Origin) (plain : n.programs ≡ None) (part : ℕ) (k : Known) → SaysKnown b k → SaysKnown b (after_end n part k)
   unfolding after_end
-  end_says b n plain part k s = by_connection (slice_get k.connections part)
+  part_end_says b n plain part k s = by_connection (slice_get k.connections part)
     where
       by_connection : (o : Option Connection) → SaysKnown b (ended_there n part o k)
       by_connection None = s
@@ -477,11 +493,11 @@ module _ (joined : JoinedTextsSayRefused) (only : OnlyRefusalsSayRefused) where
   lines_say n k [] = none_said k.is_refused
   lines_say n k (line ∷ lines) = says_on (line_says k.is_refused n line (record k { text = [] }) (none_said k.is_refused)) (lines_say (n + 1) (line_taken None n line k) lines)
 
-  ends_say : (lines : List (List ℕ)) (part : ℕ) → Says false (text_with_end None lines part) (has_refused None lines part)
-  ends_say lines zero = lines_say 1 nothing_known lines
-  ends_say lines (suc part) =
+  parts_end_say : (lines : List (List ℕ)) (part : ℕ) → Says false (text_with_end None lines part) (has_refused None lines part)
+  parts_end_say lines zero = lines_say 1 nothing_known lines
+  parts_end_say lines (suc part) =
       let k = known_with_end None lines part in
-      says_on (ends_say lines part) (end_says k.is_refused (line_origin None (length lines)) refl part (record k { text = [] }) (none_said k.is_refused))
+      says_on (parts_end_say lines part) (part_end_says k.is_refused (line_origin None (length lines)) refl part (record k { text = [] }) (none_said k.is_refused))
 
   packets_say : (times : Times) (k : Known) (packets : List NumberedPacket) → Says k.is_refused (text_behind None times k packets) (known_behind None times k packets).is_refused
   packets_say times k [] = none_said k.is_refused
@@ -496,7 +512,7 @@ module _ (joined : JoinedTextsSayRefused) (only : OnlyRefusalsSayRefused) where
   file_ends_say times packets zero = packets_say times nothing_known packets
   file_ends_say times packets (suc part) =
       let k = packets_known_with_end None times packets part in
-      says_on (file_ends_say times packets part) (end_says k.is_refused (last_frame None times packets) (last_plain times (line_origin None 0) packets refl) part (record k { text = [] }) (none_said k.is_refused))
+      says_on (file_ends_say times packets part) (part_end_says k.is_refused (last_frame None times packets) (last_plain times (line_origin None 0) packets refl) part (record k { text = [] }) (none_said k.is_refused))
 
   tells_is : (c : Bool) (xs : List ℕ) → Tells c xs → says_refused xs ≡ c
   unfolding Tells
@@ -507,7 +523,7 @@ module _ (joined : JoinedTextsSayRefused) (only : OnlyRefusalsSayRefused) where
   says_it {xs} s = tells_is s.new xs s.tells ∙ sym s.flag_is
 
   pub text_says : (input : List ℕ) → says_refused (calls_text None input) ≡ has_refusal None input
-  text_says input = says_it (ends_say (lines_of input) (end_count None (lines_of input)))
+  text_says input = says_it (parts_end_say (lines_of input) (end_count None (lines_of input)))
 
   pub capture_says : (times : Times) (file : List ℕ) → says_refused (calls_capture_text None times file) ≡ has_file_refusal None times file
   capture_says times file = says_it (file_ends_say times (packets_of file) (packet_end_count None times (packets_of file)))

@@ -9,8 +9,9 @@ use Rattle.xns_calls.specs.declared.carried.Carried.{Carried}
 use Rattle.xns_spp.specs.declared.header.Header.{Header}
 use Rattle.xns_calls.specs.Acknowledged.{ahead_of, due_in}
 use Rattle.xns_calls.specs.Anew.{begins_anew}
+use Rattle.xns_calls.specs.AtEnd.{end_turn}
 use Rattle.xns_calls.specs.Capture.{Known, is_behind_in, scene_in, wants_at, wants_end, wants_in, wants_there}
-use Rattle.xns_calls.specs.Exchange.{Scene, advance_other, advance_own, after_content, after_data, after_number, after_packet, begin_track, begun, behind_last, brings_data, brings_new, brings_on, carried, ended, new_number, other_reached, own_reached, reached, scene, wants_memory, wants_to_take}
+use Rattle.xns_calls.specs.Exchange.{Scene, advance_other, advance_own, after_content, after_data, after_number, after_packet, begin_track, begun, brings_data, brings_new, brings_on, carried, new_number, other_reached, own_reached, reached, scene, wants_memory, wants_to_take}
 use Rattle.xns_calls.specs.Turns.{next_turn}
 use Rattle.xns_calls.specs.declared.connection.Connection.{Connection}
 use Rattle.xns_dump.specs.declared.flows.flow.Flow.{Flow}
@@ -18,7 +19,7 @@ use Rattle.xns_calls.specs.declared.due.Due.{Due}
 use Rattle.xns_calls.specs.declared.heading.Heading.{Heading}
 use Rattle.xns_calls.specs.declared.side.Side.{Side}
 use Rattle.xns_calls.specs.declared.track.Track.{Track}
-use Rattle.xns_calls.proofs.Packets.{content_other, ended_other, reached_own}
+use Rattle.xns_calls.proofs.Packets.{content_other, reached_own}
 
 -- a flow that has not begun does so
 pub none_brings : (own : Side) (field : ℕ) → own.track ≡ None → brings_new own.track field ≡ true
@@ -66,19 +67,8 @@ pub memory_wants : (b : Bool) (f : Header) (connection : Connection) (k : Known)
 memory_wants b f connection k e = or_right (is_some (ahead_of b f connection)) (wants_memory (due_in b f connection) f (scene_in b connection k)) e
 
 -- so does the end of a connection of which a flow keeps items
-pub end_wants : (connection : Connection) (o : Option Connection) → o ≡ Some connection
-    → (is_some (behind_last connection.first.track) || is_some (behind_last connection.second.track)) ≡ true → wants_end o ≡ true
+pub end_wants : (connection : Connection) (o : Option Connection) → o ≡ Some connection → is_some (end_turn connection.first.track connection.second.track) ≡ true → wants_end o ≡ true
 end_wants connection o at e = ap wants_end at ∙ e
-
-pub first_wants : (a b : Option Track) → is_some (behind_last a) ≡ true → (is_some (behind_last a) || is_some (behind_last b)) ≡ true
-first_wants a b e = or_left (is_some (behind_last a)) (is_some (behind_last b)) e
-
--- the end of the first flow leaves what the second keeps
-pub second_wants : (h : Heading) (first second first' second' : Side) (page page' : Page) → scene first' second' page' ≡ ended h (scene first second page) → is_some (behind_last second'.track) ≡ true
-    → (is_some (behind_last first.track) || is_some (behind_last second.track)) ≡ true
-second_wants h first second first' second' page page' e wants =
-    let same : second'.track ≡ second.track = ap (λ (x : Scene). x.other.track) e ∙ ended_other h (scene first second page) in
-    or_right (is_some (behind_last first.track)) (is_some (behind_last second.track)) (ap (λ o. is_some (behind_last o)) (sym same) ∙ wants)
 
 -- what is new behind that was new before
 pub content_wants : (h : Heading) (due : Due) (f : Header) (own other own' other' : Side) (page page' : Page) → scene own' other' page' ≡ other_reached h due.other (scene own other page)

@@ -72,14 +72,14 @@ take_one [] n x e = (cc)
 take_one (y ∷ xs) zero x e = let is : y ≡ x = (cc) in ap (λ z. z ∷ []) is
 take_one (y ∷ xs) (suc n) x e = let one : suc n + 1 ≡ suc (n + 1) = omega arith in rw one (ap (λ t. y ∷ t) (take_one xs n x e))
 
-abbrev AreItems : List Item → List Early → Type 0
+abbrev pub AreItems : List Item → List Early → Type 0
 AreItems items [] = Unit {0}
 AreItems items (e ∷ rest) = (slice_get items e.number ≡ Some e.item.item) × AreItems items rest
 
 -- the items below the next one were said, and this was heard of them
-record Stands (items : List Item) (t : Told) (hs : List Heard) : Type 0 where
-  speech : t.track.speech ≡ speech_behind start (of_courier (take (next_of t) items))
-  heard : hs ≡ heard_in start (of_courier (take (next_of t) items))
+pub record Stands (items : List Item) (t : Told) (hs : List Heard) : Type 0 where
+  pub speech : t.track.speech ≡ speech_behind start (of_courier (take (next_of t) items))
+  pub heard : hs ≡ heard_in start (of_courier (take (next_of t) items))
 
 -- what is printed on the way is what is heard
 record Went (items : List Item) (t u : Told) (hs : List Heard) : Type 0 where
@@ -194,11 +194,11 @@ kept_items items k item (e ∷ rest) is are =
 
 -- ---- one event
 
-record Printed (items : List Item) (printed : List ℕ) (u : Told) (hs : List Heard) : Type 0 where
-  told : List ToldHeard
-  text : printed ≡ heard_lines told
-  stands : Stands items u (hs ++ what told)
-  kept : AreItems items (early_of u)
+pub record Printed (items : List Item) (printed : List ℕ) (u : Told) (hs : List Heard) : Type 0 where
+  pub told : List ToldHeard
+  pub text : printed ≡ heard_lines told
+  pub stands : Stands items u (hs ++ what told)
+  pub kept : AreItems items (early_of u)
 
 of_went : (items : List Item) (t u : Told) (hs : List Heard) → Went items t u hs → Printed items (drop (length t.text) u.text) u hs
 of_went items t u hs w = record {
@@ -262,13 +262,6 @@ events_went items first before (e ∷ more) t hs ordered low known within are ke
     printed_on items (new_text e t) (flow_text more (after_event e t)) (after_event e t) (after_events more (after_event e t)) hs p
     (events_went items first (with_captured e before) more (after_event e t) (hs ++ what p.told) (event_ordered e t ordered) (λ n lt. event_known n e t ordered (low n lt)) (known_step before e t ordered known) within.1 are.1 p.kept p.stands)
 
-abbrev AreBelow : ℕ → List Early → Type 0
-AreBelow n [] = Unit {0}
-AreBelow n (e ∷ rest) = (e.number < n) × AreBelow n rest
-
-pub least_same : (a : ℕ) → min a a ≡ a
-least_same a = omega arith
-
 pub after_append : (xs ys : List Event) (t : Told) → after_events (xs ++ ys) t ≡ after_events ys (after_events xs t)
 after_append [] ys t = refl
 after_append (e ∷ xs) ys t = after_append xs ys (after_event e t)
@@ -297,17 +290,12 @@ get_below [] i x e = (cc)
 get_below (y ∷ xs) zero x e = omega arith
 get_below (y ∷ xs) (suc i) x e = let lt = get_below xs i x e in omega (arith, lt)
 
-last_item : (items : List Item) (es : List Early) (i last : ℕ) → AreItems items es → option_map (λ (e : Early). e.number) (slice_get es i) ≡ Some last → last < length items
-last_item items [] i last are is = (cc)
-last_item items (e ∷ es) zero last are is = let same : e.number ≡ last = (cc) in subst (λ n. n < length items) same (get_below items e.number e.item.item are.0)
-last_item items (e ∷ es) (suc i) last are is = last_item items es i last are.1 is
-
 pub first_of : (field : ℕ) (t : Told) → field < 64 → t.track ≡ first_track field → t.track ≡ record { next = 0; early = []; speech = start }
 first_of field t small at =
     let test : nat_lt field 64 ≡ true = grind (arith, nat_tests) in
     at ∙ ap (λ p. cond p (record { next = 0; early = []; speech = start }) (record { next = field; early = []; speech = Waiting })) test
 
-whole_printed : (items : List Item) (events : List Event) (t : Told) → t.track ≡ record { next = 0; early = []; speech = start } → IsWhole items events → Printed items (flow_text events t) (after_events events t) []
+pub whole_printed : (items : List Item) (events : List Event) (t : Told) → t.track ≡ record { next = 0; early = []; speech = start } → IsWhole items events → Printed items (flow_text events t) (after_events events t) []
 whole_printed items events t first w =
     let none : early_of t ≡ [] = ap (λ (x : Track). x.early) first in
     let zero_next : next_of t ≡ 0 = ap (λ (x : Track). x.next) first in
@@ -317,79 +305,6 @@ whole_printed items events t first w =
       heard = ap (heard_in start) (sym nothing);
     } in
     events_went items 0 [] events t [] (new_ordered t none) (λ n lt. absurd (omega (arith, lt))) (λ n among. absurd among) w.reach w.of (subst (AreItems items) (sym none) tt) begun
-
--- ---- the end
-
--- the end leaves nothing
-over_empty : (h : Heading) (n : ℕ) (es : List Early) (t : Told) → early_of t ≡ es → AreBelow n es → early_of (brought_over h n es t) ≡ []
-over_empty h n [] t same below = passed_early h n t ∙ same
-over_empty h n (e ∷ rest) t same below =
-    let u = item_read h e (with_early rest t) in
-    ap (λ p. early_of (cond p (brought_over h n rest u) (passed h n t))) (lt_true e.number n below.0) ∙ over_empty h n rest u (read_early h e (with_early rest t)) below.1
-
-last_more : (e g : Early) (rest : List Early) → last_number (e ∷ g ∷ rest) ≡ last_number (g ∷ rest)
-last_more e g rest =
-    let one : length (e ∷ g ∷ rest) - 1 ≡ suc (length (g ∷ rest) - 1) = omega arith in ap (λ i. option_map (λ (x : Early). x.number) (slice_get (e ∷ g ∷ rest) i)) one
-
--- each number is at most the last one
-last_below : (n : ℕ) (es : List Early) (last : ℕ) → AreFrom n es → last_number es ≡ Some last → AreBelow (last + 1) es
-last_below n [] last from is = tt
-last_below n (e ∷ []) last from is = let same : e.number ≡ last = (cc) in (omega (arith, same), tt)
-last_below n (e ∷ g ∷ rest) last from is =
-    let more = last_below (e.number + 1) (g ∷ rest) last from.1 (sym (last_more e g rest) ∙ is) in
-    (omega (arith, more.0, from.1.0), more)
-
-pub end_empty : (h : Heading) (t : Told) → IsOrdered t → early_of (after_events (acknowledged_event h (behind_last (Some t.track))) t) ≡ []
-unfolding brought
-end_empty h t ordered = by_last (last_number t.track.early) refl
-  where
-    none_kept : (es : List Early) → last_number es ≡ None → es ≡ []
-    none_kept [] is = refl
-    none_kept (e ∷ []) is = (cc)
-    none_kept (e ∷ g ∷ rest) is = let none : g ∷ rest ≡ [] = none_kept (g ∷ rest) (sym (last_more e g rest) ∙ is) in (cc)
-
-    by_last : (o : Option ℕ) → last_number t.track.early ≡ o → early_of (after_events (acknowledged_event h (option_map (λ number. number + 1) o)) t) ≡ []
-    by_last None is = none_kept t.track.early is
-    by_last (Some last) is =
-        ap (λ o. early_of (brought_if h (up_to o (Some (last + 1))) t)) is
-        ∙ ap (λ m. early_of (brought h m t)) (least_same (last + 1))
-        ∙ over_empty h (last + 1) t.track.early t refl (last_below (next_of t) t.track.early last ordered is)
-
--- and it comes behind all items
-pub whole_with : (items : List Item) (events : List Event) (h : Heading) (o : Option ℕ) → IsWhole items events → IfSome o (λ n. n ≤ length items) → IsWhole items (events ++ acknowledged_event h o)
-whole_with items events h None w bound = subst (IsWhole items) (sym (append-nil events)) w
-whole_with items events h (Some last) w bound = record {
-  of = of_append events w.of;
-  all = λ n lt. subst (IsAmong n) (sym (captured_append events [])) (w.all n lt);
-  reach = reach_append events [] w.reach (λ n lt. w.all n (omega (arith, lt, bound)));
-}
-  where
-    acks : List Event
-    acks = acknowledged h last ∷ []
-
-    of_append : (es : List Event) → AreOf items es → AreOf items (es ++ acks)
-    of_append [] a = (tt, tt)
-    of_append (e ∷ more) a = (a.0, of_append more a.1)
-
-    captured_append : (es : List Event) (before : List ℕ) → captured_in (es ++ acks) before ≡ captured_in es before
-    captured_append [] before = refl
-    captured_append (e ∷ more) before = captured_append more (with_captured e before)
-
-    reach_append : (es : List Event) (before : List ℕ) → AreWithinReach 0 before es → ((n : ℕ) → n < last → IsAmong n (captured_in es before)) → AreWithinReach 0 before (es ++ acks)
-    reach_append [] before a late = (λ n le lt. late n lt, tt)
-    reach_append (e ∷ more) before a late = (a.0, reach_append more (with_captured e before) a.1 late)
-
-pub end_bound : (items : List Item) (events : List Event) (t : Told) → t.track ≡ record { next = 0; early = []; speech = start } → IsWhole items events
-    → IfSome (behind_last (Some (after_events events t).track)) (λ n. n ≤ length items)
-end_bound items events t first w = by_last (last_number u.track.early) refl
-  where
-    u : Told
-    u = after_events events t
-
-    by_last : (o : Option ℕ) → last_number u.track.early ≡ o → IfSome (option_map (λ number. number + 1) o) (λ n. n ≤ length items)
-    by_last None is = tt
-    by_last (Some last) is =
-        let below : last < length items = last_item items u.track.early (length u.track.early - 1) last (whole_printed items events t first w).kept is in omega (arith, below)
 
 -- ---- what is heard is the conversation, up to its first fault
 
@@ -456,15 +371,3 @@ whole_said runs law messages ends items events field t small at w left =
       said = r.said ∙ sym (messages fed);
       whole = subst (λ q. IfOk q (λ phase. r.more ≡ [])) (sym (ends fed)) r.whole;
     }
-
--- and of one whose end comes
-pub whole_end_said : (runs : SignsRunOn) (law : OneItemMore) → ((fed : List Item) → conversation fed ≡ said (opening []) (written fed)) → ((fed : List Item) → ending fed ≡ run (opening []) (written fed))
-    → (items : List Item) (events : List Event) (field : ℕ) (t : Told) (h : Heading) → field < 64 → t.track ≡ first_track field → IsWhole items events
-    → SaysConversation (of_courier items) (flow_text (events ++ acknowledged_event h (behind_last (Some (after_events events t).track))) t)
-whole_end_said runs law messages ends items events field t h small at w =
-    let u = after_events events t in
-    let acks = acknowledged_event h (behind_last (Some u.track)) in
-    let first = first_of field t small at in
-    let none : early_of t ≡ [] = ap (λ (x : Track). x.early) first in
-    whole_said runs law messages ends items (events ++ acks) field t small at (whole_with items events h (behind_last (Some u.track)) w (end_bound items events t first w))
-    (ap early_of (after_append events acks t) ∙ end_empty h u (events_ordered events t (new_ordered t none)))

@@ -181,17 +181,7 @@ wants_to_take due f s = brings_on due s || brings_data f s.own.track
 abbrev pub wants_memory : Due → Header → Scene → Bool
 wants_memory due f s = wants_to_take due f s || is_some (next_turn due.given s.own.track s.other.track)
 
--- ---- the end of the input
-
--- the number behind the last item that is kept
+-- the number behind the last item that a flow keeps
 abbrev pub behind_last : Option Track → Option ℕ
 behind_last None = None
 behind_last (Some track) = option_map (λ number. number + 1) (last_number track.early)
-
--- the flow is brought behind the last item that it keeps, as by an acknowledgement of all of them
-unfoldable pub ended : Heading → Scene → Scene
-ended heading s = advance_own heading (behind_last s.own.track) s
-
--- both flows of a connection are, first the one that began first
-unfoldable pub both_ended : Heading → Scene → Scene
-both_ended heading s = seen_from_other (ended (of_other heading) (seen_from_other (ended heading s)))

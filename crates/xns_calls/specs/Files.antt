@@ -42,8 +42,7 @@ last_after programs times n (packet ∷ packets) = last_after programs times (fr
 abbrev pub last_frame : Programs → Times → List NumberedPacket → Origin
 last_frame programs times packets = last_after programs times (line_origin programs 0) packets
 
--- what is known once the flows of so many connections, in the order in which those of their ends first began, are brought behind the last
--- item that they keep
+-- what is known once all is read that so many connections keep, in the order in which those of their ends first began
 abbrev pub packets_known_with_end : Programs → Times → List NumberedPacket → ℕ → Known
 packets_known_with_end programs times packets zero = packets_known programs times packets
 packets_known_with_end programs times packets (suc part) =
@@ -57,7 +56,7 @@ packets_text_with_end programs times packets (suc part) = packets_text_with_end 
 abbrev pub packets_refused : Programs → Times → List NumberedPacket → ℕ → Bool
 packets_refused programs times packets part = (packets_known_with_end programs times packets part).is_refused
 
--- those of all connections are brought so
+-- all that all connections keep is read
 abbrev pub packet_end_count : Programs → Times → List NumberedPacket → ℕ
 packet_end_count programs times packets = length (packets_known programs times packets).connections
 

@@ -104,7 +104,8 @@ events_between p q h f content acknowledged track due =
     if p.connection == q.connection then (if is_same p.is_behind q.is_behind then item_events h f content acknowledged track else []) ++ acknowledged_event h due
     else []
 
--- where a connection begins anew, its flows are brought behind the last item that they keep, as by an acknowledgement of all of them
+-- where a connection begins anew, all that its flows keep is read: the items before the last one have to be captured by then, as if all
+-- of them were acknowledged
 abbrev pub ending_events : FlowName → Heading → Connection → List Event
 ending_events p h connection =
     if p.connection == connection.number then acknowledged_event h (behind_last (side_in p.is_behind connection).track) else []

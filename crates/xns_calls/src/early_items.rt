@@ -1,6 +1,7 @@
 //! The items of a flow that are kept.
 ghost use Rattle.std.specs.Prelude.{◌≡◌, [], ◌==◌, ◌<◌, length, OnErr, OnOk, IfOk, IfSome, IfNone};
 ghost use Rattle.std.specs.List.{list_any};
+ghost use Rattle.xns_calls.specs.AtEnd.{first_at_end};
 ghost use Rattle.xns_calls.specs.Numbers.{most_numbers};
 ghost use Rattle.xns_calls.specs.Queue.{HasNoDue, HasNoneBelow, IsFirstBelow, IsFirstDue, kept, last_number};
 ghost use Rattle.xns_calls.specs.Turns.{first_kept};
@@ -78,6 +79,17 @@ impl EarlyItems {
         match &self.queue {
             None => None,
             Some(queue) => queue.as_ref().first(),
+        }
+    }
+
+    /// The first item, as it is read at the end: in the turn of the one that was captured first. `None`: none is kept.
+    pub fn first_at_end(&self) -> Option<FirstKept>
+        ensures value { result ≡ first_at_end self.now }
+        ensures bound { IfSome result (λ first. first.number < most_numbers) }
+    {
+        match &self.queue {
+            None => None,
+            Some(queue) => queue.as_ref().first_at_end(),
         }
     }
 

@@ -3,8 +3,8 @@ ghost use Rattle.std.specs.Option.{is_some};
 ghost use Rattle.std.specs.Prelude.{◌≡◌, ◌<◌, ◌&&◌, not, IfSome, None, OnErr, OnOk, Some, true};
 ghost use Rattle.xns_idp.specs.Packet.{packet_model};
 ghost use Rattle.xns_spp.specs.Header.{is_system};
-ghost use Rattle.xns_calls.specs.Exchange.{advanced, after_content, after_data, after_new, after_packet, behind_last as behind_last_of};
-ghost use Rattle.xns_calls.specs.Exchange.{begun as begun_of, brings_data, brings_new, carried, ended, first_track, new_number as new_number_of};
+ghost use Rattle.xns_calls.specs.Exchange.{advanced, after_content, after_data, after_new, after_packet};
+ghost use Rattle.xns_calls.specs.Exchange.{begun as begun_of, brings_data, brings_new, carried, first_track, new_number as new_number_of};
 ghost use Rattle.xns_calls.specs.Exchange.{other_reached, own_reached, reached as reached_of, scene, wants_to_take};
 ghost use Rattle.xns_calls.specs.Numbers.{most_numbers};
 
@@ -29,7 +29,7 @@ use xns_spp::{Header, Item, MOST_PENDING};
 
 /// Brings a flow to a number, if it has begun.
 #[tactic(auto, unfolding(crate::specs::Exchange::advanced))]
-fn advance(
+pub fn advance(
     scratch: &mut Scratch,
     page: &mut Page,
     heading: Heading<'_>,
@@ -163,7 +163,7 @@ fn take_new(
 
 /// Brings the flow behind to what takes effect of it. Memory is refused only where that flow keeps items.
 #[tactic(auto, unfolding(crate::specs::Exchange::other_reached))]
-fn reach_other(
+pub fn reach_other(
     scratch: &mut Scratch,
     page: &mut Page,
     heading: Heading<'_>,
@@ -302,32 +302,4 @@ pub fn take_kept(
         content,
     )?;
     reach_own(scratch, page, heading, own, other, due.own)
-}
-
-/// The number behind the last item that the flow keeps.
-fn behind_last(side: &Side) -> Option<u64>
-    ensures { result ≡ behind_last_of side.now.track }
-{
-    let track = side.track.as_ref()?;
-    let last = track.early.last_number()?;
-    Some(last + 1)
-}
-
-/// Brings a flow behind the last item that it keeps, if it keeps one. Memory is refused only there.
-#[tactic(auto, unfolding(crate::specs::Exchange::ended))]
-pub fn end_flow(
-    scratch: &mut Scratch,
-    page: &mut Page,
-    heading: Heading<'_>,
-    own: &mut Side,
-    other: &mut Side,
-) -> Result<(), AllocError>
-    ensures front { page.new.text.front ≡ page.old.text.front }
-    ensures memory { OnErr result (is_some (behind_last_of own.old.track) ≡ true) }
-    ensures scene { OnOk result (scene own.new other.new page.new ≡ ended heading.entry (scene own.old other.old page.old)) }
-{
-    let Some(number) = behind_last(own) else {
-        return Ok(());
-    };
-    advance(scratch, page, heading, own, other, number)
 }

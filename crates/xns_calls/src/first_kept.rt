@@ -1,12 +1,12 @@
 //! The first item that a flow keeps.
 
-/// What decides when the first item that a flow keeps is read.
+/// The first item that a flow keeps, and what decides when it is read.
 #[derive(Clone, Copy)]
 pub struct FirstKept {
     /// Its number.
     pub number: u64,
-    /// What its packet acknowledges of the flow behind.
+    /// All items of the flow behind with numbers below this one are to be read before it. `None`: it waits for none.
     pub acknowledged: Option<u64>,
-    /// The number of the line or frame that brought it.
+    /// The number of the line or frame by which it has its turn.
     pub line: usize,
 }

@@ -1,15 +1,16 @@
 //! The flow of a connection that begins behind the other.
-ghost use Rattle.std.specs.Prelude.{◌≡◌, ◌||◌, IfOk, OnErr, OnOk, true};
+ghost use Rattle.std.specs.Prelude.{◌≡◌, IfOk, None, OnErr, OnOk, true};
 ghost use Rattle.std.specs.Option.{is_some};
 ghost use Rattle.xns_idp.specs.Packet.{packet_model};
 ghost use Rattle.xns_spp.specs.Header.{is_system};
 ghost use Rattle.xns_calls.specs.Acknowledged.{acknowledged_of, if_begun, new_ahead};
-ghost use Rattle.xns_calls.specs.Exchange.{behind_last, both_ended, brings_new, ended, no_side, scene, wants_memory};
+ghost use Rattle.xns_calls.specs.AtEnd.{both_ended, end_turn};
+ghost use Rattle.xns_calls.specs.Exchange.{brings_new, no_side, scene, wants_memory};
 ghost use Rattle.xns_calls.specs.Read.{handled};
 
 use crate::aheads::Aheads;
 use crate::due::Due;
-use crate::exchange::end_flow;
+use crate::ending::end_flows;
 use crate::heading::Heading;
 use crate::scratch::Scratch;
 use crate::side::Side;
@@ -93,7 +94,7 @@ fn take_before(
     )
 }
 
-/// Brings a flow behind the last item that it keeps, where the one behind it has not begun.
+/// Reads all that a flow keeps, as at the end of the input, where the one behind it has not begun.
 fn end_alone(
     scratch: &mut Scratch,
     page: &mut Page,
@@ -101,11 +102,11 @@ fn end_alone(
     own: &mut Side,
 ) -> Result<(), AllocError>
     ensures front { page.new.text.front ≡ page.old.text.front }
-    ensures memory { OnErr result (is_some (behind_last own.old.track) ≡ true) }
-    ensures scene { OnOk result (scene own.new no_side page.new ≡ ended heading.entry (scene own.old no_side page.old)) }
+    ensures memory { OnErr result (is_some (end_turn own.old.track None) ≡ true) }
+    ensures scene { OnOk result (scene own.new no_side page.new ≡ both_ended heading.entry (scene own.old no_side page.old)) }
 {
     let mut other = Side::none();
-    end_flow(scratch, page, heading, own, &mut other)
+    end_flows(scratch, page, heading, own, &mut other)
 }
 
 impl KeptSide {
@@ -250,46 +251,7 @@ impl KeptSide {
         }
     }
 
-    /// Brings this flow behind the last item that it keeps. Memory is refused only where it keeps one.
-    #[tactic(auto, unfolding(crate::specs::Exchange::ended))]
-    fn end(
-        &mut self,
-        scratch: &mut Scratch,
-        page: &mut Page,
-        heading: Heading<'_>,
-        first: &mut Side,
-    ) -> Result<(), AllocError>
-        ensures front { page.new.text.front ≡ page.old.text.front }
-        ensures memory { OnErr result (is_some (behind_last self.old.track) ≡ true) }
-        ensures scene { OnOk result (scene self.new first.new page.new ≡ ended heading.entry (scene self.old first.old page.old)) }
-    {
-        match &mut self.side {
-            Some(side) => end_flow(scratch, page, heading, side.as_mut(), first),
-            None => Ok(()),
-        }
-    }
-
-    /// Brings the flow that began before behind the last item that it keeps. Memory is refused only where it keeps one.
-    fn end_first(
-        &mut self,
-        scratch: &mut Scratch,
-        page: &mut Page,
-        heading: Heading<'_>,
-        first: &mut Side,
-    ) -> Result<(), AllocError>
-        ensures front { page.new.text.front ≡ page.old.text.front }
-        ensures memory { OnErr result (is_some (behind_last first.old.track) ≡ true) }
-        ensures scene { OnOk result (scene first.new self.new page.new ≡ ended heading.entry (scene first.old self.old page.old)) }
-    {
-        match &mut self.side {
-            Some(side) => end_flow(scratch, page, heading, first, side.as_mut()),
-            None => end_alone(scratch, page, heading, first),
-        }
-    }
-
-    /// Brings both flows behind the last item that each keeps, first the one that began before. Memory is refused only where one
-    /// of them keeps an item.
-    #[tactic(auto, unfolding(crate::specs::Exchange::both_ended), using(crate::proofs::Wanted::first_wants, crate::proofs::Wanted::second_wants))]
+    /// Reads all that both flows keep, as at the end of the input. Memory is refused only where one of them keeps an item.
     pub fn end_both(
         &mut self,
         scratch: &mut Scratch,
@@ -298,10 +260,12 @@ impl KeptSide {
         first: &mut Side,
     ) -> Result<(), AllocError>
         ensures front { page.new.text.front ≡ page.old.text.front }
-        ensures memory { OnErr result ((is_some (behind_last first.old.track) || is_some (behind_last self.old.track)) ≡ true) }
+        ensures memory { OnErr result (is_some (end_turn first.old.track self.old.track) ≡ true) }
         ensures scene { OnOk result (scene first.new self.new page.new ≡ both_ended heading.entry (scene first.old self.old page.old)) }
     {
-        self.end_first(scratch, page, heading, first)?;
-        self.end(scratch, page, heading.of_other(), first)
+        match &mut self.side {
+            Some(side) => end_flows(scratch, page, heading, first, side.as_mut()),
+            None => end_alone(scratch, page, heading, first),
+        }
     }
 }

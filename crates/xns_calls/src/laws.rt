@@ -1,4 +1,5 @@
 //! Laws of the definitions, as functions that do nothing.
+ghost use Rattle.xns_calls.specs.InOrder.{KeptItemsAreReadInTurn};
 ghost use Rattle.xns_calls.specs.Laws.{AcknowledgementsWait, AnItemIsAnEvent, CapturesSayWhatLinesSay, ConnectionsHaveNumbers, HeardMessagesArePrinted, InputsTellTheirConversations};
 ghost use Rattle.xns_calls.specs.Laws.{LivingConnectionsAreKept, MissingItemsAreBeforeCapturedOnes, NothingIsMissing};
 ghost use Rattle.xns_calls.specs.Laws.{NumbersAreReadBack, OneKeyServesBothDirections, OtherConnectionsStay, PacketsAreEvents};
@@ -52,6 +53,13 @@ pub fn packets_are_events()
 /// later. So at most 64 numbers of a flow are kept.
 pub fn acknowledgements_wait()
     ensures { AcknowledgementsWait }
+{}
+
+/// An item that is kept is read only where it comes next, and where the items of the other flow that its packet acknowledges were read or
+/// are waited for no longer. Of two that can be read, one of each flow, the one that was captured first is read first. What is still kept
+/// behind a packet can't be read, and nothing is still kept behind the end of the input.
+pub fn kept_items_are_read_in_turn()
+    ensures { KeptItemsAreReadInTurn }
 {}
 
 /// The field of an item is read as the item's number, where that is at most 32,768 below the next one and at most 32,767

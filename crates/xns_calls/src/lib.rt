@@ -15,6 +15,7 @@ mod due;
 mod early;
 mod early_items;
 mod end_key;
+mod ending;
 mod exchange;
 mod first_kept;
 mod given;

@@ -3,7 +3,8 @@ ghost use Rattle.std.specs.Prelude.{◌≡◌, OnErr, OnOk, Some, true};
 ghost use Rattle.std.specs.Option.{is_some};
 ghost use Rattle.xns_calls.specs.Exchange.{scene};
 ghost use Rattle.xns_calls.specs.Read.{own_read, read_of, settled};
-ghost use Rattle.xns_calls.specs.Turns.{is_behind as is_behind_of, is_free as is_free_of, next_turn as next_turn_of, readable as readable_of};
+ghost use Rattle.xns_calls.specs.Turns.{first_line as first_line_of, is_behind as is_behind_of, is_free as is_free_of, next_turn as next_turn_of};
+ghost use Rattle.xns_calls.specs.Turns.{readable as readable_of};
 
 use crate::bringing::read_first;
 use crate::given::Given;
@@ -46,19 +47,26 @@ fn readable(own: &Side, behind: &Side, given: u64) -> Option<usize>
     }
 }
 
-/// The flow of which an item is read next, if there is one: whether it is the one behind.
-fn next_turn(own: &Side, other: &Side, given: Given) -> Option<bool>
-    ensures { result ≡ next_turn_of given own.now.track other.now.track }
+/// Of two flows, the one whose line is first, if there is one: whether it is the one behind.
+pub fn first_line(own: Option<usize>, other: Option<usize>) -> Option<bool>
+    ensures { result ≡ first_line_of own other }
 {
-    match (
-        readable(own, other, given.other),
-        readable(other, own, given.own),
-    ) {
+    match (own, other) {
         (None, None) => None,
         (Some(_), None) => Some(false),
         (None, Some(_)) => Some(true),
         (Some(own_line), Some(other_line)) => Some(other_line < own_line),
     }
+}
+
+/// The flow of which an item is read next, if there is one: whether it is the one behind.
+fn next_turn(own: &Side, other: &Side, given: Given) -> Option<bool>
+    ensures { result ≡ next_turn_of given own.now.track other.now.track }
+{
+    first_line(
+        readable(own, other, given.other),
+        readable(other, own, given.own),
+    )
 }
 
 /// Reads the first item that a flow keeps, if it comes next.

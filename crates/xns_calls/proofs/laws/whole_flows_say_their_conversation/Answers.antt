@@ -1,4 +1,4 @@
-use Rattle.xns_calls.proofs.Whole.{whole_end_said}
+use Rattle.xns_calls.proofs.WholeEnds.{whole_end_said}
 use Rattle.xns_calls.proofs.laws.whole_flows_say_their_conversation.Goals as goal
 
 pub returns : goal.returns

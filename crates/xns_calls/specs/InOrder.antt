@@ -1,0 +1,38 @@
+-- Which item that is kept may be read, said of two flows.
+use Rattle.std.specs.Prelude.{◌≡◌, ℕ, ◌+◌, ◌≤◌, ◌<◌, ◌⊎◌, List, [], ◌∷◌, Option, Some, None, true, false}
+use Rattle.xns_spp.specs.Ends.{most_pending}
+use Rattle.xns_calls.specs.AtEnd.{both_ended}
+use Rattle.xns_calls.specs.Exchange.{Scene}
+use Rattle.xns_calls.specs.Read.{settled}
+use Rattle.xns_calls.specs.Turns.{next_turn}
+use Rattle.xns_calls.specs.declared.early.Early.{Early}
+use Rattle.xns_calls.specs.declared.given.Given.{Given}
+use Rattle.xns_calls.specs.declared.heading.Heading.{Heading}
+use Rattle.xns_calls.specs.declared.track.Track.{Track}
+
+-- what an item's packet acknowledges of the flow behind was read, or is waited for no longer; or the number lies more than 64 past the
+-- next one, as none of a window of 64 does
+abbrev pub IsFree : Option Track → ℕ → Option ℕ → Type 0
+IsFree None given acknowledged = Unit {0}
+IsFree (Some behind) given None = Unit {0}
+IsFree (Some behind) given (Some number) = (number ≤ behind.next) ⊎ ((number ≤ given) ⊎ (behind.next + most_pending < number))
+
+-- the item is the first that a flow keeps, it comes next, and it waits for nothing of the flow behind
+pub record CanBeRead (track : Track) (behind : Option Track) (given : ℕ) (early : Early) : Type 0 where
+  pub rest : List Early
+  pub first : track.early ≡ early ∷ rest
+  pub next : early.number ≤ track.next
+  pub free : IsFree behind given early.item.acknowledged
+
+-- an item is read only where it can be; of two that can be, the one that was captured first is read first; what is still kept then can't be
+-- read; and at the end of the input nothing is still kept
+pub record KeptItemsAreReadInTurn : Type 0 where
+  pub can : (given : Given) (own : Track) (other : Option Track) → next_turn given (Some own) other ≡ Some false
+      → (early : Early) × CanBeRead own other given.other early
+  pub first : (given : Given) (own other : Track) (a b : Early) → CanBeRead own (Some other) given.other a → CanBeRead other (Some own) given.own b
+      → (b.item.line < a.item.line → next_turn given (Some own) (Some other) ≡ Some true)
+      × (a.item.line ≤ b.item.line → next_turn given (Some own) (Some other) ≡ Some false)
+  pub left : (h : Heading) (given : Given) (s : Scene) (track : Track) (early : Early) → (settled h given s).own.track ≡ Some track
+      → CanBeRead track (settled h given s).other.track given.other early → ⊥
+  pub ended : (h : Heading) (s : Scene) (track : Track) → ((both_ended h s).own.track ≡ Some track) ⊎ ((both_ended h s).other.track ≡ Some track)
+      → track.early ≡ []
