@@ -9,7 +9,7 @@ use Rattle.courier_programs.specs.Meanings.{Components}
 use Rattle.courier_programs.specs.Refused.{NameFault, Refuses, steps}
 use Rattle.courier_programs.specs.Scopes.{Env}
 use Rattle.courier_programs.specs.Types.{Candidates, Members, candidate_group, candidates_meant, component_step, components_meant, once}
-use Rattle.courier_programs.proofs.Items.{drop_past}
+use Rattle.courier_texts.proofs.Printed.{drop_past}
 
 -- ---- components
 

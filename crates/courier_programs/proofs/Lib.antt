@@ -1,11 +1,9 @@
 pub mod Begins
 pub mod Groups
-pub mod Items
 pub mod LexedNamed
 pub mod Models
 pub mod Names
 pub mod ProgramsNamed
 pub mod TypesNamed
 pub mod Wants
-pub mod Writing
 pub mod WrittenNamed

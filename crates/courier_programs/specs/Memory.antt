@@ -7,7 +7,7 @@ use Rattle.courier_notation.specs.Written.{TypeModel, FieldModels, no_fields, fi
 use Rattle.courier_programs.specs.declared.declarations.Added.{Added}
 use Rattle.courier_programs.specs.declared.declarations.Added.TheVariants as additions
 use Rattle.courier_programs.specs.declared.program.Program.{Program}
-use Rattle.courier_programs.specs.Scopes.{Env, program_by, spent, type_named, word_of}
+use Rattle.courier_programs.specs.Scopes.{Env, program_by, spent, text_of, type_named, word_of}
 use Rattle.courier_programs.specs.Types.{maximum_of, tag_members}
 
 abbrev pub HasFields : FieldModels → Type 0
@@ -39,6 +39,10 @@ abbrev pub AddingWants : Program → Added → Type 0
 AddingWants p (additions.Meaning m) = IsFull p.meanings
 AddingWants p (additions.Procedure q) = IsFull p.procedures ⊎ IsFull p.meanings
 AddingWants p (additions.Error r) = IsFull p.errors ⊎ IsFull p.meanings
+
+-- a program has a name, or declares something
+abbrev pub DeclaringWants : List (List ℕ) → ProgramModel → Type 0
+DeclaringWants names w = (0 < length (text_of names w.name)) ⊎ (0 < length w.declarations)
 
 -- what a program depends upon first was read
 abbrev pub FirstWasRead : List Program → List Dependency → Type 0

@@ -1,8 +1,10 @@
 //! Texts of names.
 
-ghost use Rattle.std.specs.Prelude.{◌≡◌};
+ghost use Rattle.std.specs.Prelude.{◌≡◌, ◌<◌, IfOk, OnErr, length};
 ghost use Rattle.std.specs.Str.{bytes_eq};
 ghost use Rattle.courier_programs.specs.Scopes.{names_seen, text_of};
+
+use std::alloc::{AllocError, Global};
 
 /// Whether two names are the same; case counts.
 pub(crate) fn is_same(a: &[u8], b: &[u8]) -> bool
@@ -19,4 +21,14 @@ pub(crate) fn text(names: &[Vec<u8>], name: u32) -> &[u8]
         Some(bytes) => bytes,
         None => &[],
     }
+}
+
+/// A copy of the bytes. The only error is want of memory, where there are bytes.
+pub(crate) fn copied(alloc: Global, bytes: &[u8]) -> Result<Vec<u8>, AllocError>
+    ensures copy { IfOk result (λ copy. copy.items ≡ bytes.now) }
+    ensures memory { OnErr result (0 < length bytes.now) }
+{
+    let mut copy = Vec::with_capacity(alloc, bytes.len())?;
+    copy.extend_from_slice(bytes)?;
+    Ok(copy)
 }

@@ -1,16 +1,16 @@
 //! Programs whose names are resolved.
 
-ghost use Rattle.std.specs.Prelude.{◌≡◌, ◌<◌, [], IfOk, IsOk, length};
+ghost use Rattle.std.specs.Prelude.{◌≡◌, ◌<◌, [], IfOk, IsOk, OnErr, length};
 ghost use Rattle.courier_notation.specs.ProgramModels.{declaration_view, declaration_views, declared_view, program_view};
 ghost use Rattle.courier_programs.specs.Declarations.{declaration_step};
 ghost use Rattle.courier_programs.specs.Meanings.{resolved_model};
-ghost use Rattle.courier_programs.specs.Memory.{FirstWasRead, ResolvingWants};
+ghost use Rattle.courier_programs.specs.Memory.{DeclaringWants, FirstWasRead, ResolvingWants};
 ghost use Rattle.courier_programs.specs.Refused.{Finds, Gives, IfNoMemory, steps};
 ghost use Rattle.courier_programs.specs.Resolving.{dependency_step, reported as reported_in, reports_step, resolved};
 ghost use Rattle.courier_programs.specs.Resolving.{empty_program as empty_program_of, with_dependencies as with_dependencies_of, with_reports as with_reports_of};
-ghost use Rattle.courier_programs.specs.Scopes.{env, names_seen};
+ghost use Rattle.courier_programs.specs.Scopes.{env, names_seen, text_of};
 
-use crate::bytes::text;
+use crate::bytes::{copied, text};
 use crate::declarations::take_declaration;
 use crate::finding::program_of;
 use crate::limits::MOST_TYPE_PARTS;
@@ -162,9 +162,10 @@ fn empty_program(
     names: &[Vec<u8>],
     written: &WrittenProgram,
 ) -> Result<Program, AllocError>
-    ensures { IfOk result (λ program. resolved_model program ≡ empty_program_of (names_seen names.now) (program_view written.now)) }
+    ensures exact { IfOk result (λ program. resolved_model program ≡ empty_program_of (names_seen names.now) (program_view written.now)) }
+    ensures memory { OnErr result (0 < length (text_of (names_seen names.now) written.now.name)) }
 {
-    let name = Vec::from_slice(alloc, text(names, written.name))?;
+    let name = copied(alloc, text(names, written.name))?;
     Ok(Program {
         name,
         number: written.number,
@@ -184,7 +185,8 @@ fn with_dependencies(
     dependencies: &[Dependency],
     written: &WrittenProgram,
 ) -> Result<Program, Refusal>
-    ensures { Gives resolved_model result (with_dependencies_of (names_seen names.now) before.now dependencies.now (program_view written.now)) }
+    ensures exact { Gives resolved_model result (with_dependencies_of (names_seen names.now) before.now dependencies.now (program_view written.now)) }
+    ensures memory { IfNoMemory result (DeclaringWants (names_seen names.now) (program_view written.now)) }
 {
     let mut program = empty_program(alloc, names, written)?;
     let _left = take_declarations(

@@ -1,16 +1,16 @@
 use Rattle.std.proofs.Common.{[], ◌<◌, length, option_map, refl, ap, ◌∙◌, arith}
 use Rattle.std.proofs.lemmas.Result.{err_from_is_err_and}
 use Rattle.courier_notation.specs.Written.{candidate_models, candidates_from, field_models, fields_from, type_model}
+use Rattle.courier_notation.proofs.Models.{model_choice as written_choice, model_record as written_record}
 use Rattle.courier_texts.specs.Named.{members_seen}
+use Rattle.courier_texts.proofs.Printed.{item_here}
 use Rattle.courier_programs.specs.Meanings.{components_seen}
 use Rattle.courier_programs.specs.Memory.{HasFields}
 use Rattle.courier_programs.specs.Scopes.{env}
 use Rattle.courier_programs.specs.Types.{candidates_meant, candidates_seen, choice_meant, components_meant, fields_meant, type_level_meant, type_meant}
 use Rattle.courier_programs.proofs.Groups.{candidates_stop, components_stop, more_candidates, more_components, names_stop, no_more_candidates, no_more_components}
 use Rattle.courier_programs.proofs.Models.{model_choice, model_record}
-use Rattle.courier_programs.proofs.Items.{item_here}
 use Rattle.courier_programs.proofs.Wants.{has_fields, wants_more}
-use Rattle.courier_programs.proofs.Writing.{written_choice, written_record}
 use Rattle.courier_programs.proofs.types.+types.Goals as goal
 
 pub components_of-returns-in_err-all_once-clause-exact : goal.components_of-returns-in_err-all_once-clause-exact
