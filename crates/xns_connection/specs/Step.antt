@@ -15,18 +15,22 @@ use Rattle.xns_connection.specs.Giving.{Giving, GivesAs, IsGiving, IsShort, givi
 use Rattle.xns_connection.specs.Living.{GoesFrom}
 use Rattle.xns_connection.specs.Moving.{is_calm, scene}
 use Rattle.xns_connection.specs.Reasons.{answer_fault_of, call_fault_of}
-use Rattle.xns_connection.specs.Story.{Story, waiting_message, wants_answer}
+use Rattle.xns_connection.specs.Story.{Story, is_stopped, waiting_message, wants_answer}
 use Rattle.xns_connection.specs.Telling.{waits as waits_for}
 use Rattle.xns_connection.specs.Telling.{CalmFrom, Goes, HasSaidEnd, HasSaidReply, MovesAndGives, OwesRoom, ReadsAll, Rested}
 use Rattle.xns_connection.specs.declared.connection.Connection.{Connection}
 use Rattle.xns_connection.specs.declared.conversation.Conversation.{Conversation}
+use Rattle.xns_connection.specs.declared.closing.TheConstants.Closing as closings
 use Rattle.xns_connection.specs.declared.owed.TheConstants.Owed.{NONE, SILENT}
 
 -- ---- a new connection
 
--- it was made at this time, with this pace: nothing was said in it, it is open, and owes nothing but, where its side calls, its opening packet
+-- it was made at this time, with this pace: nothing was said in it, nobody closes it, its side reads, it is open, and owes nothing but, where
+-- its side calls, its opening packet
 pub record IsMade (pace : Pace) (now : ℕ) (again : Bool) (c : Connection) : Type 0 where
   pub silent : c.conversation.packets.items ≡ []
+  pub unasked : c.conversation.closing ≡ closings.NONE
+  pub reads : is_stopped c.conversation.side ≡ false
   pub unclosed : c.closed ≡ None
   pub untold : c.told ≡ false
   pub owes : c.owed ≡ record NONE { again = again }

@@ -3,7 +3,7 @@
 ghost use Rattle.std.specs.Prelude.{◌≡◌, ◌<◌, true, false, IfOk, Some, None};
 ghost use Rattle.xns_spp.specs.State.{initiator_state, responder_state};
 ghost use Rattle.xns_connection.specs.Moving.{HasHistory};
-ghost use Rattle.xns_connection.specs.Story.{new_story};
+ghost use Rattle.xns_connection.specs.Story.{is_stopped, new_story};
 ghost use Rattle.xns_connection.specs.Telling.{Tells};
 
 use crate::connection::Connection;
@@ -31,7 +31,7 @@ impl Connection {
         again: bool,
         now: u64,
     ) -> Connection
-        requires { HasHistory endpoint }
+        requires { HasHistory endpoint × (is_stopped side ≡ false) }
         ensures ends { (result.conversation.endpoint ≡ endpoint) × (result.conversation.side ≡ side) }
         ensures unsaid { result.conversation.closing ≡ NONE }
         ensures made { IsMade pace now again result }
