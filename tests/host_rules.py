@@ -57,6 +57,7 @@ class Twins:
         self.wild, self.plain = (xns.Host(self.own, bytes([station]) * 32, **SETTINGS) for _ in range(2))
         self.held, self.silenced, self.refused, self.spoiled, self.handed, self.asked = {}, set(), {}, set(), set(), set()
         self.last = {}  # by its via, the front of the last packet of a connection behind which no packet came
+        self.unheard = self.is_stranger = None  # the front of the packet of which it may complain, with its via, and whether it must
         self.ask("serve", COURIER, [(7, 1, 1)], timed=False)
 
     def ask(self, name, *arguments, timed=True):
@@ -93,10 +94,14 @@ class Twins:
         """Fetches the packets, and returns their vias."""
         packets = self.ask("packets")
         for via, data in packets:
-            assert via not in self.silenced, ("a packet of a connection that is dead or abandoned", via)
+            if data[5] == 3:
+                assert (via, data[34:76], data[30:32]) == (*self.unheard, b"\0\2"), ("a complaint of what did not come", via, data)
+                self.unheard = self.is_stranger = None
+            else:
+                assert via not in self.silenced, ("a packet of a connection that is dead or abandoned", via)
+                self.last[via] = data[:42]
             self.play.bag.append((self.other, via, data))
-            self.last[via] = data[:42]
-        return [via for via, _ in packets]
+        return [via if data[5] == 5 else None for via, data in packets]
 
     def fetch(self):
         """Fetches all that there is, packets or events first, and says whether there was anything. Where a peer is given up as packets are fetched, its
@@ -118,6 +123,7 @@ class Twins:
             found, empty, wake = found or bool(events or vias), 0 if events or vias else empty + 1, self.wake()
         assert wake is None or wake > self.clock.own, ("nothing is left, and the host does not sleep", wake, self.clock.own)
         self.count()
+        assert not self.is_stranger, ("a packet of no connection, and no complaint", self.unheard)
         return found
 
     def hear(self, event):
@@ -153,6 +159,9 @@ class Twins:
         for number in self.count(come=int(is_opening(data))):
             self.open(number, False, via)
             self.silenced.discard(via)
+        if data[5] == 5:
+            self.unheard = (via, data[:42])
+            self.is_stranger = taken and data[16:18] == struct.pack(">H", COURIER) and all(one.via != via for one in self.held.values())
         return taken
 
     def hear_error(self, via, data):
@@ -246,8 +255,8 @@ class Play:
         self.hosts[0].other, self.hosts[1].other = self.hosts[1], self.hosts[0]
 
     def deliver(self, losses):
-        """A packet of the bag comes, or is lost, or comes and may come again. Of a sequenced packet that is not taken one complains: by the numbers 2 and 3
-        the connection that sent it lately is closed, by 1 it is not."""
+        """A packet of the bag comes, or is lost, or comes and may come again. Of a sequenced packet that no host takes one complains too: by the numbers 2
+        and 3 the connection that sent it lately is closed, by 1 it is not."""
         if not self.bag:
             return
         host, via, data = self.bag.pop(self.random.randrange(len(self.bag)))

@@ -251,6 +251,21 @@ static void not_served(void) {
     }
 }
 
+/* A service that is made anew complains of what it hears of an old connection, which is closed: it has no such connection. */
+static void made_anew(void) {
+    size_t number;
+    uint64_t began;
+    open_both(&usual, &number);
+    asks(number, XNS_KIND_RETURN, 0, 3);
+    began = now;
+    AGAIN(xns_host_new(&service, &there, &usual, secret));
+    AGAIN(xns_host_serve(&service, there.socket, programs, 1));
+    AGAIN(xns_host_call(&client, now, number, 7, LAST_VERSION, 3, given, 2));
+    is_not_served(&client, XNS_ERROR_NO_SUCH_SOCKET);
+    CHECK(now == began);
+    free_both();
+}
+
 #include "host_faults.h"
 
 /* A host whose first packet is refused memory rests for the first wait, unless something is done of a connection. Asked before that, it gives the packet. */
@@ -290,6 +305,7 @@ int main(void) {
     abandoned();
     idle();
     not_served();
+    made_anew();
     faults();
     rests();
     for (refuse_at = 0, most = 1; refuse_at <= most; refuse_at++) {

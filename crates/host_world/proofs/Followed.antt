@@ -9,7 +9,7 @@ use Rattle.xns_idp.specs.declared.address.Address.{Address}
 use Rattle.courier_messages.specs.declared.message.Message.TheVariants as messages
 use Rattle.item_world.specs.declared.side.Side.{Side}
 use Rattle.xns_spp.specs.Packet.{SppPacketModel}
-use Rattle.xns_host.specs.Coming.{Comes, Opens}
+use Rattle.xns_host.specs.Coming.{Arrives, Comes, Opens}
 use Rattle.xns_host.specs.Coming as coming
 use Rattle.xns_connection.specs.Deeds as deeds
 use Rattle.xns_host.specs.Events.{event_by, event_of}
@@ -284,7 +284,7 @@ opens_followed law now way bytes packet w {r = r} (coming.opened {mid = mid} num
     (λ k other. subst (Still (slice_get p.guests k)) (sym (ap (λ (l : List (Option Guest)). slice_get l k) to ∙ (beside mid.guests number k (Some turn.next) other
     ∙ (ap (λ (l : List (Option Guest)). slice_get l k) is ∙ taken_beside p number k seats.guest other)))) (still (slice_get p.guests k)))
     (gives_way (MayTake (Some bytes)) p.guests (slice_get r.guests number) seats.place)
-opens_followed law now way bytes packet w (coming.full why same) = λ k. followed (MayTake (Some bytes)) (slice_get w.places.guests k) (slice_get w.places.guests k) (still (slice_get w.places.guests k))
+opens_followed law now way bytes packet w (coming.full why same complains) = λ k. followed (MayTake (Some bytes)) (slice_get w.places.guests k) (slice_get w.places.guests k) (still (slice_get w.places.guests k))
 opens_followed law now way bytes packet w (coming.starved same) = λ k. followed (MayTake (Some bytes)) (slice_get w.places.guests k) (slice_get w.places.guests k) (still (slice_get w.places.guests k))
 
 comes_followed : (law : AStepKeepsItsPromises) (now way : ℕ) (bytes : List ℕ) (w : Whole) {result : Bool} {n : Whole} → Comes now way bytes w result n
@@ -296,6 +296,12 @@ comes_followed law now way bytes w (coming.refuses p taken {q = q} is quotes tur
 comes_followed law now way bytes w (coming.hears p {q = q} is names turn) k = hears_at law now names.number bytes (confirms p) w.places q turn k
 comes_followed law now way bytes w (coming.opens p is opener o) k = opens_followed law now way bytes p w o k
 
+arrives_followed : (law : AStepKeepsItsPromises) (now way : ℕ) (bytes : List ℕ) (w : Whole) {result : Bool} {n : Whole} → Arrives now way bytes w result n
+    → (k : ℕ) → IsFollowed (MayTake (Some bytes)) no_more [] (slice_get w.places.guests k) (slice_get n.places.guests k)
+arrives_followed law now way bytes w (coming.meant c) k = comes_followed law now way bytes w c k
+arrives_followed law now way bytes w (coming.unheard p taken c is served complains) k = followed (MayTake (Some bytes)) (slice_get w.places.guests k) (slice_get w.places.guests k) (still (slice_get w.places.guests k))
+arrives_followed law now way bytes w (coming.unmeant c never) k = followed (MayTake (Some bytes)) (slice_get w.places.guests k) (slice_get w.places.guests k) (still (slice_get w.places.guests k))
+
 pub heard_followed : (law : AStepKeepsItsPromises) (now way : ℕ) (bytes : List ℕ) (result : Bool) (h j : Host) → TakesIn now way bytes result h j
     → EachFollowed (MayTake (Some bytes)) (λ k. no_more) gave_none h j
-heard_followed law now way bytes result h j t = comes_followed law (time_at h.clock now) way bytes (whole_of h) t.comes
+heard_followed law now way bytes result h j t = arrives_followed law (time_at h.clock now) way bytes (whole_of h) t.comes

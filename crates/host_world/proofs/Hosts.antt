@@ -4,7 +4,7 @@ use Rattle.std.specs.Prelude.{◌==◌, if◌then◌else◌, slice_get}
 use Rattle.xns_idp.specs.declared.address.Address.{Address}
 use Rattle.xns_spp.specs.Packet.{SppPacketModel}
 use Rattle.xns_agenda.specs.Clock.{time_at}
-use Rattle.xns_host.specs.Coming.{Comes, Opens}
+use Rattle.xns_host.specs.Coming.{Arrives, Comes, Opens}
 use Rattle.xns_host.specs.Coming as coming
 use Rattle.xns_host.specs.Hosting.{confirms}
 use Rattle.xns_host.specs.Places.{Places, Turns, taken_by, vacated}
@@ -36,7 +36,7 @@ opens_it now way bytes packet w (coming.opened {mid = mid} {new = new} number id
     (first_unseen free (held (new_dialogue false)) opens [] (Some (Some guest)) opening refl (stays (held (new_dialogue false)) (Some (Some guest)) shows))))
     (unsaid number taken.guests new.guests (turned (GuestHears now bytes false) number taken new [] (λ d g h s t. hearing now bytes false d g h s t)
     (subst (λ (p : Places). Turns (GuestHears now bytes false) number p new) seats.is turn)))
-opens_it now way bytes packet w (coming.full why same) = silent w.places.guests
+opens_it now way bytes packet w (coming.full why same complains) = silent w.places.guests
 opens_it now way bytes packet w (coming.starved same) = silent w.places.guests
 
 comes : (now way : ℕ) (bytes : List ℕ) (w : Whole) {result : Bool} {n : Whole} → Comes now way bytes w result n → Silent w.places.guests n.places.guests
@@ -47,6 +47,11 @@ comes now way bytes w (coming.refuses p taken {q = q} is quotes turn) =
 comes now way bytes w (coming.hears p {q = q} is names turn) =
     unsaid names.number w.places.guests q.guests (turned (GuestHears now bytes (confirms p)) names.number w.places q [] (λ d g h s t. hearing now bytes (confirms p) d g h s t) turn)
 comes now way bytes w (coming.opens p is opener o) = opens_it now way bytes p w o
+
+arrives : (now way : ℕ) (bytes : List ℕ) (w : Whole) {result : Bool} {n : Whole} → Arrives now way bytes w result n → Silent w.places.guests n.places.guests
+arrives now way bytes w (coming.meant c) = comes now way bytes w c
+arrives now way bytes w (coming.unheard p taken c is served complains) = silent w.places.guests
+arrives now way bytes w (coming.unmeant c never) = silent w.places.guests
 
 -- ---- the calls of a host
 
@@ -99,7 +104,7 @@ quietly h j (is_refused now number deed fault t) = λ k v shows. subst (Passes [
 quietly h j (abandons_none number fault a) = silent_if h.guests.items j.guests.items (ap (λ (p : Places). p.guests) a.unchanged)
 quietly h j (finds_no_room now way socket peer fault c) = silent_if h.guests.items j.guests.items (ap (λ (p : Places). p.guests) c.unchanged)
 quietly h j (tells_nothing t) = no_event h.clock.latest (places_of h) t.next
-quietly h j (takes_in now way bytes result t) = comes (time_at h.clock now) way bytes (whole_of h) t.comes
+quietly h j (takes_in now way bytes result t) = arrives (time_at h.clock now) way bytes (whole_of h) t.comes
 quietly h j (gives_out now result g) = giving now result h j g h.strays.waiting refl
 quietly h j (serves socket programs result s) = silent_if h.guests.items j.guests.items (ap (λ (w : Whole). w.places.guests) s.rest)
 quietly h j (moves network m) = silent_if h.guests.items j.guests.items (ap (λ (w : Whole). w.places.guests) m.is)

@@ -3,16 +3,17 @@ use Rattle.std.proofs.Common.{◌≡◌, ◌≢◌, ◌∙◌, ◌⊎◌, ap, re
 use Rattle.xns_idp.specs.Packet.{PacketModel, broadcast}
 use Rattle.xns_idp.specs.Reading.{packet_of}
 use Rattle.xns_small.specs.Echo.{echo_reply}
+use Rattle.xns_small.specs.declared.error_number.TheConstants.{NO_RESOURCES, NO_SUCH_SOCKET}
 use Rattle.xns_spp.specs.Packet.{SppPacketModel, opener_of, spp_packet_of}
-use Rattle.xns_host.specs.Coming.{Comes, Opens, echoes, foreign, full, hears, opens, refuses, starved}
+use Rattle.xns_host.specs.Coming.{Arrives, Comes, Opens, echoes, foreign, full, hears, meant, opens, refuses, starved, unheard, unmeant}
 use Rattle.xns_host.specs.Hosting.{HasNoRoom, IsAllInUse, IsThere, address_in, confirms}
 use Rattle.xns_host.specs.Identifiers.{StaysInOrder}
-use Rattle.xns_host.specs.Ours.{AsksEcho, IsOf, IsOurs, QuotesOurs}
+use Rattle.xns_host.specs.Ours.{AsksEcho, IsOf, IsOurs, IsToService, QuotesOurs}
 use Rattle.xns_host.specs.Places.{Places, Turns}
 use Rattle.xns_host.specs.Registered.{named_in}
 use Rattle.xns_host.specs.Services.{programs_at}
 use Rattle.xns_host.specs.Standing.{IsSameHost, StaysSetUp}
-use Rattle.xns_host.specs.Strays.{MayHaveStray, StrayQueue, echo_socket, lost_stray, stray_of}
+use Rattle.xns_host.specs.Strays.{HasComplained, MayHaveStray, StrayQueue, echo_socket, lost_stray, stray_of}
 use Rattle.xns_host.specs.Turn.{places_of, whole_of}
 use Rattle.xns_host.specs.Went.{GuestHears, GuestUnserved}
 use Rattle.xns_host.specs.Whole.{Whole}
@@ -22,6 +23,7 @@ use Rattle.xns_host.specs.declared.register.Register.{Register}
 use Rattle.xns_host.specs.declared.services.Services.{Services}
 use Rattle.xns_host.specs.declared.settings.Settings.{Settings}
 use Rattle.xns_host.proofs.Foreign.{echo_not_ours, error_not_ours}
+use Rattle.xns_host.proofs.Hearing.{one_packet}
 
 whole : ℕ → List ℕ → Settings → Services → Register → StrayQueue → Places → Whole
 whole n h s v r q p = record { network = n; host = h; settings = s; services = v; register = r; strays = q; places = p }
@@ -94,15 +96,61 @@ comes_opened now way b w v true p is here one_host named turn opener never rest 
 comes_opened now way b w v false p is here one_host named turn opener never rest eq =
     none_comes now way b w v (never refl) (rest refl)
 
-pub full_by : (now way : ℕ) (b : List ℕ) (p : SppPacketModel) (w : Whole) (r : Register) (s : StrayQueue) (q : Places) → s ≡ w.strays → q ≡ w.places
+pub full_by : (now way : ℕ) (b : List ℕ) (p : SppPacketModel) (w : Whole) (r : Register) (s : StrayQueue) (q : Places)
+    → HasComplained (address_in w.network w.host p.target.socket) NO_RESOURCES way b w.strays s → q ≡ w.places
     → HasNoRoom w.places.guests ⊎ IsAllInUse w.register.identifiers → StaysInOrder w.register.identifiers r.identifiers → Opens now way b p w r s q
-full_by now way b p w r s q queue is why order =
-    subst (λ (x : StrayQueue). Opens now way b p w r x q) (sym queue) (subst (λ (x : Places). Opens now way b p w r w.strays x) (sym is) (full why order))
+full_by now way b p w r s q complaint is why order = subst (λ (x : Places). Opens now way b p w r s x) (sym is) (full why order complaint)
+
+-- of the address of a socket of the host as it was
+pub complained_of : (network was : ℕ) (host own : List ℕ) (socket here way : ℕ) (b : List ℕ) (old mid new : StrayQueue) → network ≡ was → host ≡ own
+    → socket ≡ here → mid ≡ old → HasComplained (address_in network host socket) NO_RESOURCES way b mid new
+    → HasComplained (address_in was own here) NO_RESOURCES way b old new
+complained_of network was host own socket here way b old mid new same_network same_host same_socket same is =
+    subst (λ (x : ℕ). HasComplained (address_in x own here) NO_RESOURCES way b old new) same_network
+    (subst (λ (x : List ℕ). HasComplained (address_in network x here) NO_RESOURCES way b old new) same_host
+    (subst (λ (x : ℕ). HasComplained (address_in network host x) NO_RESOURCES way b old new) same_socket
+    (subst (λ (x : StrayQueue). HasComplained (address_in network host socket) NO_RESOURCES way b x new) same is)))
 
 pub starved_by : (now way : ℕ) (b : List ℕ) (p : SppPacketModel) (w : Whole) (r : Register) (s : StrayQueue) (q : Places) → s ≡ lost_stray w.strays → q ≡ w.places
     → StaysInOrder w.register.identifiers r.identifiers → Opens now way b p w r s q
 starved_by now way b p w r s q queue is order =
     subst (λ (x : StrayQueue). Opens now way b p w r x q) (sym queue) (subst (λ (x : Places). Opens now way b p w r (lost_stray w.strays) x) (sym is) (starved order))
 
-pub comes_at : (t u way : ℕ) (b : List ℕ) (w v : Whole) (r : Bool) → t ≡ u → Comes t way b w r v → Comes u way b w r v
-comes_at t u way b w v r eq comes = subst (λ (x : ℕ). Comes x way b w r v) eq comes
+-- ---- a packet that nobody hears
+
+-- what is not the host's changed nothing
+left_alone : (now way : ℕ) (b : List ℕ) (w v : Whole) (r : Bool) → r ≡ false → Comes now way b w r v → v ≡ w
+left_alone now way b w v r off (foreign never) = refl
+left_alone now way b w v r off (echoes p taken read asks waits) = absurd (cc)
+left_alone now way b w v r off (refuses p taken read quotes turn) = absurd (cc)
+left_alone now way b w v r off (hears p read names turn) = absurd (cc)
+left_alone now way b w v r off (opens p read opener made) = absurd (cc)
+
+complained_at : (now way : ℕ) (b : List ℕ) (w v : Whole) (r : Bool) (p : PacketModel) (taken : ℕ) → packet_of b ≡ Ok (p, taken)
+    → Comes now way b w false w → (r ≡ true → IsToService w p) → (r ≡ false → IsToService w p → ⊥)
+    → (r ≡ true → HasComplained (address_in w.network w.host p.target.socket) NO_SUCH_SOCKET way b w.strays v.strays)
+    → (r ≡ false → v.strays ≡ w.strays) → v ≡ record w { strays = v.strays } → Arrives now way b w r v
+complained_at now way b w v true p taken read comes served unserved waits rest is =
+    subst (λ (x : Whole). Arrives now way b w true x) (sym is) (unheard p taken comes read (served refl) (waits refl))
+complained_at now way b w v false p taken read comes served unserved waits rest is =
+    subst (λ (x : Whole). Arrives now way b w false x) (sym (is ∙ ap (λ (q : StrayQueue). let x : Whole = record w { strays = q } in x) (rest refl)))
+    (unmeant comes (λ q n at s. unserved refl (subst (λ (x : PacketModel). IsToService w x) (one_packet p q taken n (sym read) at) s)))
+
+pub complained : (now way : ℕ) (b : List ℕ) (w m v : Whole) (was r : Bool) (p : PacketModel) (taken : ℕ) → packet_of b ≡ Ok (p, taken)
+    → was ≡ false → Comes now way b w was m → (r ≡ true → IsToService m p) → (r ≡ false → IsToService m p → ⊥)
+    → (r ≡ true → HasComplained (address_in m.network m.host p.target.socket) NO_SUCH_SOCKET way b m.strays v.strays)
+    → (r ≡ false → v.strays ≡ m.strays) → v ≡ record m { strays = v.strays } → Arrives now way b w r v
+complained now way b w m v was r p taken read off comes served unserved waits rest is =
+    let same : m ≡ w = left_alone now way b w m was off comes in
+    let none : Comes now way b w false w
+    = subst (λ (x : Whole). Comes now way b w false x) same (subst (λ (x : Bool). Comes now way b w x m) off comes) in
+    subst (λ (x : Whole). (r ≡ true → IsToService x p) → (r ≡ false → IsToService x p → ⊥)
+    → (r ≡ true → HasComplained (address_in x.network x.host p.target.socket) NO_SUCH_SOCKET way b x.strays v.strays)
+    → (r ≡ false → v.strays ≡ x.strays) → v ≡ record x { strays = v.strays } → Arrives now way b w r v) (sym same)
+    (complained_at now way b w v r p taken read none) served unserved waits rest is
+
+pub arrives_meant : (t u way : ℕ) (b : List ℕ) (w v : Whole) (r : Bool) → t ≡ u → r ≡ true → Comes t way b w r v → Arrives u way b w true v
+arrives_meant t u way b w v r eq on comes = meant (subst (λ (x : Bool). Comes u way b w x v) on (subst (λ (x : ℕ). Comes x way b w r v) eq comes))
+
+pub arrives_at : (t u way : ℕ) (b : List ℕ) (w v : Whole) (r : Bool) → t ≡ u → Arrives t way b w r v → Arrives u way b w r v
+arrives_at t u way b w v r eq arrives = subst (λ (x : ℕ). Arrives x way b w r v) eq arrives

@@ -1,5 +1,5 @@
 -- What follows of a host from what its calls are.
-use Rattle.std.proofs.Common.{◌≡◌, ◌∙◌, ap, arith, refl, subst, sym, ℕ, List, [], ◌∷◌, Bool, true, Option, Some, None, Result, Ok, Err, slice_get}
+use Rattle.std.proofs.Common.{◌≡◌, ◌∙◌, ap, arith, refl, subst, sym, ℕ, List, [], ◌∷◌, Bool, true, false, Option, Some, None, Result, Ok, Err, slice_get}
 use Rattle.std.specs.Prelude.{◌&&◌, ◌==◌, nat_lt, not}
 use Rattle.std.proofs.lemmas.Option.{same_Some}
 use Rattle.xns_idp.specs.Packet.{PacketModel, same_place}
@@ -15,7 +15,7 @@ use Rattle.xns_spp.specs.State.{State, numbers_of}
 use Rattle.xns_spp.specs.Telling.{is_number_out, is_out, own_name}
 use Rattle.xns_spp.specs.declared.ends.Ends.{Ends}
 use Rattle.xns_spp.specs.declared.numbers.Numbers.{Numbers}
-use Rattle.xns_host.specs.Coming.{Comes, echoes, foreign, hears, opens, refuses}
+use Rattle.xns_host.specs.Coming.{Arrives, Comes, echoes, foreign, hears, meant, opens, refuses, unheard, unmeant}
 use Rattle.xns_host.specs.Following.{AConnectionHearsItsPackets, WhoIsQuotedIsNotServed, ASilentHostHasNothingToTell, AStarvedHostRests, AnIdleHostHasNoPacket, NoNetworkDecides}
 use Rattle.xns_host.specs.Hosting.{HasNoPacket, IsPacketOf, IsRefusedBy, confirms}
 use Rattle.xns_host.specs.Ours.{Names, QuotesOurs}
@@ -120,9 +120,18 @@ heard_in now way b w v r p n g all (opens q read opener made) is of there =
     let bad = sym opener.unnamed ∙ named in
     absurd (cc)
 
+arrives_heard : (now way : ℕ) (b : List ℕ) (w v : Whole) (r : Bool) (p : SppPacketModel) (n : ℕ) (g : Guest) → IsAllRegistered w.register w.places.guests
+    → Arrives now way b w r v → spp_packet_of b ≡ Ok p → IsPacketOf w.host p g → slice_get w.places.guests n ≡ Some (Some g)
+    → (r ≡ true) × Turns (λ (f h : Guest). GuestHears now b (confirms p) f h) n w.places v.places
+arrives_heard now way b w v r p n g all (meant comes) is of there = heard_in now way b w v true p n g all comes is of there
+arrives_heard now way b w v r p n g all (unheard c taken comes read served complains) is of there =
+    let bad = (heard_in now way b w w false p n g all comes is of there).0 in absurd (cc)
+arrives_heard now way b w v r p n g all (unmeant comes never) is of there =
+    let bad = (heard_in now way b w w false p n g all comes is of there).0 in absurd (cc)
+
 pub its_packets_are_heard : AConnectionHearsItsPackets
 its_packets_are_heard now way number bytes result old new p g takes is of there =
-    heard_in _ way bytes (whole_of old) (whole_of new) result p number g old.registered takes.comes is of there
+    arrives_heard _ way bytes (whole_of old) (whole_of new) result p number g old.registered takes.comes is of there
 
 -- whether a packet went out of it lately is said by its fields and its numbers alone
 one_numbers : (g : Guest) (s v : State) → StandsFor g.connection.conversation.endpoint s → StandsFor g.connection.conversation.endpoint v
@@ -190,9 +199,18 @@ unserved_in now way b w v r p taken n g all (hears q read names turn) is by ther
 unserved_in now way b w v r p taken n g all (opens q read opener made) is by there =
     let bad : 3 ≡ 5 = sym by.kind ∙ sequenced_kind b p taken q is read in absurd (omega (arith, bad))
 
+arrives_unserved : (now way : ℕ) (b : List ℕ) (w v : Whole) (r : Bool) (p : PacketModel) (taken n : ℕ) (g : Guest)
+    → IsAllRegistered w.register w.places.guests → Arrives now way b w r v → packet_of b ≡ Ok (p, taken) → (by : IsRefusedBy w.host p g)
+    → slice_get w.places.guests n ≡ Some (Some g) → (r ≡ true) × Turns (λ (f h : Guest). GuestUnserved now by.quote.error f h) n w.places v.places
+arrives_unserved now way b w v r p taken n g all (meant comes) is by there = unserved_in now way b w v true p taken n g all comes is by there
+arrives_unserved now way b w v r p taken n g all (unheard c other comes read served complains) is by there =
+    let bad = (unserved_in now way b w w false p taken n g all comes is by there).0 in absurd (cc)
+arrives_unserved now way b w v r p taken n g all (unmeant comes never) is by there =
+    let bad = (unserved_in now way b w w false p taken n g all comes is by there).0 in absurd (cc)
+
 pub a_quoted_one_is_unserved : WhoIsQuotedIsNotServed
 a_quoted_one_is_unserved now way number taken bytes result old new p g takes is by there =
-    unserved_in _ way bytes (whole_of old) (whole_of new) result p taken number g old.registered takes.comes is by there
+    arrives_unserved _ way bytes (whole_of old) (whole_of new) result p taken number g old.registered takes.comes is by there
 
 -- ---- the network
 

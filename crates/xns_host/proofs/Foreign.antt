@@ -64,7 +64,7 @@ other_not_ours w b c taken read echo error sequenced =
     none_ours w b c taken read (λ a. echo a.request.kind) (λ q. error q.kind) (λ p is n. not_sequenced b c taken p read sequenced is)
     (λ p is n. not_sequenced b c taken p read sequenced is)
 
-never_read : (b : List ℕ) (r : Result (Packet × ℕ) IdpFault) (p : PacketModel) (n : ℕ) → decode_model r ≡ packet_of b
+pub never_read : (b : List ℕ) (r : Result (Packet × ℕ) IdpFault) (p : PacketModel) (n : ℕ) → decode_model r ≡ packet_of b
     → ((x : Packet × ℕ) → r ≢ Ok x) → packet_of b ≡ Ok (p, n) → ⊥
 never_read b (Ok x) p n read none is = none x refl
 never_read b (Err f) p n read none is = let e = read ∙ is in cc

@@ -1,6 +1,7 @@
 mod Again
 mod Apart
 mod Comings
+mod Complaints
 mod Done
 mod Echoes
 mod Ends

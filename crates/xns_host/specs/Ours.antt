@@ -2,7 +2,7 @@
 use Rattle.std.specs.Prelude.{◌≡◌, ◌≢◌, ℕ, List, true, Some, None, Ok, slice_get}
 use Rattle.xns_idp.specs.Packet.{PacketModel, broadcast}
 use Rattle.xns_idp.specs.Reading.{packet_of}
-use Rattle.xns_idp.specs.declared.packet_type.TheConstants.{ERROR}
+use Rattle.xns_idp.specs.declared.packet_type.TheConstants.{ERROR, SEQUENCED_PACKET}
 use Rattle.xns_small.specs.Echo.{IsAnswered}
 use Rattle.xns_spp.specs.Ends.{is_ours_at}
 use Rattle.xns_spp.specs.Held.{StandsFor}
@@ -40,6 +40,13 @@ pub record IsOpener (w : Whole) (p : SppPacketModel) : Type 0 where
   pub one_host : p.source.host ≢ broadcast
   pub unnamed : named_in w.register p ≡ None
   pub opener : opener_of p ≢ None
+  pub served : programs_at w.services.programs p.target.socket ≢ None
+
+-- a sequenced packet of one host is to a socket that this host serves
+pub record IsToService (w : Whole) (p : PacketModel) : Type 0 where
+  pub kind : p.kind ≡ SEQUENCED_PACKET
+  pub here : p.target.host ≡ w.host
+  pub one_host : p.source.host ≢ broadcast
   pub served : programs_at w.services.programs p.target.socket ≢ None
 
 -- an Error packet to this host, whose number says that nobody hears it, quotes a packet that went out lately of the connection with the

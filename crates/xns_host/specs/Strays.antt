@@ -1,5 +1,7 @@
 -- Packets of no connection that are to go out.
 use Rattle.std.specs.Prelude.{◌≡◌, ◌⊎◌, ℕ, ◌≤◌, Bool, true, false, List, [], ◌∷◌, ◌++◌, length, nat_lt, if◌then◌else◌}
+use Rattle.xns_idp.specs.declared.address.Address.{Address}
+use Rattle.xns_small.specs.ErrorReport.{MayBeComplainedOf, complaint}
 use Rattle.xns_host.specs.declared.outgoing.Outgoing.{Outgoing}
 
 -- those that wait, the first one first, at most so many; and whether memory was refused for the last packet that was to be answered here or to
@@ -32,6 +34,13 @@ lost_stray q = record q { starved = true }
 -- it is behind the others, where there is room; or memory was refused for it
 abbrev pub MayHaveStray : StrayQueue → StrayQueue → Outgoing → Type 0
 MayHaveStray old new s = (new ≡ with_stray old s) ⊎ (new ≡ lost_stray old)
+
+-- where one may complain of these bytes, an Error packet about them, by the way that they came, is behind the others, where there is room; or
+-- memory was refused for it
+pub data HasComplained (own : Address) (number via : ℕ) (bytes : List ℕ) (old : StrayQueue) : StrayQueue → Type 0 where
+  complains : {new : StrayQueue} → MayBeComplainedOf bytes → MayHaveStray old new (stray_of via (complaint own number 0 bytes))
+      → HasComplained own number via bytes old new
+  forbears : (MayBeComplainedOf bytes → ⊥) → HasComplained own number via bytes old old
 
 -- where Echo requests come (XSIS 028112, Echo Protocol)
 abbrev pub echo_socket : ℕ

@@ -5,7 +5,7 @@ use Rattle.courier_sessions.specs.declared.program.Program.{Program}
 use Rattle.xns_idp.specs.declared.address.Address.{Address}
 use Rattle.xns_agenda.specs.Clock.{time_at, told_at, when_told}
 use Rattle.xns_agenda.specs.Agenda.{noted}
-use Rattle.xns_host.specs.Coming.{Comes}
+use Rattle.xns_host.specs.Coming.{Arrives}
 use Rattle.xns_connection.specs.Deeds.{Deed}
 use Rattle.xns_host.specs.Hosting.{IsApart, IsConnected, IsFirstWant, IsPlace, address_in, facts_in}
 use Rattle.xns_host.specs.Identifiers.{StaysInOrder, TurnsOver}
@@ -87,7 +87,7 @@ whole_of h = record {
 -- this time was told, and then this came of the bytes
 pub record TakesIn (now way : ℕ) (bytes : List ℕ) (result : Bool) (old new : Host) : Type 0 where
   pub clock : new.clock ≡ told_at old.clock now
-  pub comes : Comes (time_at old.clock now) way bytes (whole_of old) result (whole_of new)
+  pub comes : Arrives (time_at old.clock now) way bytes (whole_of old) result (whole_of new)
 
 -- ---- what the program is told
 

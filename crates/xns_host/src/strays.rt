@@ -4,14 +4,14 @@ ghost use Rattle.std.specs.Prelude.{◌≡◌, ◌≢◌, ◌≤◌, ◌++◌, [
 ghost use Rattle.std.specs.Option.{option_to_list};
 ghost use Rattle.xns_idp.specs.Packet.{most_data, packet_model};
 ghost use Rattle.xns_small.specs.Echo.{IsAnswered, echo_reply};
-ghost use Rattle.xns_host.specs.Strays.{lost_stray, new_strays, stray_of, with_stray};
+ghost use Rattle.xns_host.specs.Strays.{HasComplained, lost_stray, new_strays, stray_of, with_stray};
 
 use crate::outgoing::Outgoing;
 use std::alloc::{AllocError, Global};
 use std::collections::VecDeque;
 use std::marker::Model;
 use xns_idp::{Address, Packet};
-use xns_small::answer_echo;
+use xns_small::{answer_echo, complain};
 use xns_spp::Bytes;
 
 /// Packets of no connection that are to go out, in order, at most so many. What is over is as if lost.
@@ -79,6 +79,21 @@ impl Strays {
         ensures rest { self.new ≡ record self.old { waiting = self.new.waiting } }
     {
         self.waiting.pop_front()
+    }
+
+    /// Complains of a packet that came by this `via`, if one may, by an Error packet from `own` with this number (XSIS 028112, Error
+    /// Protocol), which goes out by the same. Where memory is refused, that is noted, and the complaint is lost.
+    pub fn complain(&mut self, alloc: Global, own: Address, number: u16, via: u64, offending: &[u8])
+        ensures { HasComplained own number via offending.now self.old self.new }
+    {
+        match complain(alloc, own, number, 0, offending) {
+            Ok(Some(bytes)) => self.push(Outgoing {
+                via,
+                packet: Bytes::new(bytes),
+            }),
+            Ok(None) => {}
+            Err(_) => self.lose(),
+        }
     }
 
     /// Answers a packet that is an Echo request to `own` (XSIS 028112, Echo Protocol); whether it is one. The answer goes out by the

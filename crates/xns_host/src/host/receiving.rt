@@ -10,6 +10,7 @@ ghost use Rattle.xns_spp.specs.Held.{StandsFor};
 ghost use Rattle.xns_spp.specs.Packet.{IsSppPacket, opener_of, spp_packet_of};
 ghost use Rattle.xns_spp.specs.State.{State};
 ghost use Rattle.xns_small.specs.Echo.{echo_reply};
+ghost use Rattle.xns_small.specs.declared.error_number.TheConstants.{NO_SUCH_SOCKET};
 
 use crate::guest::Guest;
 use crate::host::Host;
@@ -23,19 +24,20 @@ use xns_connection::Connection;
 use xns_connection::laws::a_step_keeps_its_promises;
 use xns_idp::packet_type::{ECHO, ERROR, SEQUENCED_PACKET};
 use xns_idp::{Address, Packet, decode};
+use xns_small::error_number::{NO_RESOURCES, NO_SUCH_SOCKET};
 use xns_spp::{SppPacket, carried_packet};
 
 impl Host {
     ghost use Rattle.xns_host.specs.Coming.{Comes, Opens, Seats};
     ghost use Rattle.xns_host.specs.Hosting.{HasNoRoom, IsAllInUse, IsThere, address_in};
     ghost use Rattle.xns_host.specs.Identifiers.{StaysInOrder};
-    ghost use Rattle.xns_host.specs.Ours.{AsksEcho, IsOf, IsSentBy, QuotesOurs};
+    ghost use Rattle.xns_host.specs.Ours.{AsksEcho, IsOf, IsSentBy, IsToService, QuotesOurs};
     ghost use Rattle.xns_host.specs.Places.{Turns};
     ghost use Rattle.xns_host.specs.Quotes.{is_sent_by};
     ghost use Rattle.xns_host.specs.Register.{number_by, peer_at, peer_cmp};
     ghost use Rattle.xns_host.specs.Services.{programs_at};
     ghost use Rattle.xns_host.specs.Standing.{StaysSetUp};
-    ghost use Rattle.xns_host.specs.Strays.{MayHaveStray, echo_socket, stray_of};
+    ghost use Rattle.xns_host.specs.Strays.{HasComplained, MayHaveStray, echo_socket, stray_of};
     ghost use Rattle.xns_host.specs.Turn.{TakesIn, places_of, whole_of};
     ghost use Rattle.xns_host.specs.Went.{GuestHears, GuestUnserved};
     ghost use Rattle.xns_host.specs.declared.guest.Guest.{Guest};
@@ -49,12 +51,66 @@ impl Host {
         let Ok((packet, _)) = decode(bytes) else {
             return false;
         };
+        if self.take(now, via, &packet, bytes) {
+            return true;
+        }
+        self.complain(via, &packet, bytes)
+    }
+
+    /// Takes a packet in that is of a connection, an Echo request, or opens a connection, or an Error packet about one; whether it is such.
+    fn take(&mut self, now: u64, via: u64, packet: &Packet<'_>, bytes: &[u8]) -> bool
+        requires fits { IsPacket (packet_model packet.now) }
+        requires size { length packet.now.body.now ≤ most_data }
+        ensures comes { (taken : ℕ) → packet_of bytes.now ≡ Ok (packet_model packet.now, taken)
+            → Comes now via bytes.now (whole_of self.old) result (whole_of self.new) }
+        ensures clock { self.new.clock ≡ self.old.clock }
+    {
         match packet.kind {
-            ECHO => self.echo(via, &packet),
-            ERROR => self.refused(now, &packet),
-            SEQUENCED_PACKET => self.sequenced(now, via, &packet),
+            ECHO => self.echo(via, packet),
+            ERROR => self.refused(now, packet),
+            SEQUENCED_PACKET => self.sequenced(now, via, packet, bytes),
             _ => false,
         }
+    }
+
+    /// Whether a packet is a sequenced one of one host, to a socket of this host that is served.
+    #[tactic(auto, using(crate::proofs::Complaints::to_service, crate::proofs::Complaints::of_every_host))]
+    fn is_to_service(&self, packet: &Packet<'_>) -> bool
+        ensures yes { result ≡ true → IsToService (whole_of self.now) (packet_model packet.now) }
+        ensures no { result ≡ false → IsToService (whole_of self.now) (packet_model packet.now) → ⊥ }
+    {
+        if packet.kind != SEQUENCED_PACKET {
+            return false;
+        }
+        if packet.target.host != self.host {
+            return false;
+        }
+        if packet.source.is_broadcast() {
+            return false;
+        }
+        let Some(_) = self.services.at(packet.target.socket) else {
+            return false;
+        };
+        true
+    }
+
+    /// Complains of a packet which nobody hears, by an Error packet, if it is a sequenced one to a socket that is served; whether it is.
+    fn complain(&mut self, via: u64, packet: &Packet<'_>, bytes: &[u8]) -> bool
+        ensures served { result ≡ true → IsToService (whole_of self.old) (packet_model packet.now) }
+        ensures unserved { result ≡ false → IsToService (whole_of self.old) (packet_model packet.now) → ⊥ }
+        ensures waits { result ≡ true → HasComplained (address_in self.old.network self.old.host packet.now.target.socket) NO_SUCH_SOCKET via
+            bytes.now self.old.strays self.new.strays }
+        ensures unchanged { result ≡ false → self.new.strays ≡ self.old.strays }
+        ensures rest { whole_of self.new ≡ record (whole_of self.old) { strays = self.new.strays } }
+        ensures clock { self.new.clock ≡ self.old.clock }
+    {
+        if !self.is_to_service(packet) {
+            return false;
+        }
+        let own = self.address(packet.target.socket);
+        self.strays
+            .complain(self.alloc, own, NO_SUCH_SOCKET, via, bytes);
+        true
     }
 
     /// Answers an Echo request, if the settings say so; whether it did. One from the broadcast host is not answered. Where there is no room
@@ -132,12 +188,12 @@ impl Host {
     }
 
     /// Takes a sequenced packet in; whether it was for the host. One from the broadcast host opens no connection.
-    fn sequenced(&mut self, now: u64, via: u64, carrier: &Packet<'_>) -> bool
+    fn sequenced(&mut self, now: u64, via: u64, carrier: &Packet<'_>, bytes: &[u8]) -> bool
         requires fits { IsPacket (packet_model carrier.now) }
         requires size { length carrier.now.body.now ≤ most_data }
         requires kind { carrier.now.kind ≡ SEQUENCED_PACKET }
-        ensures comes { (b : List ℕ) (taken : ℕ) → packet_of b ≡ Ok (packet_model carrier.now, taken)
-            → Comes now via b (whole_of self.old) result (whole_of self.new) }
+        ensures comes { (taken : ℕ) → packet_of bytes.now ≡ Ok (packet_model carrier.now, taken)
+            → Comes now via bytes.now (whole_of self.old) result (whole_of self.new) }
         ensures clock { self.new.clock ≡ self.old.clock }
     {
         let Ok(packet) = carried_packet(carrier) else {
@@ -158,7 +214,7 @@ impl Host {
         if packet.source.is_broadcast() {
             return false;
         }
-        self.opening(now, via, peer, &packet)
+        self.opening(now, via, peer, &packet, bytes)
     }
 
     /// Takes a packet in that names the connection with this number; whether it is one of it.
@@ -191,15 +247,22 @@ impl Host {
         true
     }
 
-    /// Takes a packet in that names no connection; whether it opens one at a socket that is served. Where there is no room, it is as if
-    /// lost; where memory is refused too, which is noted.
-    fn opening(&mut self, now: u64, via: u64, opener: Peer, packet: &SppPacket) -> bool
+    /// Takes a packet in that names no connection; whether it opens one at a socket that is served. Where there is no room, the host
+    /// complains; where memory is refused, that is noted, and the packet is as if lost.
+    fn opening(
+        &mut self,
+        now: u64,
+        via: u64,
+        opener: Peer,
+        packet: &SppPacket,
+        bytes: &[u8],
+    ) -> bool
         requires packet { IsSppPacket packet.now }
         requires here { packet.now.target.host ≡ self.old.host }
         requires opener { opener ≡ peer_at packet.now.source packet.now.header.source_id packet.now.target.socket }
         requires unknown { number_by self.old.register.identifiers self.old.register.peers packet.now.header.target_id opener ≡ None }
-        ensures opens { (b : List ℕ) → spp_packet_of b ≡ Ok packet.now → result ≡ true
-            → Opens now via b packet.now (whole_of self.old) self.new.register self.new.strays (places_of self.new) }
+        ensures opens { spp_packet_of bytes.now ≡ Ok packet.now → result ≡ true
+            → Opens now via bytes.now packet.now (whole_of self.old) self.new.register self.new.strays (places_of self.new) }
         ensures opener { result ≡ true → (opener_of packet.now ≢ None)
             × (programs_at self.old.services.programs packet.now.target.socket ≢ None) }
         ensures answer { opener_of packet.now ≢ None → programs_at self.old.services.programs packet.now.target.socket ≢ None
@@ -223,6 +286,9 @@ impl Host {
             return true;
         };
         let Some(number) = place else {
+            let own = self.address(socket);
+            self.strays
+                .complain(self.alloc, own, NO_RESOURCES, via, bytes);
             return true;
         };
         self.hear(now, number, false, packet);
