@@ -32,7 +32,7 @@ static void is_dead(struct xns_endpoint *peer, struct xns_host *host, size_t num
     uint64_t via;
     CHECK(xns_endpoint_tick(peer) == XNS_OK);
     while (xns_endpoint_next_packet(peer, packet, sizeof packet, &length) == XNS_OK) CHECK(xns_host_receive(host, now, CLIENT_VIA, packet, length) == (serves ? XNS_OK : XNS_NOTHING));
-    while (xns_host_next_packet(host, now, packet, sizeof packet, &length, &via) == XNS_OK) CHECK(serves && packet[5] == XNS_ERROR_PACKET);
+    while (xns_host_next_packet(host, now, packet, sizeof packet, &length, &via) == XNS_OK) CHECK(serves && packet[5] == XNS_TYPE_ERROR);
     CHECK(xns_host_peer(host, number, &address) == XNS_NO_CONNECTION);
 }
 
