@@ -18,6 +18,7 @@ returns-clause-tells c =
     new_tells c.new-2.result.conversation (Some programs) s c.in_ok-endpoint.endpoint (Answers c.in_ok-server.server) c.new-2.ensures.ends.0 c.new-2.ensures.ends.1 c.new-2.ensures.unsaid c.in_ok-endpoint.ensures has refl refl
 
 pub new-requires-2 : goal.new-requires-2
-new-requires-2 c =
-    (∣ (responder_state c.args.own c.args.id c.args.peer c.args.peer_id c.args.terms.now.window c.args.terms.now.backlog, c.in_ok-endpoint.ensures) ∣₁,
-    ap (λ (a : Answering). a.failed) c.in_ok-server.ensures)
+new-requires-2 c = (
+  ∣ (responder_state c.args.own c.args.id c.args.peer c.args.peer_id c.args.terms.now.window c.args.terms.now.backlog, c.in_ok-endpoint.ensures) ∣₁,
+  ap (λ (a : Answering). a.failed) c.in_ok-server.ensures,
+)

@@ -15,6 +15,7 @@ returns-clause-tells c =
     new_tells c.new-2.result.conversation None s c.in_ok-endpoint.endpoint (Calls c.in_ok-caller.caller) c.new-2.ensures.ends.0 c.new-2.ensures.ends.1 c.new-2.ensures.unsaid c.in_ok-endpoint.ensures has refl refl
 
 pub new-requires-2 : goal.new-requires-2
-new-requires-2 c =
-    (∣ (initiator_state c.args.own c.args.id c.args.peer c.args.terms.now.window c.args.terms.now.backlog, c.in_ok-endpoint.ensures) ∣₁,
-    ap (λ (t : Talk). t.failed) c.in_ok-caller.ensures)
+new-requires-2 c = (
+  ∣ (initiator_state c.args.own c.args.id c.args.peer c.args.terms.now.window c.args.terms.now.backlog, c.in_ok-endpoint.ensures) ∣₁,
+  ap (λ (t : Talk). t.failed) c.in_ok-caller.ensures,
+)
