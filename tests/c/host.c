@@ -204,7 +204,7 @@ static void abandoned(void) {
     free_both();
 }
 
-/* A peer that waits for an answer sends probes, and gets replies; one that never probes has nothing to wait for. */
+/* A peer that waits for an answer sends probes, and gets replies, even where the setting is never to probe. Without a call such a one has nothing to wait for. */
 static void idle(void) {
     const struct xns_settings never = { .idle = UINT32_MAX };
     struct xns_event call;
@@ -218,6 +218,10 @@ static void idle(void) {
     free_both();
     open_both(&never, &number);
     call = calls(number, 1);
+    while (carry(&client, &service, CLIENT_VIA) || carry(&service, &client, SERVICE_VIA)) continue;
+    CHECK(xns_host_wake(&client) <= now + 10000 && xns_host_wake(&service) == XNS_NEVER);
+    CHECK(xns_host_answer(&service, now, call.number, XNS_KIND_RETURN, 0, given, 1) == XNS_OK);
+    hears(number, XNS_KIND_RETURN, 0, 1);
     while (carry(&client, &service, CLIENT_VIA) || carry(&service, &client, SERVICE_VIA)) continue;
     CHECK(xns_host_wake(&client) == XNS_NEVER && xns_host_wake(&service) == XNS_NEVER);
     free_both();
