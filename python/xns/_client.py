@@ -153,8 +153,8 @@ class Client:
         """What a call is answered: a return, an abort or a reject.
 
         `SilentError`, a TimeoutError, where the server is silent, or so many seconds have passed: the connection is closed then, and it is not known whether
-        the call was carried out. `NotServedError`, a ConnectionRefusedError, where an Error packet says that there is no server. `ClosedError`, a
-        ConnectionResetError, where the connection is closed. What the server says against the protocol is raised by its name. The answer to a call that
+        the call was carried out. `NotServedError`, a ConnectionRefusedError, where an Error packet says that there is no server, or no room at it. `ClosedError`,
+        a ConnectionResetError, where the connection is closed. What the server says against the protocol is raised by its name. The answer to a call that
         Ctrl-C ended is waited for before the next call, and let go."""
         numbers, (given, _) = (unsigned(program, 32, "program"), unsigned(version, 16, "version"), unsigned(procedure, 16, "procedure")), words_of(words)
         listed = memoryview(given).cast("H")

@@ -122,12 +122,13 @@ class Serving(unittest.TestCase):
         with self.assertRaises(TimeoutError):
             self.client(longest_wait=50, tries=1).call(7, 1, 1)
 
-    def test_a_client_more_than_there_is_room_for_waits_for_another_to_go(self):
+    def test_a_client_more_than_there_is_room_for_is_told_so_at_once(self):
         first, second = self.client(), self.client()
         for client in (first, second):
             client.call(7, 1, 1)
-        with self.assertRaises(TimeoutError):
-            self.client(longest_wait=50, tries=1).call(7, 1, 1)
+        with self.assertRaises(xns.NotServedError) as full:
+            self.client().call(7, 1, 1)
+        self.assertEqual(full.exception.error, 3)  # no resources
         self.assertEqual(first.call(7, 1, 1, [3]).words, [3, 3])
         second.close()
         self.assertEqual(self.client().call(7, 1, 1, [5]).words, [5, 5])
