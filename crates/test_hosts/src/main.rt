@@ -67,13 +67,19 @@ fn number(words: &[String], place: usize) -> u32 {
 }
 
 /// Plays all scenes, and prints the outcome of each.
-fn show_all(rt: &HostRuntime) -> Result<(), anyhow::Error> {
+fn show_plays(rt: &HostRuntime) -> Result<(), anyhow::Error> {
     for scene in Scene::ALL {
         show_play(rt, scene)?;
     }
     for scene in waits::ALL {
         show_play(rt, scene)?;
     }
+    Ok(())
+}
+
+/// Plays all that there is, and prints what came of it.
+fn show_all(rt: &HostRuntime) -> Result<(), anyhow::Error> {
+    show_plays(rt)?;
     for manner in Manner::ALL {
         show_meeting(rt, manner)?;
     }
