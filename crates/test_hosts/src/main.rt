@@ -66,11 +66,16 @@ fn number(words: &[String], place: usize) -> u32 {
     word(words, place).parse::<u32>().unwrap_or(0)
 }
 
-/// Plays all scenes, and prints the outcome of each.
-fn show_plays(rt: &HostRuntime) -> Result<(), anyhow::Error> {
+/// Plays all scenes of a network, and prints the outcome of each.
+fn show_scenes(rt: &HostRuntime) -> Result<(), anyhow::Error> {
     for scene in Scene::ALL {
         show_play(rt, scene)?;
     }
+    Ok(())
+}
+
+/// Plays all scenes that show waits, and prints the outcome of each.
+fn show_waits(rt: &HostRuntime) -> Result<(), anyhow::Error> {
     for scene in waits::ALL {
         show_play(rt, scene)?;
     }
@@ -79,7 +84,8 @@ fn show_plays(rt: &HostRuntime) -> Result<(), anyhow::Error> {
 
 /// Plays all that there is, and prints what came of it.
 fn show_all(rt: &HostRuntime) -> Result<(), anyhow::Error> {
-    show_plays(rt)?;
+    show_scenes(rt)?;
+    show_waits(rt)?;
     for manner in Manner::ALL {
         show_meeting(rt, manner)?;
     }
