@@ -82,7 +82,7 @@ HasParts (NamedModel.choice no_variants) = ⊥
 HasParts (NamedModel.choice (variant_and name designator part parts)) = Unit {0}
 HasParts _ = ⊥
 
--- the same without names
+-- the shape of a named shape, without its names
 abbrev mutual
   pub shape_of : NamedModel → ShapeModel
   shape_of NamedModel.boolean = ShapeModel.boolean

@@ -3,20 +3,20 @@ use Rattle.std.specs.Prelude.{◌≡◌, ◌≢◌, ◌⊎◌, ℕ, ◌+◌, ◌
 use Rattle.courier_types.specs.Shape.{ShapeModel, ShapeModels, no_shapes, shape_and, MemberModels, no_members, member_and}
 use Rattle.courier_types.specs.Reading.{reading}
 
--- so many bytes: they are not none, and their words are all there
+-- a want of memory to read this many bytes: there is at least one, and their words are all there
 abbrev pub BytesWant : ℕ → List ℕ → Type 0
 BytesWant n ws = (0 < n) × (n / 2 + n % 2 ≤ length ws)
 
--- a count, then so many bytes
+-- a want of memory to read a text: its count, then its bytes
 abbrev pub TextWants : List ℕ → Type 0
 TextWants [] = ⊥
 TextWants (n ∷ ws) = BytesWant n ws
 
--- so many elements: they are not none, and words are there
+-- a want of memory to read this many elements: there is at least one, and words are there
 abbrev pub ElementsWant : ℕ → List ℕ → Type 0
 ElementsWant n ws = (0 < n) × (0 < length ws)
 
--- a count that is at most this one, then so many elements
+-- a want of memory to read a sequence: a count that is at most this one, then its elements
 abbrev pub CountedWant : ℕ → List ℕ → Type 0
 CountedWant most [] = ⊥
 CountedWant most (n ∷ ws) = (n ≤ most) × ElementsWant n ws

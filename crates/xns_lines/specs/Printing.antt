@@ -62,7 +62,7 @@ pub record PrinterStandsFor {A : Type 0} (has_printed : List A → Type 0) (text
   pub written : IsWritten before after (whole page.text) (text_of things)
   pub printed : is_lost ≡ false → has_printed things
 
--- so too, behind so many parts of the end of the input
+-- the printer stands for these things and for this many parts of the end of the input
 abbrev pub StandsBehind : {A : Type 0} → (List A → ℕ → Type 0) → TextWithEnd A → (List A → ℕ → Bool) → ℕ → Page → Bool → Option (List ℕ)
     → Option (List ℕ) → List A → Type 0
 StandsBehind has_printed text_of has_refused part page is_lost before after things =
@@ -74,13 +74,13 @@ HasFailed text_of page before after things = (whole page.text ≡ []) × Appends
 
 -- ---- after a fault
 
--- memory was refused behind so many parts of the end, or a write failed of their text
+-- behind some parts of the end memory was refused, or a write of their text failed
 abbrev pub StandsInEnd : RunFault → Type 0 → Type 0 → Type 0
 StandsInEnd fault.NoMemory stands fails = stands
 StandsInEnd fault.Write stands fails = fails
 StandsInEnd _ stands fails = ⊥
 
--- so it is behind some part of the end, and at most behind so many
+-- the fault came behind some number of parts of the end, at most this many
 abbrev pub StopsInEnd : RunFault → (ℕ → Type 0) → (ℕ → Type 0) → ℕ → Type 0
 StopsInEnd f stands fails most = (part : ℕ) × (part ≤ most) × StandsInEnd f (stands part) (fails part)
 
@@ -92,8 +92,8 @@ IsAtEnd fault.Write input read next = (read ≡ input) × (next ≡ [])
 IsAtEnd fault.NoMemory input read next = (read ≡ input) × (next ≡ [])
 IsAtEnd _ input read next = ⊥
 
--- of the lines of what was read these are good, of which with so many parts of the end this is so, and those come next; none of the end
--- but where all was read
+-- the lines that were read are the good ones, of which and of some parts of the end the claim holds, and the ones that come next; parts of the
+-- end are there only where all was read
 pub record StopsAt (most : ℕ) (end_count : EndCount (List ℕ)) (f : RunFault) (input read : List ℕ) (left : ℕ → Says) : Type 0 where
   pub good : List (List ℕ)
   pub next : List (List ℕ)
@@ -124,7 +124,7 @@ TakesAll most has_printed text_of has_refused end_count page is_lost begun left 
     × ((before : Option (List ℕ)) → begun before
     → StandsBehind has_printed text_of has_refused (end_count (lines_of input)) page is_lost before after (lines_of input))
 
--- or up to a fault
+-- the lines were taken up to a fault
 abbrev pub TakesSome : ℕ → (List (List ℕ) → ℕ → Type 0) → TextWithEnd (List ℕ) → (List (List ℕ) → ℕ → Bool) → EndCount (List ℕ) → Page → Bool
     → (Option (List ℕ) → Type 0) → Option (List ℕ) → Option (List ℕ) → RunFault → List ℕ → Type 0
 TakesSome most has_printed text_of has_refused end_count page is_lost begun left after f input = (read : List ℕ)

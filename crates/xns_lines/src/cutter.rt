@@ -67,8 +67,8 @@ impl Cutter {
         self.take_run(rest)
     }
 
-    /// Takes the last bytes of a line, among which is no byte 10, and its byte 10. A line of which nothing was taken yet
-    /// is handed on as it lies in the piece.
+    /// Ends a line with `run`, which holds no byte 10, and with a byte 10. A line that lies whole in the piece is not
+    /// copied.
     fn take_end<T: LineTaker, W: Write>(
         &mut self,
         run: &[u8],

@@ -13,8 +13,8 @@ use std::io::{Read, Write};
 /// The input is read in pieces of so many bytes.
 const PIECE: usize = 65536;
 
-/// Reads an input of at most so many lines to its end, and hands its lines to the taker, in order. All faults of reads and
-/// of limits are found here.
+/// Reads an input of at most so many lines to its end, and hands its lines to the taker, in order. This function finds
+/// all faults of reads and of limits.
 ///
 /// Byte 10 ends a line, and so does the end of the input after a byte; lines count from 1, and are handed on without
 /// their byte 10 and with their byte 13. The taker may write to the writer, at a line and before more of the input is
