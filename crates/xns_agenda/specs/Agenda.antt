@@ -7,9 +7,10 @@ use Rattle.xns_agenda.specs.declared.facts.TheConstants.Facts.{NONE}
 use Rattle.xns_agenda.specs.declared.way.Way.{Way}
 use Rattle.xns_agenda.specs.declared.way.Way.TheVariants.{Lingers, Stranger, Nobody}
 
--- by number: when something is due; who may have a packet that is to go out, and who may have something to tell; since when who
--- gives way lingers or is silent; and which numbers no connection has. Where memory was refused for a packet and nothing was noted since: when
--- packets are asked for again
+-- what is known of connections by their numbers: when something is due; who may have a packet that is to go out; who
+-- may have something to tell; since when a closed one lingers; since when a stranger is silent; and which numbers no
+-- connection has. Where memory was refused for a packet and nothing was noted since, `short` is when packets are asked
+-- for again
 pub record Plan : Type 0 where
   pub dues : List (Option ℕ)
   pub packets : Line
@@ -28,7 +29,7 @@ pub record IsFor (a : Plan) (most : ℕ) : Type 0 where
   pub strangers : length a.strangers ≡ most
   pub free : length a.free.tickets ≡ most
 
--- the connection with this number is such
+-- the plan once these facts are noted of the connection with this number
 abbrev pub noted : Plan → ℕ → Facts → Plan
 noted a number f = record a {
   dues = slice_set a.dues number f.due;
@@ -39,7 +40,7 @@ noted a number f = record a {
   short = None;
 }
 
--- no connection has this number any longer
+-- the plan once no connection has this number any longer
 abbrev pub released : Plan → ℕ → Plan
 released a number = record {
   dues = slice_set a.dues number None;
@@ -51,7 +52,7 @@ released a number = record {
   short = None;
 }
 
--- what is to be done of the connection with this number is not forgotten
+-- the plan has these facts of the connection with this number, but for whether there is something to tell
 pub record IsNoted (a : Plan) (number : ℕ) (f : Facts) : Type 0 where
   pub due : slice_get a.dues number ≡ Some f.due
   pub packet : has_turn a.packets number ≡ f.has_packet
@@ -64,7 +65,7 @@ pub record HasNobody (a : Plan) (number : ℕ) : Type 0 where
   pub event : has_turn a.events number ≡ false
   pub free : has_turn a.free number ≡ true
 
--- when those are asked that have a turn to give a packet: at once, or where memory was refused, at this time
+-- when the connections that have a turn are asked for a packet: at once, or where memory was refused, at this time
 abbrev pub asked_at : Option ℕ → ℕ
 asked_at None = 0
 asked_at (Some time) = time
@@ -76,7 +77,7 @@ pub data IsWanted (packets events : Line) (dues : List (Option ℕ)) (short : Op
   event_waits : (k : ℕ) → has_turn events k ≡ true → IsWanted packets events dues short 0
   is_due : (k t : ℕ) → slice_get dues k ≡ Some (Some t) → IsWanted packets events dues short t
 
--- the time that is told is the first of these
+-- the time is the first at which something is to be done; there is none where nothing is to be done
 pub record IsWake (packets events : Line) (dues : List (Option ℕ)) (short time : Option ℕ) : Type 0 where
   pub packet : (k : ℕ) → has_turn packets k ≡ true → IsBy time (asked_at short)
   pub event : (k : ℕ) → has_turn events k ≡ true → time ≡ Some 0
@@ -88,7 +89,7 @@ pub data GivesWay (closed strangers : List (Option ℕ)) : ℕ → Type 0 where
   longest_closed : (k t : ℕ) → IsEarliest closed k t → GivesWay closed strangers k
   longest_silent : (k t : ℕ) → HasEarliest closed None → IsEarliest strangers k t → GivesWay closed strangers k
 
--- whose number a new connection gets: a free one; where there is none, that of who gives way
+-- which number a new connection gets: a free one; where no number is free, that of the connection that gives way
 pub data GetsNumber (free : Line) (closed strangers : List (Option ℕ)) : ℕ → Type 0 where
   free_number : (k : ℕ) → has_turn free k ≡ true → GetsNumber free closed strangers k
   given_way : (k : ℕ) → HasNoTurn free → GivesWay closed strangers k → GetsNumber free closed strangers k
@@ -99,7 +100,7 @@ pub record HasNoNumber (free : Line) (closed strangers : List (Option ℕ)) : Ty
   pub lingers : HasEarliest closed None
   pub silent : HasEarliest strangers None
 
--- who gives way
+-- the number of the connection that gives way, if one does
 abbrev pub number_in : Way → Option ℕ
 number_in (Lingers number since) = Some number
 number_in (Stranger number since) = Some number

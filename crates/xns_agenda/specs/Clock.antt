@@ -6,19 +6,21 @@ use Rattle.xns_agenda.specs.declared.clock.Clock.{Clock}
 abbrev pub day : ℕ
 day = 86400000
 
--- what time it is when this one is told: the steps forward are summed; a step back counts as none, and one of more than a day as a day
+-- what time it is when the time `now` is told: the steps forward are summed; a step back counts as none, and one of
+-- more than a day as a day
 abbrev pub time_at : Clock → ℕ → ℕ
 time_at c now = later c.latest (min (now - c.told) day)
 
--- the clock then: the next step is from this time
+-- the clock after the time `now` is told: the next step is from this time
 abbrev pub told_at : Clock → ℕ → Clock
 told_at c now = record { told = now; latest = time_at c now }
 
--- what is past the end of a clock is at once: so one time that was far ahead holds nothing up
+-- a time past the end of a clock is at once: one time that was far ahead then holds nothing up
 abbrev pub in_clock : ℕ → ℕ
 in_clock at = if nat_lt at last_time then at else 0
 
--- a time of one's own by the clock that was told last: as long before or after what it told; 0 is at once by each
+-- a time of one's own by the clock that was told last: as long before or after what was told as it is before or after
+-- the time of one's own at that moment; 0 is at once by both
 abbrev pub by_told : Clock → ℕ → ℕ
 by_told c time = if time == 0 then 0 else in_clock ((c.told + time) - c.latest)
 

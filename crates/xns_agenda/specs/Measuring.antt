@@ -12,7 +12,7 @@ use Rattle.xns_agenda.specs.declared.timing.Timing.TheVariants.{Ready, Timed, Re
 abbrev pub longest_time : ℕ
 longest_time = 2 ^ 32 - 1
 
--- no number grows over what the longest time makes of it
+-- neither number grows over what the longest time makes of it
 pub record IsBounded (s : Smoothed) : Type 0 where
   pub time : s.time8 ≤ 8 * longest_time
   pub varies : s.varies4 ≤ 4 * longest_time
@@ -21,7 +21,8 @@ pub record IsBounded (s : Smoothed) : Type 0 where
 abbrev pub first_smoothed : ℕ → Smoothed
 first_smoothed time = record { time8 = 8 * time; varies4 = 2 * time }
 
--- another one moves the smoothed time by an eighth of what it differs by, and what it varies by by a quarter
+-- each further time moves the smoothed time an eighth of the way to it, and moves what the time varies by a quarter of
+-- the way to its distance from the smoothed time
 abbrev pub smoothed_on : Smoothed → ℕ → Smoothed
 smoothed_on s time = record {
   time8 = (s.time8 - s.time8 / 8) + time;
@@ -45,7 +46,7 @@ abbrev pub half_time : Option Smoothed → Pace → ℕ
 half_time None pace = pace.least - pace.least / 2
 half_time (Some s) pace = s.time8 / 8 - s.time8 / 8 / 2
 
--- where so much time has passed since something went out again, that may be what the peer acknowledged
+-- so much time has passed since something went out again that the peer may have acknowledged what went out again
 abbrev pub is_expected : Option Smoothed → Pace → (passed : ℕ) → Bool
 is_expected o pace passed = nat_le (half_time o pace) passed && nat_le passed (expected o pace)
 
@@ -57,7 +58,8 @@ sampled m pace passed = record { smoothed = Some (smoothed_by m.smoothed (min pa
 abbrev pub doubted : Measure → Pace → (passed : ℕ) → Measure
 doubted m pace passed = if is_expected m.smoothed pace passed then m else record m { doubts = min (m.doubts + 1) 255 }
 
--- the time is measured where nothing went out again; where something did, it may be that the wait before was too short
+-- how long the peer took is measured where nothing went out again; where something did, it is doubted that the wait was
+-- long enough, unless the peer may have acknowledged what went out again
 abbrev pub learnt : Measure → Pace → Timing → (now : ℕ) → Measure
 learnt m pace Ready now = m
 learnt m pace (Timed since) now = sampled m pace (now - since)
@@ -89,7 +91,7 @@ is_late Over wait now = false
 
 -- ---- how long is waited
 
--- by three doubts at least the first wait, by four twice as long, by more four times
+-- the least wait by the number of doubts: the first wait for three, twice as long for four, four times as long for more
 abbrev pub doubted_wait : (first doubts : ℕ) → ℕ
 doubted_wait first doubts = if nat_lt doubts 3 then 0 else if doubts == 3 then first else if doubts == 4 then first * 2 else first * 4
 
@@ -97,16 +99,17 @@ abbrev pub wait_by : Option Smoothed → (doubts : ℕ) → Pace → ℕ
 wait_by None doubts pace = pace.first
 wait_by (Some s) doubts pace = min (max (estimate s pace.least) (doubted_wait pace.first doubts)) (min (pace.first * 4) pace.longest)
 
--- the first wait for an acknowledgement: the time to be expected, and at most four times the first wait of the pace; where nothing was
--- measured, that wait
+-- the first wait for an acknowledgement: the time to be expected, at least what the doubts ask for, and at most four
+-- times the pace's first wait and the pace's longest; where nothing was measured, the pace's first wait
 abbrev pub first_wait : Measure → Pace → ℕ
 first_wait m pace = wait_by m.smoothed m.doubts pace
 
--- how many waits are shorter than this one, where the first of them is so long, and each is twice the last
+-- how many waits are shorter than `wait`, where the first wait is `length` long, and each is twice as long as the one
+-- before
 abbrev pub shorter_waits : (length wait : ℕ) → ℕ
 shorter_waits length wait = 32 - leading_zeros w32 ((wait - 1) / length)
 
--- how many packets are borne to which there is no word of the peer: those before a wait that is shorter than the first one of the pace are
--- borne beside the others
+-- how many packets are borne without a word of the peer: as many as the pace says, and one more for each wait that is
+-- shorter than the pace's first wait
 abbrev pub borne : Measure → Pace → ℕ
 borne m pace = pace.tries + shorter_waits (first_wait m pace) pace.first

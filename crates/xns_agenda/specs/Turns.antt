@@ -5,7 +5,7 @@ use Rattle.std.specs.Option.{is_some}
 use Rattle.xns_agenda.specs.Times.{HasEarliest}
 use Rattle.xns_agenda.specs.Waiting.{last_time}
 
--- by number the ticket of who has a turn, and the next ticket; the lowest one is first
+-- by number the ticket of who has a turn, and the ticket that is given next; who has the lowest ticket is first
 pub record Line : Type 0 where
   pub tickets : List (Option ℕ)
   pub next : ℕ
@@ -23,7 +23,7 @@ has_turn line number = is_some (ticket_of line number)
 abbrev pub HasNoTurn : Line → Type 0
 HasNoTurn line = (number : ℕ) → has_turn line number ≡ false
 
--- the number has a turn, and nobody's is earlier
+-- the number has a turn, and nobody's turn is earlier
 pub record IsFirst (line : Line) (number : ℕ) : Type 0 where
   pub has : has_turn line number ≡ true
   pub first : HasEarliest line.tickets (ticket_of line number)

@@ -22,7 +22,7 @@ pub record Waiting : Type 0 where
   pub timing : Timing
   -- how many packets went out again or asked since the last word of the peer
   pub misses : ℕ
-  -- when that came
+  -- when the last word of the peer came
   pub heard_at : ℕ
 
 -- no more misses than are borne; no wait is shorter than the least or longer than the longest
@@ -35,7 +35,7 @@ pub record IsWaiting (pace : Pace) (length misses : ℕ) (measure : Measure) : T
 abbrev pub last_time : ℕ
 last_time = 2 ^ 64 - 1
 
--- so long after a time; what would be after the end of time is at its end
+-- the time `span` after `now`, and the last time where that would be later
 abbrev pub later : ℕ → ℕ → ℕ
 later now span = min (now + span) last_time
 
@@ -50,7 +50,7 @@ new_waiting pace now = record { pace = pace; due = Never; length = pace.first; m
 abbrev pub rested : Waiting → Waiting
 rested w = record w { due = Never; length = first_wait w.measure w.pace }
 
--- a wait begins, at whose end something is done
+-- a wait begins; something is done at its end
 abbrev pub begun : (ℕ → Due) → Waiting → ℕ → Waiting
 begun at w now = record w { due = at (later now w.length); length = next_length w.pace w.length }
 
@@ -59,7 +59,7 @@ begun at w now = record w { due = at (later now w.length); length = next_length 
 abbrev pub usual_idle : ℕ
 usual_idle = 10000
 
--- how long the peer may be silent; 0: for ever. Where a call wants an answer it may not be for ever
+-- how long the peer may be silent, where 0 is for ever; while a call wants its answer, the usual time stands for 0
 abbrev pub idle_span : Pace → (wants : Bool) → ℕ
 idle_span pace wants = if (pace.idle == 0) && wants then usual_idle else pace.idle
 
@@ -77,7 +77,7 @@ waiting_on w (AgainAt t) now = w
 waiting_on w (AskAt t) now = timed w now
 waiting_on w (ForgetAt t) now = w
 
--- nothing waits for the peer, which is asked when it has been silent for so long
+-- nothing waits for the peer; the peer is asked when it has been silent for as long as it may be
 abbrev pub idling : Waiting → Due → (wants : Bool) → Waiting
 idling w Never wants = record (rested w) { due = idle_due w.pace w.heard_at wants; timing = Ready }
 idling w (AgainAt t) wants = record (rested w) { due = idle_due w.pace w.heard_at wants; timing = Ready }
@@ -117,7 +117,8 @@ after_heard w (AgainAt t) false false now = w
 after_heard w (AskAt t) more again now = rested w
 after_heard w (ForgetAt t) more again now = w
 
--- where it does not, it may be that something goes out again for it
+-- `more`: the peer acknowledges more, or opens the connection; `again`: where it does not, what waits for the peer goes
+-- out again
 abbrev pub after_word : Waiting → (more again : Bool) → ℕ → Waiting
 after_word w more again now = after_heard (record w { misses = 0; heard_at = now }) w.due more again now
 
@@ -129,7 +130,7 @@ due_time (AgainAt t) = Some t
 due_time (AskAt t) = Some t
 due_time (ForgetAt t) = Some t
 
--- a packet goes out, unless as many did as are borne
+-- a packet goes out, unless as many went out without a word of the peer as are borne
 abbrev pub unless_silent : Waiting → Act → Act
 unless_silent w act = if nat_le (borne w.measure w.pace) w.misses then GiveUp else act
 
@@ -142,7 +143,7 @@ act_by w (ForgetAt t) now = if nat_le t now then Forget else Nothing
 abbrev pub act_at : Waiting → ℕ → Act
 act_at w now = act_by w w.due now
 
--- a closed connection is there for the longest wait
+-- a closed connection is kept for the longest wait, and then forgotten
 abbrev pub lingering : Waiting → ℕ → Waiting
 lingering w now = record w { due = ForgetAt (later now w.pace.longest) }
 
@@ -194,7 +195,8 @@ pub data Silence (w : Waiting) : ℕ → Waiting → Type 0 where
 
 -- ---- two peers that repeat what they said
 
--- from one moment to another something waits for the peer, which acknowledges no more, and so often something goes out again for a word of it
+-- from one moment to another something waits for the peer, which acknowledges no more; so often something goes out
+-- again when a word of the peer comes
 pub data Unheard (w : Waiting) : ℕ → Waiting → Type 0 where
   here : Unheard w 0 w
   steps : {n : ℕ} {v : Waiting} → Unheard w n v → (wants : Bool) (now : ℕ) → Unheard w n (after_step v true wants now)

@@ -1,3 +1,5 @@
+//! What is to be done of a connection at a time.
+
 /// What is to be done of a connection at a time.
 #[derive(Clone, Copy, Debug, PartialEq, Eq)]
 pub enum Act {

@@ -1,3 +1,5 @@
+//! A time of one's own, which never goes back, whatever the clocks do that tell the time.
+
 ghost use Rattle.std.specs.Prelude.{◌≡◌, ◌+◌, ◌-◌, min};
 ghost use Rattle.xns_agenda.specs.Waiting.{last_time};
 

@@ -1,3 +1,5 @@
+//! What a connection does by the time alone, and when.
+
 ghost use Rattle.std.specs.Prelude.{◌≡◌};
 
 /// What a connection does by the time alone, and when, in milliseconds.

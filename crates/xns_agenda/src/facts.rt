@@ -1,3 +1,5 @@
+//! What the agenda has to know of a connection.
+
 /// What a host has to know of a connection, beside what it says.
 #[derive(Clone, Copy, Debug, PartialEq, Eq)]
 pub struct Facts {

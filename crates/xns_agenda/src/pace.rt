@@ -1,3 +1,5 @@
+//! How long a connection waits, and how many waits it bears.
+
 ghost use Rattle.std.specs.Prelude.{◌≤◌};
 
 /// How long a connection waits, in milliseconds. A host makes it of its settings.

@@ -1,3 +1,5 @@
+//! How long a peer takes to acknowledge, smoothed over the times that were measured.
+
 ghost use Rattle.std.specs.Prelude.{◌≡◌};
 ghost use Rattle.xns_agenda.specs.Measuring.{IsBounded, estimate, first_smoothed, smoothed_on};
 

@@ -1,3 +1,5 @@
+//! What is timed of a wait for the peer.
+
 ghost use Rattle.std.specs.Prelude.{◌≡◌};
 ghost use Rattle.xns_agenda.specs.Measuring.{begun_timing, is_late, is_vain};
 

@@ -1,3 +1,5 @@
+//! The connection that gives way to a new one, if one does.
+
 ghost use Rattle.std.specs.Prelude.{◌≡◌};
 
 /// Who gives way to a new connection.

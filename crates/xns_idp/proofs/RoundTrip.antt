@@ -1,4 +1,4 @@
--- What is read is spelled so, and what is spelled so is read.
+-- Bytes spell the packet that is read in them, and a packet that they spell is read in them.
 use Rattle.std.proofs.Common.{◌≡◌, ℕ, ◌+◌, ◌-◌, ◌*◌, ◌/◌, ◌%◌, ◌^◌, ◌<◌, ◌≤◌, Bool, true, false, not, cond, eqb, ltb, if◌then◌else◌, List, [], ◌∷◌, ◌++◌, length, get_or, take, drop, replicate, Option, Some, None, Result, Ok, Err, ◌⊎◌, inl, inr, refl, sym, ap, subst, ◌∙◌, append_assoc, arith, lit<}
 use Rattle.std.specs.Prelude.{slice_range, IfOk, IfErr}
 use Rattle.std.specs.Int.{w16, w32, to_be_bytes}

@@ -26,12 +26,12 @@ add_with_end_around_carry a b = if nat_lt 65535 (a + b) then a + b - 65535 else 
 abbrev pub rotated_left : ℕ → ℕ
 rotated_left n = 2 * n % 65536 + n / 32768
 
--- each word is added, and the sum rotated
+-- each word is added to the sum, which is then rotated
 abbrev pub added_and_rotated : ℕ → List ℕ → ℕ
 added_and_rotated sum [] = sum
 added_and_rotated sum (w ∷ ws) = added_and_rotated (rotated_left (add_with_end_around_carry sum w)) ws
 
--- a final 65535 becomes 0, since that field means that there is no checksum
+-- a final 65535 becomes 0, since a field of 65535 means that there is no checksum
 abbrev pub zero_for_all_ones : ℕ → ℕ
 zero_for_all_ones n = if n == 65535 then 0 else n
 

@@ -84,7 +84,7 @@ pub record SpellsPacket (p : PacketModel) (bytes : List ℕ) : Type 0 where
   pub garbage_bytes : AreBytes garbage
   pub spells : bytes ≡ packet_bytes p garbage
 
--- the bytes that are written for it: the garbage byte is 0
+-- the bytes that are written for a packet: the garbage byte is 0
 unfoldable pub packet_spelling : PacketModel → List ℕ
 packet_spelling p = packet_bytes p (replicate (length p.body % 2) 0)
 

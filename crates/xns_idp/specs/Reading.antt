@@ -20,7 +20,7 @@ long_at bytes i = 65536 * word_at bytes i + word_at bytes (i + 2)
 unfoldable pub address_at : List ℕ → ℕ → Address
 address_at bytes i = record { network = long_at bytes i; host = slice_range bytes (i + 4) (i + 10); socket = word_at bytes (i + 10) }
 
--- a length with the garbage byte
+-- a length, and one more for the garbage byte where it is odd
 abbrev pub made_even : ℕ → ℕ
 made_even n = n + n % 2
 
@@ -59,7 +59,7 @@ unless (Some f) x = Err f
 unfoldable pub packet_of : List ℕ → Result (PacketModel × ℕ) IdpFault
 packet_of bytes = unless (packet_fault bytes) (packet_fields bytes, made_even (word_at bytes 2))
 
--- what `decode` answers, without where it lies in memory
+-- what `decode` returns, without where the packet lies in memory
 abbrev pub decode_model : Result (Packet × ℕ) IdpFault → Result (PacketModel × ℕ) IdpFault
 decode_model (Ok x) = Ok (packet_model x.0, x.1)
 decode_model (Err f) = Err f

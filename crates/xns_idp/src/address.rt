@@ -1,3 +1,5 @@
+//! Addresses: a network, a host and a socket.
+
 ghost use Rattle.std.specs.Prelude.{◌≡◌, ◌↔◌, IsTrue};
 
 use crate::known::{known_bytes, known_long, known_word};
@@ -20,7 +22,7 @@ impl Address {
     ghost use Rattle.std.specs.Str.{bytes_eq};
     ghost use Rattle.xns_idp.specs.Packet.{IsAddress, address_bytes, broadcast, same_place};
 
-    /// Whether its host is the broadcast host.
+    /// Whether the address names the broadcast host.
     pub fn is_broadcast(&self) -> bool
         ensures { IsTrue result ↔ (self.now.host ≡ broadcast) }
     {
@@ -35,7 +37,8 @@ impl Address {
         self.is_same_host(other) && self.socket == other.socket
     }
 
-    /// Whether both addresses name one host, byte by byte: a call of the comparison of arrays would keep both addresses in memory.
+    /// Whether both addresses name one host. The bytes are compared one by one: the function that compares arrays would
+    /// keep both addresses in memory.
     #[inline(always)]
     pub fn is_same_host(&self, other: &Address) -> bool
         ensures { result ≡ bytes_eq self.now.host other.now.host }

@@ -1,13 +1,16 @@
+//! The checksum of bytes, computed block by block.
+
 ghost use Rattle.std.specs.Prelude.{◌≡◌, ◌%◌, ◌<◌, ◌≤◌, length};
 ghost use Rattle.std.specs.Simd.Lanes.{Each1};
 ghost use Rattle.xns_idp.specs.Checksum.{words, cycle_checksum, sum_from};
 
 use std::simd::prelude::*;
 
-/// The bytes of a block, which has 16 words: after 16 words a word's weight has come round to what it was.
+/// A block has so many bytes, which are 16 words. Doubled 16 times, a word weighs what it weighed before, modulo 65535.
 const BLOCK: usize = 32;
 
-/// The bytes that are summed at once: in their 64 blocks no lane of 16 bits overflows, nor what all of them weigh, in 32 bits.
+/// At most so many bytes are summed at once. In their 64 blocks no lane of 16 bits overflows, and what all lanes weigh
+/// fits into 32 bits.
 const CHUNK: usize = 2048;
 
 /// What the bytes of a block weigh, modulo 65535: the first byte of a pair is the high one, and a word is doubled once for itself and once
@@ -35,8 +38,8 @@ pub fn cycle_sum(bytes: &[u8]) -> u16
     sum as u16
 }
 
-/// The checksum of the words of at most a chunk. Blocks are added lane by lane. The words that fill none stand before them, and make a
-/// block with zeros in front.
+/// The checksum of the words of at most a chunk. Blocks are added lane by lane. The words before the first whole block
+/// are a block of their own, with zeros in front.
 fn part_sum(bytes: &[u8]) -> u32
     requires even { length bytes.now % 2 ≡ 0 }
     requires short { length bytes.now ≤ 2048 }
@@ -54,7 +57,7 @@ fn part_sum(bytes: &[u8]) -> u32
     lane_sum(u8x32::from_array(front).cast::<u16>().strict_add(lanes))
 }
 
-/// What is summed over 16 words in lanes, the first of a pair being the high part.
+/// The checksum of the 16 words that stand in lanes; the first lane of a pair is the high part of a word.
 fn lane_sum(lanes: u16x32) -> u32
     requires { Each1 (λ x. x ≤ 16640) lanes }
     ensures below { result < 65535 }

@@ -1,3 +1,5 @@
+//! Reads the packet at the front of bytes.
+
 ghost use Rattle.std.specs.Prelude.{◌≡◌, ◌+◌, ◌≤◌, List, ℕ, length, ◌++◌, IfOk, IfErr, Some, Ok};
 ghost use Rattle.xns_idp.specs.Packet.{PacketModel, IsPacket, SpellsPacket, IsPacketAtFront, packet_model};
 ghost use Rattle.xns_idp.specs.Reading.{packet_fault, packet_of, decode_model};
@@ -8,18 +10,19 @@ use crate::fault::IdpFault;
 use crate::packet::{HEADER, HEADER_BYTES, MOST_PACKET, NO_SUM, Packet};
 use crate::places::{read_address, read_word};
 
-/// Reads the packet at the front of the bytes, and says how many bytes it took: its length made even, with the garbage
-/// byte. What follows them, as padding of the link, is left unread.
+/// Reads the packet at the front of the bytes, and returns it with the number of bytes that it took: its length, and
+/// one more for the garbage byte where the length is odd. The bytes behind them, such as padding of the link, are left
+/// unread.
 ///
 /// An `Err` is the first fault in the order of [`IdpFault`]. A checksum field of 65535 means that there is no checksum,
-/// and is never a [`IdpFault::BadSum`].
+/// and is never [`IdpFault::BadSum`].
 #[inline(always)]
 pub fn decode(bytes: &[u8]) -> Result<(Packet<'_>, usize), IdpFault>
     // The packet of the bytes by the places of its fields, or their first fault.
     ensures exact { decode_model result ≡ packet_of bytes.now }
-    // The bytes that it took spell it.
+    // The bytes that were taken spell the packet.
     ensures found { IfOk result (λ r. IsPacketAtFront bytes.now (packet_model r.0) r.1) }
-    // Whatever a prefix of the bytes spells is read, whatever follows it.
+    // A packet that a prefix of the bytes spells is read, whatever follows the prefix.
     ensures only { (p : PacketModel) (taken rest : List ℕ) → IsPacket p → SpellsPacket p taken → bytes.now ≡ taken ++ rest →
         decode_model result ≡ Ok (p, length taken) }
     // An error is the first fault of the bytes.

@@ -1,3 +1,5 @@
+//! Appends the bytes of a packet to a vector.
+
 ghost use Rattle.std.specs.Prelude.{◌≡◌, ◌+◌, ◌<◌, ◌≤◌, ◌++◌, ◌∷◌, [], ◌%◌, if◌then◌else◌, length, drop, replicate, IsOk, OnOk, OnErr};
 ghost use Rattle.std.specs.Prelude.{vec_len, vec_capacity};
 ghost use Rattle.std.specs.Int.{w16, to_be_bytes};
@@ -28,8 +30,8 @@ pub fn encode(alloc: Global, packet: &Packet<'_>, out: &mut Vec<u8>) -> Result<(
     encode_parts(alloc, packet, &[], out)
 }
 
-/// Appends the bytes of a packet whose data are `packet.body` and then `rest`, as `encode` does of the packet with both of them
-/// joined: for a caller who puts a header of its own before bytes that lie elsewhere.
+/// Appends the bytes of a packet whose data are `packet.body` and then `rest`, as `encode` does for the packet with
+/// both of them joined. It serves a protocol that puts a header of its own before bytes that lie elsewhere.
 ///
 /// The only error is want of memory, after which `out` is as it was.
 #[inline(always)]
@@ -59,7 +61,7 @@ pub fn encode_parts(
     Ok(())
 }
 
-/// The bytes of a header before so many bytes of data, with 0 in the place of the checksum.
+/// The bytes of the header before `size` bytes of data, with 0 in the place of the checksum.
 #[inline(always)]
 pub(crate) fn header_bytes(packet: &Packet<'_>, size: usize) -> [u8; HEADER_BYTES]
     requires { size ≤ most_data }

@@ -1,3 +1,5 @@
+//! Puts the bytes of a packet at the front of a slice, without taking memory.
+
 ghost use Rattle.std.specs.Prelude.{◌≡◌, ◌+◌, ◌≤◌, ◌++◌, ℕ, length, take, drop};
 ghost use Rattle.xns_idp.specs.Packet.{most_data, packet_model, packet_spelling};
 ghost use Rattle.xns_idp.specs.Reading.{made_even};
@@ -5,7 +7,7 @@ ghost use Rattle.xns_idp.specs.Reading.{made_even};
 use crate::encoding::{GARBAGE, header_bytes, put_checksum};
 use crate::packet::Packet;
 
-/// Puts bytes behind the first `at` of a slice, and says where they end.
+/// Puts bytes behind the first `at` of a slice, and returns where they end.
 #[inline(always)]
 fn put_behind(out: &mut [u8], at: usize, bytes: &[u8]) -> usize
     requires { at + length bytes.now ≤ length out.old }
@@ -20,8 +22,8 @@ fn put_behind(out: &mut [u8], at: usize, bytes: &[u8]) -> usize
     end
 }
 
-/// Puts the bytes of a packet, as [`crate::encode`] writes them, to the front of `out`, and says how many there are. It takes no memory.
-/// What stands behind them is left.
+/// Puts the bytes of a packet, as [`crate::encode`] writes them, at the front of `out`, and returns how many there are.
+/// It takes no memory. The bytes of `out` behind them stay as they were.
 pub fn encode_into(packet: &Packet<'_>, out: &mut [u8]) -> usize
     requires short { length packet.now.body.now ≤ most_data }
     requires room { made_even (30 + length packet.now.body.now) ≤ length out.old }

@@ -1,3 +1,5 @@
+//! Packets, and how many bytes they have at most.
+
 ghost use Rattle.xns_idp.specs.Packet.{IsPacket, packet_model};
 
 use crate::address::Address;

@@ -15,15 +15,15 @@ use xns_script::Script;
 /// Reads the lines of a script, plays its calls through its events, and prints what came of them. The result
 /// says whether a line was refused.
 ///
-/// Lines and their limits are those of [`xns_lines::take_lines`]. One byte 13 at a line's end is dropped; `xns_script` says what a
-/// line can be. The calls are made in order, wherever their lines stand, by a caller whose network and server are those of
-/// `xns_world::play_calls`; the server's service is a new tally. Where a line is refused, the first of them is said alone and
-/// nothing is played.
+/// Lines and their limits are those of [`xns_lines::take_lines`]. One byte 13 at a line's end is dropped; `xns_script`
+/// says what a line can be. The calls are made in order, wherever their lines stand, by a caller whose network and
+/// server are those of `xns_world::play_calls`; the server's service is a new tally. Where lines are refused, the text
+/// says the first of them alone, and nothing is played.
 ///
 /// # Errors
-/// Those of [`take_lines`], with at most [`MOST_LINES`] lines; `Write` where a write fails or takes no byte; `NoMemory` where a growth
-/// is refused. Nothing is written before the whole input is read and the whole text made, so only a failed write leaves a prefix
-/// of the text.
+/// The errors are those of [`take_lines`], with at most [`MOST_LINES`] lines; `Write` where a write fails or takes no
+/// byte; `NoMemory` where a growth is refused. Nothing is written before the whole input is read and the whole text
+/// made, so only a failed write leaves a prefix of the text.
 pub fn sim<R: Read, W: Write>(
     alloc: Global,
     reader: &mut R,

@@ -8,7 +8,7 @@ use Rattle.xns_small.specs.declared.fault.SmallFault.{SmallFault}
 use Rattle.xns_small.specs.declared.fault.SmallFault.TheVariants.{EchoOperation}
 use Rattle.xns_small.proofs.Numbers.{two_bytes}
 
--- for an operation and bytes
+-- what is spelled of an operation and bytes is read
 again : (reply : Bool) (body : List ℕ) → echo_of (echo_spelling (record { reply = reply; body = body })) ≡ Ok (record { reply = reply; body = body })
 unfolding echo_of
 again true body = let whole : ltb (length (0 ∷ 2 ∷ body)) 2 ≡ false = le-ltb _ _ (omega arith) in rw whole refl

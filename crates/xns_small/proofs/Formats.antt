@@ -6,8 +6,8 @@ use Rattle.xns_small.specs.Reading.{answer_model, unless_short}
 use Rattle.xns_small.specs.declared.fault.SmallFault.{SmallFault}
 use Rattle.xns_small.specs.declared.fault.SmallFault.TheVariants.{Short}
 
--- what is read is the fields, unless there are fewer bytes than they take; a value that fits is spelled by at least so many bytes, which have its
--- fields; so many bytes or more spell their fields
+-- a format whose fields take `least` bytes: a reader finds the fields, unless there are fewer bytes; a value that fits
+-- is spelled by at least so many bytes, and has the fields of its spelling; so many bytes or more spell their fields
 pub record IsFormat {M : Type 0} (Fits : M → Type 0) (spelling : M → List ℕ) (reads : List ℕ → Result M SmallFault) (least : ℕ) (fields : List ℕ → M) : Type 0 where
   pub reading : (bytes : List ℕ) → reads bytes ≡ unless_short least bytes (fields bytes)
   pub long : (v : M) → Fits v → least ≤ length (spelling v)

@@ -1,9 +1,9 @@
--- What the readers of this crate answer.
+-- What the readers of this crate return.
 use Rattle.std.specs.Prelude.{ℕ, nat_lt, if◌then◌else◌, List, length, Result, Ok, Err}
 use Rattle.xns_small.specs.declared.fault.SmallFault.{SmallFault}
 use Rattle.xns_small.specs.declared.fault.SmallFault.TheVariants.{Short}
 
--- what a reader answers, without where it lies in memory
+-- what a reader returns, without where its bytes lie in memory
 abbrev pub answer_model : {V M : Type 0} → (V → M) → Result V SmallFault → Result M SmallFault
 answer_model model (Ok v) = Ok (model v)
 answer_model model (Err f) = Err f

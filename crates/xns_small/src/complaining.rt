@@ -1,3 +1,5 @@
+//! Makes the Error packet about an offending packet.
+
 ghost use Rattle.std.specs.Prelude.{◌≡◌, ◌+◌, ◌≤◌, length, IfOk, OnErr, MatchOption};
 ghost use Rattle.xns_idp.specs.Reading.{address_at};
 ghost use Rattle.xns_small.specs.ErrorReport.{MayBeComplainedOf, complaint};
@@ -9,12 +11,13 @@ use xns_idp::packet_type::ERROR;
 use xns_idp::places::read_address;
 use xns_idp::{Address, HEADER_BYTES};
 
-/// Complains of an offending packet, given by its bytes: the whole bytes of an Error packet from `own` to the offending
-/// packet's source with the error number, the parameter and the first 42 of these bytes (XSIS 028112, Error Protocol).
-/// The source is read from its place in the header, even where the offending packet's checksum is wrong.
+/// Complains of an offending packet, given by its bytes: returns the whole bytes of an Error packet from `own` to the
+/// offending packet's source with the error number, the parameter and the first 42 of the offending bytes (XSIS 028112,
+/// Error Protocol). The source is read from its place in the header, even where the offending packet's checksum is
+/// wrong.
 ///
-/// `None` means that one must not complain: there is no whole header, it is itself an Error packet, or it was sent to the
-/// broadcast host. The only error is want of memory.
+/// `None` means that one must not complain: the bytes have no whole header, they are an Error packet themselves, or
+/// they were sent to the broadcast host. The only error is want of memory.
 #[tactic(auto, unfolding(crate::specs::ErrorReport::complaint))]
 pub fn complain(
     alloc: Global,
@@ -25,7 +28,7 @@ pub fn complain(
 ) -> Result<Option<Vec<u8>>, AllocError>
     ensures answer { IfOk result (λ answer. MatchOption answer (MayBeComplainedOf offending.now → ⊥)
         (λ bytes. MayBeComplainedOf offending.now × (bytes.items ≡ complaint own number parameter offending.now))) }
-    // Memory is refused only where there is something to complain of.
+    // Memory is refused only where one may complain of the bytes.
     ensures memory { OnErr result (MayBeComplainedOf offending.now) }
 {
     let Some(source) = complained_to(offending) else {

@@ -1,3 +1,5 @@
+//! The bodies of Echo packets, read and written.
+
 ghost use Rattle.std.specs.Prelude.{◌≡◌, ◌+◌, ◌<◌, ◌≤◌, ◌++◌, length, IfOk, OnOk, OnErr, Ok, vec_len, vec_capacity};
 ghost use Rattle.xns_small.specs.Echo.{EchoModel, SpellsEcho, echo_model, echo_of, echo_spelling};
 ghost use Rattle.xns_small.specs.Reading.{answer_model};

@@ -1,3 +1,5 @@
+//! The bodies of Error packets, read and written.
+
 ghost use Rattle.std.specs.Prelude.{◌≡◌, ◌+◌, ◌<◌, ◌≤◌, ◌++◌, length, take, IfOk, OnOk, OnErr, Ok, vec_len, vec_capacity};
 ghost use Rattle.xns_small.specs.ErrorReport.{ErrorReportModel, IsErrorReport, SpellsError, error_report_model, error_of, error_spelling};
 ghost use Rattle.xns_small.specs.ErrorReport.{most_quoted, with_front_quoted};
@@ -17,7 +19,7 @@ const QUOTED: usize = 42;
 pub struct ErrorReport<'a> {
     /// What is wrong: one of [`crate::error_number`], or another number.
     pub number: u16,
-    /// What the number says more, as a greatest length in bytes; else 0.
+    /// The error parameter, which some numbers have, such as a greatest length in bytes; else 0.
     pub parameter: u16,
     /// The front of the offending packet, however many bytes there are.
     pub quoted: &'a [u8],

@@ -1,3 +1,5 @@
+//! The bodies of Packet Exchange packets, read and written.
+
 ghost use Rattle.std.specs.Prelude.{◌≡◌, ◌+◌, ◌<◌, ◌≤◌, ◌++◌, length, IfOk, OnOk, OnErr, Ok, vec_len, vec_capacity};
 ghost use Rattle.xns_small.specs.Exchange.{ExchangeModel, IsExchange, SpellsExchange, exchange_model, exchange_of, exchange_spelling};
 ghost use Rattle.xns_small.specs.Reading.{answer_model};

@@ -1,3 +1,5 @@
+//! Why a packet's body is no Echo, Error or Packet Exchange.
+
 use thiserror::Error;
 
 /// Why a packet's body is no Echo, Error or Packet Exchange.

@@ -20,8 +20,8 @@ pub fn written_exchange_is_read_again()
     ensures { WrittenExchangeIsReadAgain }
 {}
 
-/// An answered echo request comes back with its bytes: whoever decodes the reply, whatever follows it, finds the reply to that
-/// request.
+/// The reply to an Echo request carries the request's bytes: whoever decodes the reply, whatever follows it, finds the
+/// reply to that request.
 pub fn an_answered_echo_carries_the_request()
     ensures { AnAnsweredEchoCarriesTheRequest }
 {

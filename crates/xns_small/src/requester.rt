@@ -1,3 +1,5 @@
+//! The asking side of a packet exchange.
+
 ghost use Rattle.std.specs.Prelude.{◌≡◌, ◌≢◌, ◌<◌, ◌≤◌, drop, length, IfOk, MatchOption};
 ghost use Rattle.xns_idp.specs.Packet.{broadcast, packet_model};
 ghost use Rattle.xns_idp.specs.Reading.{long_at};
@@ -10,8 +12,8 @@ use std::marker::Model;
 use xns_idp::packet_type::PACKET_EXCHANGE;
 use xns_idp::{Address, Packet};
 
-/// The asking side of one packet exchange (XSIS 028112, Packet Exchange Protocol). It holds the request, to be sent until the
-/// response comes, and knows the response when it sees it.
+/// The asking side of one packet exchange (XSIS 028112, Packet Exchange Protocol). A requester holds the request, which
+/// is sent until the response comes, and tells which packet is the response.
 #[derive(Drop)]
 pub struct Requester {
     asked: Address,
@@ -54,7 +56,7 @@ impl Requester {
         })
     }
 
-    /// The bytes of the request packet, the same each time: to be sent, and sent again until the response comes.
+    /// The bytes of the request packet, the same each time. They are sent, and sent again until the response comes.
     pub fn try_again(&self) -> &[u8]
         ensures { result.now ≡ self.now.packet }
     {
@@ -80,7 +82,7 @@ impl Requester {
     }
 }
 
-/// What the bytes are, if there are enough of them.
+/// The packet exchange that the bytes spell. `None` where they are under 6 bytes.
 #[tactic(auto, unfolding(crate::specs::Exchange::exchange_of))]
 fn exchange_in(body: &[u8]) -> Option<Exchange<'_>>
     ensures { MatchOption result (length body.now < 6)

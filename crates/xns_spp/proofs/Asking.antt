@@ -37,7 +37,7 @@ first_of s ready some left =
     else if left then system_packet s probe_control ∷ []
     else []) 0
 
--- by whether the end is open, and whether the item may go out
+-- a tick asks, by whether the end is open, and whether the item may go out
 asks_by : (s : State) (ready some : Bool) → is_open s.ends ≡ ready → nat_lt s.acknowledged (send_limit s) ≡ some
     → s.acknowledged < length s.accepted → Asks s
 asks_by s false some is_ready is_some left =

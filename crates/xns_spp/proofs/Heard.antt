@@ -22,7 +22,7 @@ use Rattle.xns_spp.specs.declared.field_numbers.FieldNumbers.{FieldNumbers}
 use Rattle.xns_spp.specs.declared.verdict.Verdict.{Verdict}
 use Rattle.xns_spp.specs.declared.verdict.Verdict.TheVariants.{Take, Keep, Pass, Refuse}
 
--- ---- it is looked at
+-- ---- a packet that is heard is looked at
 
 no_fault : (b c : Bool) → b ≡ true → c ≡ false → (if not b then Some NotOurs else if c then Some AheadOfUs else None) ≡ None
 no_fault true false h i = refl
@@ -37,7 +37,7 @@ looked_at s b p m h =
 after_heard : (s : State) (b : List ℕ) (p : SppPacketModel) (m : Meant) → IsHeard s b p m → after_receive s b ≡ after_arrival s p
 after_heard s b p m h = ap (after_bytes s) h.read ∙ ap (λ (o : Option Dropped). after_packet o s p) (looked_at s b p m h)
 
--- it is answered where it asks
+-- a packet that is heard gets a reply where it asks
 heard_reply : (s : State) (b : List ℕ) (p : SppPacketModel) (m : Meant) → IsHeard s b p m → wants_reply p.header ≡ true
     → (receive_answer s b).reply ≡ Some (spp_packet_spelling (system_packet (after_receive s b) reply_control))
 heard_reply s b p m h wants =

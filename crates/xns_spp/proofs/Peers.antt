@@ -54,7 +54,7 @@ knows_by : (e f : Ends) → IsEnds e → e.role ≡ Responder → (e.peer_id ≡
 knows_by e f fits is (inl none) = absurd (omega (arith, none, fits.peer_known is))
 knows_by e f fits is (inr same) = same
 
--- one that is open knows its peer's identifier
+-- an end that is open knows its peer's identifier
 known_by : (e f : Ends) → not (e.peer_id == 0) ≡ true → (e.peer_id ≡ 0) ⊎ (e.peer_id ≡ f.id) → e.peer_id ≡ f.id
 known_by e f ready (inl none) = absurd (cc (ap (λ (n : ℕ). not (n == 0)) none))
 known_by e f ready (inr same) = same

@@ -32,12 +32,12 @@ pub record Grows (s t : State) : Type 0 where
   pub handed : s.handed ≤ t.handed
   pub top : window_top s ≤ window_top t
 
--- with the same items accepted and handed up
+-- s goes on as t with the same items accepted and handed up
 pub record Stays (s t : State) : Type 0 where
   pub accepted : t.accepted ≡ s.accepted
   pub handed : t.handed ≡ s.handed
 
--- with nothing heard: the same items taken and early, and the same acknowledged
+-- s goes on as t with nothing heard: the same items are taken, early and acknowledged
 pub record HearsNothing (s t : State) : Type 0 where
   pub taken : t.taken ≡ s.taken
   pub early : t.early ≡ s.early
@@ -51,11 +51,11 @@ pub record Brings (s : State) (b : List ℕ) (k : ℕ) (x : Item) : Type 0 where
   pub number : (numbers_in s packet).sequence ≡ Some k
   pub item : item_in packet ≡ x
 
--- they bring it, or it came early before
+-- item x has come under number k: the bytes bring it, or it came early before
 abbrev pub HasCome : State → List ℕ → ℕ → Item → Type 0
 HasCome s b k x = Brings s b k x ⊎ (s.early k ≡ Some x)
 
--- so many items are taken of what has come: those from the next number on
+-- s goes on as t with so many items taken that have come: those from the next number on
 pub record Takes (s : State) (b : List ℕ) (t : State) (took : ℕ) : Type 0 where
   pub items : List Item
   pub taken : t.taken ≡ s.taken ++ items

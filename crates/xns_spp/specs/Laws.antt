@@ -51,7 +51,8 @@ pub record PacketAtFrontIsItsSpelling : Type 0 where
 abbrev pub OursIsAPacketAtTheFront : Type 0
 OursIsAPacketAtTheFront = (s : State) (b : List ℕ) → AreBytes b → (IsTrue (is_ours s b) ↔ IsOursAtFront s b)
 
--- what a packet is asked by a responder's addresses and identifiers, its end says of the packet's bytes
+-- a packet is for a responder, by its addresses and identifiers, exactly where the responder's end says that the
+-- packet's bytes are its own
 abbrev pub APacketForAResponderIsItsOwn : Type 0
 APacketForAResponderIsItsOwn = (s : State) (b : List ℕ) (p : SppPacketModel) → s.ends.role ≡ Responder → spp_packet_of b ≡ Ok p →
     is_ours s b ≡ is_for_responder s.ends.own s.ends.id s.ends.peer s.ends.peer_id p
@@ -77,7 +78,7 @@ pub record OwnPacketsSayWhatIsMeant : Type 0 where
   pub none : (s : State) (control : ℕ) → has_bit control system_bit ≡ true → is_system (system_packet s control).header ≡ true
   pub no_data : (s : State) (control : ℕ) → (system_packet s control).body ≡ []
   pub system_fields : (s : State) (control : ℕ) → IsReduced (system_packet s control).header (own_meant s s.sent)
-  -- a system packet of an open end is answered where it asks, and only there
+  -- a system packet of an open end is owed a reply where it asks for one, and only there
   pub asks : (s : State) (asks : Bool) → is_open s.ends ≡ true → wants_reply (system_packet s (system_control asks)).header ≡ asks
 
 pub record RoomIsNearWhatWasTaken : Type 0 where
@@ -135,10 +136,11 @@ pub record ItemsAreAcceptedOrChangeNothing : Type 0 where
   pub fits : (s : State) (x : Item) → IsShortItem x → x.attention ≡ false → is_full s ≡ false → is_ok (send_answer s x) ≡ true
   pub room : (s : State) → IsState s → is_full s ≡ false → length s.accepted < s.acknowledged + s.ends.backlog
   pub waiting : (s : State) (x : Item) → is_ok (send_answer s x) ≡ true → waiting_count (after_send s x) ≡ waiting_count s
-  -- an item that is accepted lowers the room to send by one, unless that is 0 already; before the end is open it is 0
+  -- an item that is accepted lowers the room to send by one, unless the room is 0 already; before the end is open the
+  -- room is 0
   pub lowers : (s : State) (x : Item) → IsState s → is_ok (send_answer s x) ≡ true → room_to_send (after_send s x) ≡ room_to_send s - 1
   pub shut : (s : State) → IsState s → is_open s.ends ≡ false → room_to_send s ≡ 0
-  -- where there is room to send, it is not full, and the peer allows one more item than were accepted
+  -- where there is room to send, the end is not full, and the peer allows one more item than were accepted
   pub room_to_send : (s : State) → 0 < room_to_send s → (is_full s ≡ false) × (length s.accepted < s.allowed)
 
 pub record TheNextItemIsHandedUp : Type 0 where
@@ -189,7 +191,7 @@ pub record ATickAsksUntilAllIsAcknowledged : Type 0 where
   pub asks : (s : State) → s.acknowledged < length s.accepted → Asks s
   pub sent : (s : State) → is_open s.ends ≡ true → s.acknowledged < send_limit s → (after_tick s).sent ≡ send_limit s
 
--- no other part of the end changes
+-- of the end no part but how many items were sent changes
 pub record WhatGoesOutChangesWhatWasSentAlone : Type 0 where
   pub flush : (s : State) → after_flush s ≡ record s { sent = (after_flush s).sent }
   pub tick : (s : State) → after_tick s ≡ record s { sent = (after_tick s).sent }

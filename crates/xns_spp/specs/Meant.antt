@@ -21,6 +21,6 @@ pub record IsReduced (h : Header) (m : Meant) : Type 0 where
   pub acknowledge : h.acknowledge ≡ m.acknowledge % field_round
   pub allocation : h.allocation ≡ m.allocation % field_round
 
--- and this is read in them by one who reads them right
+-- the numbers that an end reads in the fields where it reads what was meant
 abbrev pub as_meant : Meant → FieldNumbers
 as_meant m = record { sequence = Some m.sequence; acknowledge = Some m.acknowledge; allocation = Some m.allocation }

@@ -16,7 +16,7 @@ pub record IsLinked (e f : Ends) : Type 0 where
   pub peer_id : (e.peer_id ≡ 0) ⊎ (e.peer_id ≡ f.id)
   pub one : (e.role ≡ Responder) ⊎ (f.role ≡ Responder)
 
--- a packet from the end to its peer, as far as it knows it
+-- a packet from the end to its peer, as far as the end knows its peer
 pub record IsNamed (e : Ends) (p : SppPacketModel) : Type 0 where
   pub source : p.source ≡ e.own
   pub source_id : p.header.source_id ≡ e.id
@@ -30,8 +30,8 @@ pub record IsHeard (s : State) (b : List ℕ) (p : SppPacketModel) (m : Meant) :
   pub numbers : numbers_in s p ≡ as_meant m
   pub behind : m.acknowledge ≤ s.sent
 
--- what the end makes of it: it answers a packet that asks, knows what the packet acknowledges and allows, takes the item where it is the
--- next and there is room, and is open
+-- what the end makes of a packet that is heard: it replies to a packet that asks, knows what the packet acknowledges
+-- and allows, takes the item where it is the next and there is room, and is open
 pub record Counts (s : State) (b : List ℕ) (p : SppPacketModel) (m : Meant) : Type 0 where
   pub reply : wants_reply p.header ≡ true
       → (receive_answer s b).reply ≡ Some (spp_packet_spelling (system_packet (after_receive s b) reply_control))

@@ -1,13 +1,15 @@
+//! What became of a packet that was taken in without a reply.
+
 ghost use Rattle.std.specs.Prelude.{◌≡◌, Some, false};
 
 use crate::dropped::Dropped;
 
-/// What became of a packet that was taken in without an answer.
+/// What became of a packet that was taken in without a reply.
 #[derive(Clone, Copy, Debug, PartialEq, Eq)]
 pub struct Input {
     /// How many items were taken: the packet's, with the early ones that follow it, or none.
     pub took: usize,
-    /// Whether the peer is owed a reply: `receive` would have given one.
+    /// Whether a reply is owed to the peer: `receive` would have made one.
     pub owes_reply: bool,
     /// Why the packet's item was neither taken nor kept; `None` where it was, or where the packet brings none.
     pub dropped: Option<Dropped>,

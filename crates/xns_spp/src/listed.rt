@@ -4,9 +4,9 @@ ghost use Rattle.std.specs.Prelude.{◌≡◌, ◌++◌, ◌∷◌, [], OnOk, On
 use std::alloc::AllocError;
 use std::marker::Model;
 
-/// A list of its own, which contracts see as the list of its entries.
+/// An owned list, which contracts see as the list of its entries.
 ///
-/// It is made from a `Vec` and gives it back without taking memory.
+/// `new` makes a list from a `Vec`, and `into_vec` gives the `Vec` back. Neither takes memory.
 #[derive(Debug, Drop)]
 pub struct Listed<T> {
     entries: Vec<T>,
@@ -36,14 +36,14 @@ impl<T: Drop> Listed<T> {
         entries
     }
 
-    /// The entries, to look at.
+    /// The entries, lent.
     pub fn as_slice(&self) -> &[T]
         ensures { result.now ≡ self.now }
     {
         self.entries.as_slice()
     }
 
-    /// One entry more, after the others.
+    /// Appends one entry more. The only error is want of memory, after which the list is as it was.
     pub fn push(&mut self, entry: T) -> Result<(), AllocError>
         ensures ok { OnOk result (self.new ≡ self.old ++ entry ∷ []) }
         ensures err { OnErr result (self.new ≡ self.old) }

@@ -46,7 +46,7 @@ use Rattle.item_world.specs.EndLaws.{EndLaws}
 
 -- ---- an end whose world goes on elsewhere
 
--- with the same calls and items
+-- a caller's end goes on with the same calls and items
 calling_on : {S : Type 0} (p : Parties S) (e : CallingEnd) (w v : CallWorld) (endpoint : Held) → StandsFor endpoint v.world.a → handed_at v.world A ≡ handed_at w.world A → sent_at v.world A ≡ sent_at w.world A → v.made ≡ w.made → v.listed ≡ w.listed
     → IsCalling p e w → IsCalling p (record e { endpoint = endpoint }) v
 calling_on p e w v endpoint stands handed sent made listed h =

@@ -55,7 +55,7 @@ settles_is p side w =
     fold-append (call_stepped p) w (acting_steps side most_steps) (flushing side ∷ [])
     ∙ ap (λ (v : CallWorld). in_world v (flushes v.world side)) (acting_all p w side most_steps)
 
--- packet k came to an end, which answered it and then settles
+-- packet k came to an end, which replied where a reply was owed, and then settles
 pub arrived : {S : Type 0} (p : Parties S) (w : CallWorld) (k : ℕ) (l : Side × World) → landing w.world k ≡ Some l → call_delivers p w k ≡ settles p l.0 (in_world w l.1)
 arrived p w k l is =
     ap (λ (o : Option (Side × World)). all_call_stepped p w (call_arrival_steps k o)) is

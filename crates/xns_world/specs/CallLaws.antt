@@ -8,14 +8,14 @@ use Rattle.xns_world.specs.CallWorld.{Parties}
 use Rattle.item_world.specs.EndLaws.{EndLaws}
 use Rattle.item_world.specs.Laws.{EachStepKeepsTheOrder, ForeignBytesChangeNothing, NetworkLaws}
 
--- of an end, of its network, and of a server's session that began in the state s
+-- the laws of an end, of its network, and of a server's session that began in the state s
 pub record ServerLaws {S : Type 0} (serving : Serving S) (s : S) : Type 0 where
   pub ends : EndLaws
   pub network : NetworkLaws
   pub pieces : SessionItemsCanBeSent serving s
   pub faults : FirstFaultStays
 
--- of each moment of the network and of these parties' sessions
+-- the laws of each moment of the network and of these parties' sessions
 pub record PartiesLaws {S : Type 0} (p : Parties S) : Type 0 where
   pub world : EachStepKeepsTheOrder
   pub foreign : ForeignBytesChangeNothing
@@ -26,7 +26,7 @@ pub record PartiesLaws {S : Type 0} (p : Parties S) : Type 0 where
   pub answering : ServerLaws p.serving p.service
   pub fitting : All IsFitting p.calls
 
--- of a server's session in each state that its service can be in, and of all parties with that service
+-- the laws hold of a server's session in each state that its service can be in, and of all parties with that service
 abbrev pub ServerLawsAreGiven : {S : Type 0} → Serving S → (S → Type 0) → Type 0
 ServerLawsAreGiven {S} serving IsServiceState = (s : S) → IsServiceState s → ServerLaws serving s
 

@@ -53,8 +53,8 @@ abbrev pub with_endpoint : {S : Type 0} → CallPair S → Side → Held → Cal
 with_endpoint e A x = record e { a = record e.a { endpoint = x } }
 with_endpoint e B x = record e { b = record e.b { endpoint = x } }
 
--- an endpoint of the pair acts on the network, and nothing else of the pair changes; under the laws of an end: where both stood for w,
--- they then stand for what w leads to
+-- an endpoint of the pair acts on the network, and nothing else of the pair changes; under the laws of an end: where
+-- the endpoint and the network stood for w, they then stand for what w leads to
 pub record EndpointActs {S : Type 0} (e f : CallPair S) (n m : Network) (side : Side) (leads : World → World → Type 0) : Type 0 where
   pub pair : f ≡ with_endpoint e side (endpoint_at f side)
   pub stands : EndLaws → (w v : World) → leads w v → IsEnd (endpoint_at e side) n w side → IsEnd (endpoint_at f side) m v side

@@ -13,7 +13,8 @@ use Rattle.xns_world.specs.CallOrder.{CallsHold}
 use Rattle.xns_world.specs.CallWorld.{Parties, CallWorld, CallStep, arrival, ticking, acting, flushing, call_start, call_stepped}
 use Rattle.xns_world.specs.CallWorld.{all_call_stepped, call_happens, run_calls, carried_at, seen_at, outcomes_read}
 
--- an end ticks or flushes, a side takes a step of its own, or an end answers one of the packets that are sent from number n on
+-- an end ticks or flushes, a side takes a step of its own, or one of the packets that are sent from number n on comes
+-- to an end
 abbrev pub IsPlainCall : ℕ → CallStep → Type 0
 IsPlainCall n (arrival k) = n ≤ k
 IsPlainCall n (ticking side) = Unit {0}

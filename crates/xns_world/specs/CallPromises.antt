@@ -42,7 +42,7 @@ pub record CallsComeInOrder {S : Type 0} (serving : Serving S) (IsServiceState :
       Entry (decides p.serving) (ledger_of p w) (ledger_of p (call_stepped p w step))
   pub keeps : (p : Parties S) (w : CallWorld) (steps : List CallStep) → AreParties serving IsServiceState p → CallsHold p w →
       CallsHold p (all_call_stepped p w steps)
-  -- after any events
+  -- what is true between events is true after any events
   pub between : (p : Parties S) (setup : Setup) (events : List Event) → AreParties serving IsServiceState p → IsSetup setup → IsGood setup
       → IsBetween p (run_calls p setup events)
   -- a side settles wherever it is let

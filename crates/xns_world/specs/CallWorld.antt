@@ -89,16 +89,17 @@ or_caller p w side None = caller_step p w side
 abbrev pub step_with : {S : Type 0} → Parties S → CallWorld → Side → Option Item → Option CallWorld
 step_with p w side o = or_caller p w side (end_step_with (end_of w.world side) o)
 
--- the first of these that applies: the session has an item out and the end isn't full, and it is sent; the session has none out and
--- an item waits, and it is fed to the session; an outcome is there, and it is listed; no call is unanswered, and the next is made
+-- the first step that applies: the session has an item out and the end isn't full, and it is sent; the session has none
+-- out and an item waits, and it is fed to the session; an outcome is there, and it is listed; no call is unanswered,
+-- and the next is made
 abbrev pub step : {S : Type 0} → Parties S → Side → CallWorld → Option CallWorld
 step p side w = step_with p w side (next_out p w side)
 
 -- ---- small steps
 
--- packet k comes to an end, which answers it; bytes from elsewhere come to an end; an end ticks; a side takes the first of its
--- steps that applies, where one does; an end flushes, sends its first item again, or sends a system packet. No event of a play has the
--- last two.
+-- packet k comes to an end, which replies where a reply is owed; bytes from elsewhere come to an end; an end ticks; a
+-- side takes the first of its steps that applies, where one does; an end flushes, sends its first item again, or sends
+-- a system packet. No event of a play has the last two.
 pub data CallStep : Type 0 where
   arrival : ℕ → CallStep
   noise : Side → List ℕ → CallStep
@@ -133,7 +134,7 @@ settling_steps side = acting_steps side most_steps ++ flushing side ∷ []
 abbrev pub settles : {S : Type 0} → Parties S → Side → CallWorld → CallWorld
 settles p side w = all_call_stepped p w (settling_steps side)
 
--- packet k is answered, and then the side that it came to settles; nothing happens where it comes to none
+-- packet k comes to an end, and then the side that it came to settles; nothing happens where the packet comes to none
 abbrev pub call_arrival_steps : ℕ → Option (Side × World) → List CallStep
 call_arrival_steps k None = []
 call_arrival_steps k (Some l) = arrival k ∷ settling_steps l.0
@@ -146,7 +147,7 @@ abbrev pub call_deliveries : {S : Type 0} → Parties S → CallWorld → List �
 call_deliveries p w [] = []
 call_deliveries p w (k ∷ ks) = call_arrival_steps k (landing w.world k) ++ call_deliveries p (call_delivers p w k) ks
 
--- items are sent and taken by the sessions alone
+-- the small steps of an event; `Send` and `Take` have none: the sessions alone send and take items
 abbrev pub call_steps_of : {S : Type 0} → Parties S → CallWorld → Event → List CallStep
 call_steps_of p w (Deliver k) = call_arrival_steps k (landing w.world k)
 call_steps_of p w Rest = call_deliveries p w (undelivered 0 w.world.bag)

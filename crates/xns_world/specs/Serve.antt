@@ -31,14 +31,14 @@ settles_from w v = answers_by w (after_flush v) (flush_answer v)
 abbrev pub serve_settles : {S : Type 0} → Serving S → S → Served → Served
 serve_settles serving s w = settles_from w (stepped_out (serve_step serving s) w.end)
 
--- a packet, ours or not, comes to the end, which answers it
+-- a packet, of the connection or not, comes to the end, and the reply to it, if one is owed, is sent
 abbrev pub serve_receives : Served → List ℕ → Served
 serve_receives w b = answers_by w (after_receive w.end b) (option_to_list (receive_answer w.end b).reply)
 
 abbrev pub serve_hears : {S : Type 0} → Serving S → S → Served → List ℕ → Served
 serve_hears serving s w b = serve_settles serving s (serve_receives w b)
 
--- the server's end of a connection that begins so
+-- the server's end of a connection that begins in this setup
 abbrev pub serve_start : Setup → Served
 serve_start setup = record { end = (start setup).b; replies = [] }
 

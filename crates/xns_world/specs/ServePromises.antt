@@ -30,9 +30,10 @@ IsOutShort serving s v = length (bytes_in (items_out serving s v)) ≤ most_byte
 pub record IsServedWithin {S : Type 0} (serving : Serving S) (s : S) (w : Served) : Type 0 where
   -- at most window items wait or are early, and at most backlog are unacknowledged
   pub end : IsState w.end
-  -- where its session has met no fault, it keeps fewer than four bytes of the versions, or at most 131,072 bytes of an incoming message
+  -- where the end's session has met no fault, the session keeps fewer than four bytes of the versions, or at most
+  -- 131,072 bytes of an incoming message
   pub kept : (p : Phase) → server_ending (handed_up_by w.end) ≡ Ok p → IsBounded p
-  -- the answer to whatever call it decides next has at most 131,072 bytes
+  -- the answer to whatever call the session decides next has at most 131,072 bytes
   pub answer : (transaction : ℕ) (call : RawCall) → HasWords call
       → IsShort (answer_message transaction (decision serving (server_state serving s (handed_up_by w.end)) call))
   -- while an item is out, a step of the end hands no other up to the session, so no call is decided
@@ -47,9 +48,9 @@ ServedEndsSettle {S} serving IsServiceState = (s : S) (v : State) → IsServiceS
     → serve_step serving s (stepped_out (serve_step serving s) v) ≡ None
 
 pub record ServedEndsStayWithinBounds {S : Type 0} (serving : Serving S) (IsServiceState : S → Type 0) : Type 0 where
-  -- after whatever packets
+  -- a server's end is within its bounds after whatever packets
   pub ends : (s : S) (setup : Setup) (packets : List (List ℕ)) → IsServiceState s → IsSetup setup → IsGood setup → All AreBytes packets
       → IsServedWithin serving s (serve serving s setup packets)
-  -- after each of the steps by which an end settles
+  -- an end and what is out are within their bounds after each of the steps by which the end settles
   pub settling : (s : S) (v : State) (n : ℕ) → IsServiceState s → IsState v → IsOutShort serving s v
       → IsState (steps (serve_step serving s) v n) × IsOutShort serving s (steps (serve_step serving s) v n)

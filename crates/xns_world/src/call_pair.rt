@@ -1,3 +1,5 @@
+//! The two ends of a play of calls, side by side.
+
 ghost use Rattle.std.specs.Prelude.{◌≡◌, ◌<◌, length, map, OnOk, Some};
 ghost use Rattle.courier_calls.specs.Calls.{seen_model};
 ghost use Rattle.courier_calls.specs.Server.{call_of};
@@ -49,7 +51,7 @@ impl<'a, S: Service> CallPair<'a, S> {
         }
     }
 
-    /// Sends again what isn't acknowledged at this side, or asks.
+    /// Sends again what isn't acknowledged at this side, or asks the peer for a reply.
     pub fn tick(
         &mut self,
         alloc: Global,
@@ -64,7 +66,7 @@ impl<'a, S: Service> CallPair<'a, S> {
         }
     }
 
-    /// Takes in a packet of the network at this side and answers it.
+    /// Takes in a packet of the network at this side, and sends the reply, if one is owed.
     pub fn land(
         &mut self,
         alloc: Global,

@@ -1,3 +1,5 @@
+//! Plays calls between two ends over a network.
+
 ghost use Rattle.std.specs.Prelude.{◌≡◌, ◌≤◌, length, map, All, OnOk, IfOk, fold};
 ghost use Rattle.courier_calls.specs.Table.{table_model, IsCheckedTable};
 ghost use Rattle.courier_calls.specs.Calls.{call_model, raw_call, seen_model, outcomes, CallFits};
@@ -86,8 +88,8 @@ impl<'a, S: Service> CallPlay<'a, S> {
         self.settle(alloc, calls, side)
     }
 
-    /// Bytes from elsewhere change nothing: those of the connection are passed over, and all others are dropped. Items are sent and taken
-    /// by the sessions alone.
+    /// Lets an event happen. Bytes from elsewhere change nothing: packets of the connection are passed over, and all
+    /// other bytes are dropped. `Send` and `Take` change nothing: the sessions alone send and take items.
     fn happen(&mut self, alloc: Global, calls: &[Call], event: &Event) -> Result<(), AllocError>
         ensures { OnOk result (CallStepsBy S.serving calls.now self.old self.new (λ p w. call_happens p w event.now)) }
     {
@@ -101,7 +103,7 @@ impl<'a, S: Service> CallPlay<'a, S> {
         }
     }
 
-    /// All these events in turn.
+    /// Lets all these events happen in turn.
     fn happen_all(
         &mut self,
         alloc: Global,

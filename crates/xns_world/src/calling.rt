@@ -1,3 +1,5 @@
+//! The caller's end in a play, which takes one step after another.
+
 ghost use Rattle.std.specs.Prelude.{◌≡◌, ◌<◌, ◌==◌, ◌&&◌, nat_lt, length, [], map, OnOk, IfOk, slice_get, Some, None, true, false};
 ghost use Rattle.std.specs.Prelude.{if◌then◌else◌};
 ghost use Rattle.courier_calls.specs.Calls.{raw_call};
@@ -64,7 +66,7 @@ impl<'a> CallingEnd<'a> {
         }
     }
 
-    /// Feeds the next item that waits to the session; whether there was one.
+    /// Feeds the next item that waits to the session, and returns whether there was one.
     fn feed<S: Service>(&mut self, alloc: Global) -> Result<bool, AllocError>
         requires { self.old.caller.out ≡ [] }
         ensures { IfOk result (λ b. (p : Parties S) (w : CallWorld) → PartiesLaws p → CallsHold p w → IsCalling p self.old w →
@@ -79,7 +81,7 @@ impl<'a> CallingEnd<'a> {
         }
     }
 
-    /// Lists the outcome that is there; whether there was one.
+    /// Lists the outcome that is there, and returns whether there was one.
     fn list<S: Service>(&mut self) -> Result<bool, AllocError>
         ensures { IfOk result (λ b. (p : Parties S) (w : CallWorld) → CallsHold p w → IsCalling p self.old w →
             (b ≡ has_outcome p w) × IsCalling p self.new (if b then lists_outcome w else w)) }
@@ -91,7 +93,7 @@ impl<'a> CallingEnd<'a> {
         Ok(true)
     }
 
-    /// Makes the next call, where none is unanswered and calls remain; whether it did.
+    /// Makes the next call, where no call is unanswered and calls remain, and returns whether it did.
     fn call<S: Service>(&mut self, alloc: Global, calls: &[Call]) -> Result<bool, AllocError>
         ensures { IfOk result (λ b. (p : Parties S) (w : CallWorld) → PartiesLaws p → CallsHold p w → p.calls ≡ map raw_call calls.now
             → has_outcome p w ≡ false → IsCalling p self.old w →
@@ -109,7 +111,7 @@ impl<'a> CallingEnd<'a> {
         }
     }
 
-    /// Lists an outcome, or else makes a call.
+    /// Lists an outcome, or else makes a call, and returns whether it did either.
     fn act<S: Service>(&mut self, alloc: Global, calls: &[Call]) -> Result<bool, AllocError>
         ensures { IfOk result (λ b. (p : Parties S) (w : CallWorld) → PartiesLaws p → CallsHold p w → p.calls ≡ map raw_call calls.now
             → IsCalling p self.old w →
@@ -121,7 +123,7 @@ impl<'a> CallingEnd<'a> {
         self.call::<S>(alloc, calls)
     }
 
-    /// Feeds an item, or else lists an outcome, or else makes a call.
+    /// Feeds an item, or else lists an outcome, or else makes a call, and returns whether it did one of these.
     fn feed_or_act<S: Service>(&mut self, alloc: Global, calls: &[Call]) -> Result<bool, AllocError>
         requires { self.old.caller.out ≡ [] }
         ensures { IfOk result (λ b. (p : Parties S) (w : CallWorld) → PartiesLaws p → CallsHold p w → p.calls ≡ map raw_call calls.now
@@ -134,7 +136,7 @@ impl<'a> CallingEnd<'a> {
         self.act::<S>(alloc, calls)
     }
 
-    /// Takes the first step that applies; whether one did.
+    /// Takes the first step that applies, and returns whether one did.
     fn step<S: Service>(&mut self, alloc: Global, calls: &[Call]) -> Result<bool, AllocError>
         ensures { IfOk result (λ b. (p : Parties S) (w : CallWorld) → PartiesLaws p → CallsHold p w → p.calls ≡ map raw_call calls.now
             → IsCalling p self.old w →

@@ -1,3 +1,5 @@
+//! Gives a server's end packets, which may be anything.
+
 ghost use Rattle.std.specs.Prelude.{◌≡◌, ◌<◌, ◌++◌, ℕ, List, fold, All, OnOk, IfOk};
 ghost use Rattle.std.specs.Option.{option_to_list};
 ghost use Rattle.xns_idp.specs.Packet.{AreBytes};
@@ -18,7 +20,7 @@ use std::alloc::{AllocError, Global};
 use xns_idp::known::known_bytes;
 use xns_spp::Bytes;
 
-/// A server's end, and every packet that it sent.
+/// A server's end, and every packet that the end sent.
 #[derive(Drop)]
 pub struct ServePlay<'a, S: Service> {
     b: ServingEnd<'a, S>,
@@ -55,7 +57,7 @@ impl<'a, S: Service> ServePlay<'a, S> {
         append(&mut self.replies, packets)
     }
 
-    /// A packet comes, ours or not, and the end answers it.
+    /// A packet comes, of the connection or not, and the reply to it, if one is owed, joins the replies.
     fn receive(&mut self, alloc: Global, bytes: &[u8]) -> Result<(), AllocError>
         ensures { OnOk result (ServeStepsBy S.serving self.old self.new (λ s w. serve_receives w bytes.now)) }
     {
@@ -63,7 +65,7 @@ impl<'a, S: Service> ServePlay<'a, S> {
         append_reply(&mut self.replies, reply)
     }
 
-    /// A packet comes, the end answers it and settles.
+    /// A packet comes, the end replies to it where a reply is owed, and settles.
     fn serve_one(&mut self, alloc: Global, bytes: &[u8]) -> Result<(), AllocError>
         ensures { OnOk result (ServeStepsBy S.serving self.old self.new (λ s w. serve_hears S.serving s w bytes.now)) }
     {
@@ -71,7 +73,7 @@ impl<'a, S: Service> ServePlay<'a, S> {
         self.settle(alloc)
     }
 
-    /// All these packets in turn.
+    /// All these packets come in turn, and the end settles after each.
     fn serve_each(&mut self, alloc: Global, packets: &[Bytes]) -> Result<(), AllocError>
         ensures { OnOk result (ServeStepsBy S.serving self.old self.new (λ s w. fold (serve_hears S.serving s) w packets.now)) }
     {
@@ -112,7 +114,7 @@ impl<'a, S: Service> ServePlay<'a, S> {
     }
 }
 
-/// Appends a reply to those before, where there is one.
+/// Appends a reply, where there is one, to the replies before it.
 fn append_reply(replies: &mut Vec<Bytes>, reply: Option<Bytes>) -> Result<(), AllocError>
     ensures { OnOk result (replies.new.items ≡ replies.old.items ++ option_to_list reply) }
 {
@@ -122,7 +124,7 @@ fn append_reply(replies: &mut Vec<Bytes>, reply: Option<Bytes>) -> Result<(), Al
     Ok(())
 }
 
-/// Appends packets to those before.
+/// Appends packets to the replies before them.
 fn append(replies: &mut Vec<Bytes>, packets: Vec<Bytes>) -> Result<(), AllocError>
     ensures { OnOk result (replies.new.items ≡ replies.old.items ++ packets.items) }
 {
@@ -160,7 +162,7 @@ pub fn serve_bytes<S: Service>(
     ensures trace { IfOk result (λ t. IsServeTrace S.serving service t (serve S.serving service setup.now packets.now)) }
     ensures heard { IfOk result (λ t. IsOfConversation S.serving service t) }
     ensures within { IfOk result (λ t. HasBoundedEnd t (serve S.serving service setup.now packets.now)) }
-    // After each of the packets.
+    // After each of the packets the server's end is within its bounds.
     ensures always { IfOk result (λ t. (come : List (List ℕ)) → Begins come packets.now
         → IsServedWithin S.serving service (serve S.serving service setup.now come)) }
 {

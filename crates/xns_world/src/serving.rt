@@ -1,3 +1,5 @@
+//! The server's end in a play, which takes one step after another.
+
 ghost use Rattle.std.specs.Prelude.{◌≡◌, ◌++◌, ◌∷◌, List, nat_lt, [], OnOk, IfOk, Some, None, true, false, if◌then◌else◌};
 ghost use Rattle.courier_calls.specs.Table.{table_model, IsCheckedTable};
 ghost use Rattle.courier_calls.specs.Server.{server_state};
@@ -84,7 +86,7 @@ impl<'a, S: Service> ServingEnd<'a, S> {
         }
     }
 
-    /// Hands up the next item that waits and feeds it to the session; whether there was one.
+    /// Hands up the next item that waits, feeds it to the session, and returns whether there was one.
     fn feed(&mut self, alloc: Global) -> Result<bool, AllocError>
         requires { self.old.server.out ≡ [] }
         ensures { IfOk result (λ b. (s : S) (v : State) → ServerLaws S.serving s → IsServed S.serving s self.old v →
@@ -99,7 +101,7 @@ impl<'a, S: Service> ServingEnd<'a, S> {
         Ok(true)
     }
 
-    /// Takes the first step that applies; whether one did.
+    /// Takes the first step that applies, and returns whether one did.
     fn step(&mut self, alloc: Global) -> Result<bool, AllocError>
         ensures { IfOk result (λ b. (s : S) (v : State) → ServerLaws S.serving s → IsServed S.serving s self.old v →
             Stepped b v (serve_step S.serving s v) (IsServed S.serving s self.new)) }
@@ -143,7 +145,7 @@ fn list(alloc: Global, handed: &mut Items, item: &Item) -> Result<(), AllocError
     handed.push(copied(alloc, item)?)
 }
 
-/// Notes a session's fault, unless it says that there was one before; want of memory is the caller's.
+/// Notes a session's fault, unless the fault says that there was one before. Want of memory is not noted, but returned.
 fn note(first: &mut Option<SessionFault>, fault: SessionFault) -> Result<(), AllocError>
     ensures { OnOk result (fault_noted fault first.old first.new) }
 {
