@@ -203,7 +203,8 @@ fn take_more(pieces: &mut Pieces, skipped: usize, body: Vec<u8>) -> Result<(), S
     Ok(())
 }
 
-/// Takes in bytes directly behind the version range: where the session is then. No bytes change nothing.
+/// Takes in bytes directly behind the version range: where the session is then. Where there are no bytes, nothing is
+/// changed.
 #[tactic(auto, using(crate::proofs::Ranges::fresh_bytes, crate::proofs::Ranges::no_more_bytes))]
 #[inline(always)]
 fn take_first(pieces: &mut Pieces, body: Vec<u8>) -> Result<Stage, SessionFault>
