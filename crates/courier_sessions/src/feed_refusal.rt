@@ -15,8 +15,8 @@ pub enum FeedRefusal {
     /// The conversation has stopped before.
     #[error("the conversation has stopped")]
     Stopped,
-    /// A call waits for its answer, or what is out was not picked up. Only the side that is called is ever busy. The
-    /// item can be fed later.
+    /// A call waits for its answer, or what is out was not picked up. Only the side that is called refuses an item for
+    /// this reason. The item can be fed later.
     #[error("a call waits for its answer, or what is out was not picked up")]
     Busy,
     /// The item has over 131,076 bytes, which the versions and the longest message have.
