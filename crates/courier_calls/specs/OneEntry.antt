@@ -1,5 +1,5 @@
--- What a service's law needs of a table of one entry: a call that is listed, and whose value fits its arguments, is of that entry, its
--- version within the range.
+-- What a service's law needs of a table of one entry: a call that is listed, and whose value fits its arguments, names
+-- a procedure of the entry, and a version within the range of the entry.
 use Rattle.std.proofs.Common.{ℕ, Bool, true, false, Result, Some, None, Err, [], ◌∷◌}
 use Rattle.std.specs.Prelude.{if◌then◌else◌, ◌||◌, nat_lt}
 use Rattle.courier_types.specs.Value.{ValueModel}
@@ -7,7 +7,7 @@ use Rattle.courier_calls.specs.Table.{EntryModel, ProcedureModel, procedure_of}
 use Rattle.courier_messages.specs.Rejects.{no_such_version, version_words}
 use Rattle.courier_calls.specs.Calls.{SeenModel, in_entries, in_procedures, HasArguments}
 
--- what is so of the procedures of the entry is so of the table
+-- P holds of the procedure of this number, if the entry has the procedure and the value fits its arguments
 abbrev pub OfEntry : (Result (EntryModel × ProcedureModel) SeenModel → Type 0) → EntryModel → ℕ → ValueModel → Type 0
 OfEntry P e procedure v = HasArguments (in_procedures e (procedure_of e.procedures procedure)) v
     → P (in_procedures e (procedure_of e.procedures procedure))

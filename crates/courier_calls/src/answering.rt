@@ -18,14 +18,14 @@ pub struct Target {
     pub procedure: u16,
 }
 
-/// The message as a reject, with its words.
+/// Reads the message as a reject of this reason, with its words.
 fn read_reject(alloc: Global, reason: u16, message: &PiecedMessage) -> Result<Seen, SessionFault>
     ensures { IsReadAs result (Ok (SeenModel.rejected reason (words_in message.now))) }
 {
     Ok(Seen::Rejected(reason, message.words(alloc)?))
 }
 
-/// The results that the message spells, of the procedure that was called.
+/// Reads the message as the results of the procedure that was called.
 #[tactic(auto, using(crate::proofs::Found::found_checked))]
 fn read_return(
     alloc: Global,
@@ -46,7 +46,7 @@ fn read_return(
     }
 }
 
-/// The error of that number that the message spells, of the program that was called.
+/// Reads the message as the error of this number, of the program that was called.
 #[tactic(auto, using(crate::proofs::Found::found_checked, crate::proofs::Found::error_checked))]
 fn read_abort(
     alloc: Global,
@@ -71,7 +71,8 @@ fn read_abort(
     }
 }
 
-/// The message as the answer to the call that waits.
+/// Reads the message as the answer to the call that waits. An `Err` says why the message is no answer, or that memory
+/// was refused.
 #[tactic(auto, unfolding(crate::specs::Caller::answer_to))]
 pub fn read_answer(
     alloc: Global,

@@ -17,13 +17,13 @@ use std::alloc::{AllocError, Global};
 /// Why a call is rejected: its program is not listed.
 const NO_SUCH_PROGRAM: u16 = 0;
 
-/// The program is not listed in this version.
+/// Why a call is rejected: its program is not listed in this version.
 const NO_SUCH_VERSION: u16 = 1;
 
-/// The program has no such procedure.
+/// Why a call is rejected: its program has no such procedure.
 const NO_SUCH_PROCEDURE: u16 = 2;
 
-/// The words are no arguments of the procedure.
+/// Why a call is rejected: its words are no arguments of the procedure.
 const INVALID_ARGUMENTS: u16 = 3;
 
 /// The words of the answer to a call that was carried out, in the spare room.

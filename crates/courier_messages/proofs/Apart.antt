@@ -67,7 +67,7 @@ nothing_said = omega (arith, ap (length {A = Message}) (conversation_is []))
 
 -- ---- a part of what was cut ends fewer messages
 
--- these items are a part of one message's, without the last, or all of them and some of what follows
+-- the items f are all items of one message, and then some of what follows
 record Goes (all rest f r : List Item) : Type 0 where
   more : List Item
   front : f ≡ all ++ more

@@ -25,7 +25,7 @@ pub bytes_length : (ws : List ℕ) → length (bytes_of ws) ≡ 2 * length ws
 bytes_length [] = refl
 bytes_length (w ∷ ws) = omega (arith, bytes_length ws)
 
--- so many words are twice as many bytes
+-- words are twice as many bytes: the bytes of the first n words are the first 2n bytes
 front_bytes : (n m : ℕ) (ws : List ℕ) → m ≡ 2 * n → take m (bytes_of ws) ≡ bytes_of (take n ws)
 front_bytes zero m ws e = let k : m ≡ 0 = omega arith in ap (λ (i : ℕ). take i (bytes_of ws)) k
 front_bytes (suc n) m [] e = let k : m ≡ suc (m - 1) = omega arith in ap (λ (i : ℕ). take i []) k

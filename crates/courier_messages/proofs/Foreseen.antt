@@ -26,7 +26,7 @@ foreseen_open p q x h l r =
 with_mark : (x : Item) → x.stream ≡ 0 → x.last ≡ true → signs x ≡ map byte x.body ++ mark ∷ []
 with_mark x h l = signs_open x h ∙ ap (λ (b : Bool). map byte x.body ++ end_of b) l
 
--- behind its bytes the mark leads on, and ends what it ends
+-- an item with a mark leads where the mark leads behind the bytes of the item
 ran_to_mark : (p q : Phase) (x : Item) → x.stream ≡ 0 → x.last ≡ true → run p (map byte x.body) ≡ Ok q → run p (signs x) ≡ step q mark
 ran_to_mark p q x h l r =
     ap (run p) (with_mark x h l) ∙ run_append p (map byte x.body) (mark ∷ [])
@@ -44,7 +44,8 @@ foreseen_mark seen p q x h l r f =
     subst (λ (t : Result Phase SessionFault). Foresees seen t (said p (signs x))) (sym (ran_to_mark p q x h l r))
     (subst (λ (ms : List Message). Foresees seen (step q mark) ms) (sym (said_to_mark p q x h l r)) f)
 
--- bytes that lead where a mark ends a message, where none are kept
+-- where no bytes are kept and a mark behind an item's bytes ends a message, the item with the mark leads to where none
+-- are kept
 pub whole_run : (p : Phase) (stage : Stage) (skipped : ℕ) (pieces body : List ℕ) → length pieces ≡ 0
     → run p (map byte body) ≡ Ok (phase_in stage (drop skipped (kept_at stage (pieces ++ body))))
     → step (phase_in stage (drop skipped (kept_at stage body))) mark ≡ Ok (inside []) → run p (signs (item_of 0 true body)) ≡ Ok (inside pieces)

@@ -11,7 +11,7 @@ use Rattle.courier_messages.proofs.Cuts.{bytes_length, the_last}
 pub word_put : (old : List ℕ) (high low : ℕ) (more : List ℕ) → ((old ++ high ∷ []) ++ low ∷ []) ++ more ≡ old ++ (high ∷ low ∷ more)
 word_put old high low more = append_assoc (old ++ high ∷ []) (low ∷ []) more ∙ append_assoc old (high ∷ []) (low ∷ more)
 
--- a message's bytes are its head's and its words'
+-- a message's bytes are those of its head, then those of its words
 pub message_is_its_parts : (head : Head) (words : List ℕ) → message_bytes (with_words head words) ≡ bytes_of (head_words head) ++ bytes_of words
 message_is_its_parts (heads.Call t p v q) words = refl
 message_is_its_parts (heads.Reject t r) words = refl

@@ -65,7 +65,7 @@ pub written_cut : (m : Message) → written (cut m) ≡ marked (message_bytes m)
 unfolding cut_bytes
 written_cut m = written_pieces ((length (message_bytes m) - 1) / 534) (message_bytes m)
 
--- these signs lead from p to q, and end these messages
+-- the signs lead from p to q, and end the messages ms
 pub record Leads (p : Phase) (xs : List Sign) (q : Phase) (ms : List Message) : Type 0 where
   pub run : run p xs ≡ Ok q
   pub said : said p xs ≡ ms

@@ -18,7 +18,7 @@ IsBounded-prop (opening bytes) = le_prop
 IsBounded-prop fresh = Unit-prop
 IsBounded-prop (inside bytes) = le_prop
 
--- so many words a message that is made has room for at first
+-- how many words a message that is made has room for at first
 abbrev pub first_room : ℕ
 first_room = FIRST_ROOM
 

@@ -1,5 +1,5 @@
--- What the side that is called makes of its peer's messages (XSIS 038112, Courier, Remote procedures and errors). That a message
--- that isn't a call is a fault of its own, before those behind it, is this project's rule.
+-- What the side that is called makes of its peer's messages (XSIS 038112, Courier, Remote procedures and errors). A
+-- message that isn't a call is a fault, and comes before the faults behind it: that is this project's rule.
 use Rattle.std.specs.Prelude.{ℕ, List, [], ◌∷◌, map, Bool, true, false, if◌then◌else◌, Result, Err}
 use Rattle.xns_spp.specs.declared.item.Item.{Item}
 use Rattle.courier_messages.specs.declared.fault.SessionFault.{SessionFault}

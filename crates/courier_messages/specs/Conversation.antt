@@ -37,11 +37,11 @@ abbrev pub agreed_unless : Option SessionFault → List Sign → VersionRange
 agreed_unless (Some e) text = refused e
 agreed_unless None text = agreed text
 
--- versions from low to high
+-- the text behind a version range from low to high, or the fault of the range
 abbrev pub agreed_range : ℕ → ℕ → List Sign → VersionRange
 agreed_range low high text = agreed_unless (versions_fault low high) text
 
--- fewer than four bytes, and what stands behind them
+-- fewer than four bytes of a version range, and the text behind them
 abbrev pub too_few : List ℕ → List Sign → VersionRange
 too_few bytes [] = unread bytes
 too_few bytes (byte b ∷ text) = unread (bytes ++ b ∷ [])
@@ -65,7 +65,7 @@ without_mark (foreign kind ∷ text) = foreign kind ∷ text
 
 -- the messages
 
--- what a piece says; that it is too long comes before all else
+-- the message that a piece says, or its fault; that a piece is too long comes before all other faults
 unfoldable pub said_by : List ℕ → Result Message MessageFault
 said_by piece = if nat_lt most_bytes (length piece) then Err TooLong else message_of piece
 
@@ -87,7 +87,7 @@ unfoldable pub fault_in : List (List ℕ) → Option SessionFault → Option Ses
 fault_in [] later = later
 fault_in (piece ∷ more) later = first_of (said_by piece) (fault_in more later)
 
--- behind the last mark: too many bytes, or an item of another datastream
+-- the fault behind the last mark, if there is one: too many bytes, or else an item of another datastream
 unfoldable pub fault_of_rest : List ℕ → Option ℕ → Option SessionFault
 fault_of_rest bytes other = if nat_lt most_bytes (length bytes) then Some (BadMessage TooLong) else option_map Stream other
 
@@ -109,14 +109,15 @@ fault_of (agreed text) = fault_behind [] (without_mark text)
 unfoldable pub conversation : List Item → List Message
 conversation items = messages_of (version_range (written items))
 
--- its first fault
+-- the first fault of a conversation
 unfoldable pub conversation_fault : List Item → Option SessionFault
 conversation_fault items = fault_of (version_range (written items))
 
 -- what is to be kept
 
--- What a session keeps of the text: the bytes of a version range that isn't read, that nothing stands behind it, or
--- the bytes behind the last mark.
+-- What a session keeps of the text. `opening`: the bytes of a version range that isn't read yet. `fresh`: no bytes,
+-- since nothing stands behind the version range. `inside`: the bytes behind the last mark, or behind the range before
+-- any mark.
 pub data Phase : Type 0 where
   opening : List ℕ → Phase
   fresh : Phase

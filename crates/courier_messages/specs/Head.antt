@@ -23,23 +23,24 @@ abbrev pub heads_in : Result Message MessageFault → Result Head MessageFault
 heads_in (Ok m) = Ok (head_in m)
 heads_in (Err e) = Err e
 
--- what was read, with the words that are left
+-- a head was read, which with the words that are left is the message that was to be read; or the fault of that message
+-- was met
 abbrev pub ReadsHead : Result Head MessageFault → List ℕ → Result Message MessageFault → Type 0
 ReadsHead (Ok head) left read = read ≡ Ok (with_words head left)
 ReadsHead (Err e) left read = read ≡ Err e
 
--- a message's words
+-- the words that stand behind a message's head
 abbrev pub words_in : Message → List ℕ
 words_in (messages.Call transaction program version procedure words) = words
 words_in (messages.Reject transaction reason words) = words
 words_in (messages.Return transaction words) = words
 words_in (messages.Abort transaction error words) = words
 
--- the words that stand before them
+-- the words of a head
 abbrev pub head_words : Head → List ℕ
 head_words head = message_words (with_words head [])
 
--- how many words stand before them
+-- how many words a head has
 abbrev pub head_size : Head → ℕ
 head_size (Call transaction program version procedure) = 6
 head_size (Reject transaction reason) = 3

@@ -13,7 +13,7 @@ abbrev pub pieces_kept : Kept → ℕ
 pieces_kept (One only) = 1
 pieces_kept (Several several) = length several.items
 
--- their bytes
+-- the bytes of the pieces that are kept
 abbrev pub bytes_kept : Kept → List ℕ
 bytes_kept (One only) = only.items
 bytes_kept (Several several) = joined several.items
@@ -23,7 +23,7 @@ phase_in Opening bytes = opening bytes
 phase_in Fresh bytes = fresh
 phase_in Inside bytes = inside bytes
 
--- nothing is skipped, or the version range, and bytes are behind it
+-- nothing is skipped; or the version range is, and there are bytes behind it
 abbrev pub IsSkipped : ℕ → List ℕ → Type 0
 IsSkipped skipped bytes = (skipped ≡ 0) ⊎ ((skipped ≡ range_bytes) × (range_bytes < length bytes))
 
@@ -32,7 +32,7 @@ IsHeld Opening skipped bytes = (skipped ≡ 0) × (length bytes < range_bytes)
 IsHeld Fresh skipped bytes = (skipped ≡ 0) × (bytes ≡ [])
 IsHeld Inside skipped bytes = IsSkipped skipped bytes × (length bytes ≤ most_bytes + skipped)
 
--- what is kept there of the bytes that came
+-- what is kept at a stage of the bytes that came
 abbrev pub kept_at : Stage → List ℕ → List ℕ
 kept_at Opening bytes = bytes
 kept_at Fresh bytes = []

@@ -21,15 +21,15 @@ use Rattle.courier_messages.specs.RawCalls.{transaction_of}
 use Rattle.courier_messages.specs.Called.{calls_of, heard, server_ending}
 use Rattle.courier_messages.specs.Whole.{whole}
 
--- at most 131,072 bytes
+-- the message has at most 131,072 bytes
 abbrev pub IsShort : Message → Type 0
 IsShort m = length (message_words m) ≤ most_words
 
--- the versions, and each message cut
+-- the item of the versions, then each message, cut
 abbrev pub items_of : List Message → List Item
 items_of ms = versions_item ∷ flat_map cut ms
 
--- no fault
+-- a conversation ends without a fault
 abbrev pub IsFaultless : Result Phase SessionFault → Type 0
 IsFaultless (Ok p) = Unit {0}
 IsFaultless (Err e) = ⊥
@@ -40,13 +40,13 @@ pub record IsSendableItem (x : Item) : Type 0 where
   pub plain : x.attention ≡ false
   pub stream : x.stream ≡ 0
 
--- a server that goes on, with one more item
+-- a server that goes on is fed one more item
 pub record GoesOn (fed : List Item) (p : Phase) (item : Item) : Type 0 where
   pub said_then : conversation (fed ++ item ∷ []) ≡ conversation fed ++ said p (signs item)
   pub ends : server_ending (fed ++ item ∷ []) ≡ heard (said p (signs item)) (run p (signs item))
   pub calls_then : calls_of (conversation (fed ++ item ∷ [])) ≡ calls_of (conversation fed) ++ calls_of (said p (signs item))
 
--- a server with a fault, with one more item: the first fault stays, and no call comes behind it
+-- a server that met a fault is fed one more item: the first fault stays, and no call comes behind it
 pub record Stays (fed : List Item) (item : Item) (fault : SessionFault) : Type 0 where
   pub calls : calls_of (conversation (fed ++ item ∷ [])) ≡ calls_of (conversation fed)
   pub ending : server_ending (fed ++ item ∷ []) ≡ Err fault

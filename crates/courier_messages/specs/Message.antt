@@ -10,14 +10,14 @@ use Rattle.courier_messages.specs.declared.message.Message.{Message}
 use Rattle.courier_messages.specs.declared.message.Message.TheVariants.{Call, Reject, Return, Abort}
 use Rattle.courier_messages.specs.declared.reading.TheConstants.{MOST_BYTES}
 
--- a message has at most so many words, and so many bytes
+-- how many words, and how many bytes, a message has at most
 abbrev pub most_words : ℕ
 most_words = 65536
 
 abbrev pub most_bytes : ℕ
 most_bytes = MOST_BYTES
 
--- what kind of message it is, its first word
+-- the kinds of message: the first word of a message says its kind
 abbrev pub call_kind : ℕ
 call_kind = 0
 
@@ -49,7 +49,7 @@ IsMessage (Reject transaction reason words) = (transaction < 2 ^ 16) × (reason 
 IsMessage (Return transaction words) = (transaction < 2 ^ 16) × AreWords words
 IsMessage (Abort transaction error words) = (transaction < 2 ^ 16) × (error < 2 ^ 16) × AreWords words
 
--- these words, all of them, say the message
+-- the message is said by the words, from the first to the last
 pub record SpellsMessage (m : Message) (words : List ℕ) : Type 0 where
   pub spells : words ≡ message_words m
   pub numbers : IsMessage m

@@ -14,7 +14,7 @@ abbrev pub fresh_unless : Option SessionFault → Result Phase SessionFault
 fresh_unless (Some e) = Err e
 fresh_unless None = Ok fresh
 
--- the versions from low to high
+-- the phase behind a version range from low to high, or the fault of the range
 abbrev pub agreement : ℕ → ℕ → Result Phase SessionFault
 agreement low high = fresh_unless (versions_fault low high)
 
@@ -26,7 +26,7 @@ abbrev pub closed : Result Message MessageFault → Result Phase SessionFault
 closed (Ok m) = Ok (inside [])
 closed (Err e) = Err (BadMessage e)
 
--- one more sign
+-- the phase behind one more sign, or the fault that the sign brings
 abbrev pub step : Phase → Sign → Result Phase SessionFault
 step p (foreign kind) = Err (Stream kind)
 step (opening bytes) (byte b) = opened (bytes ++ b ∷ [])
@@ -50,7 +50,7 @@ abbrev pub ◌then◌ : {A B : Type 0} → Result A SessionFault → (A → Resu
 (Ok x) then f = f x
 (Err e) then f = Err e
 
--- where the signs lead
+-- the phase that the signs lead to, or the first fault
 unfoldable pub run : Phase → List Sign → Result Phase SessionFault
 run p [] = Ok p
 run p (s ∷ ss) = step p s then λ q. run q ss

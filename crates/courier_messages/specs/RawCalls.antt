@@ -13,7 +13,8 @@ pub record RawCall : Type 0 where
   pub procedure : ℕ
   pub words : List ℕ
 
--- a call's message has at most 131,072 bytes, twelve of them before the arguments
+-- how many words the arguments of a call have at most: its message has at most 131,072 bytes, twelve before the
+-- arguments
 abbrev pub most_call_words : ℕ
 most_call_words = 65530
 
@@ -41,11 +42,11 @@ numbered_message n = call_message n.0 n.1
 
 -- what goes out
 
--- the k-th call and those after it, with their transactions
+-- the items of the k-th call and of those after it, each with its transaction
 unfoldable pub call_items : ℕ → List RawCall → List Item
 call_items k [] = []
 call_items k (c ∷ cs) = cut (call_message (transaction_of k) c) ++ call_items (k + 1) cs
 
--- all that the caller puts out
+-- all items that a caller puts out for its calls
 abbrev pub caller_items : List RawCall → List Item
 caller_items calls = versions_item ∷ call_items 1 calls

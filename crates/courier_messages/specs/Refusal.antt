@@ -15,7 +15,7 @@ use Rattle.courier_messages.specs.Text.{byte, signs}
 use Rattle.courier_messages.specs.Conversation.{range_bytes, Phase, opening, fresh, inside}
 use Rattle.courier_messages.specs.Phases.{run, said}
 
--- what reading a message answers, unless memory ran out
+-- what a function that reads a message returns: the message or its fault, unless memory was refused
 abbrev pub Reads : Result Message MessageRefusal → Result Message MessageFault → Type 0
 Reads (Ok m) read = read ≡ Ok m
 Reads (Err (refusals.Fault e)) read = read ≡ Err e
@@ -32,7 +32,7 @@ abbrev pub HasOwnWords : Result Message MessageFault → Type 0
 HasOwnWords (Ok m) = 0 < length (words_in m)
 HasOwnWords (Err e) = ⊥
 
--- one of the faults that a peer makes, of which P holds, or a want of memory, of which M holds
+-- a fault that a peer makes, in which case P holds, or a want of memory, in which case M holds
 abbrev pub Stops : SessionFault → Type 0 → Type 0 → Type 0
 Stops NoMemory M P = M
 Stops NoCommonVersion M P = P
@@ -43,16 +43,17 @@ Stops BadReply M P = P
 Stops (Stream kind) M P = P
 Stops Failed M P = ⊥
 
--- the same, where a want of memory says nothing
+-- a fault that a peer makes, in which case P holds, or a want of memory, which says nothing
 abbrev pub UnlessMemory : SessionFault → Type 0 → Type 0
 UnlessMemory e P = Stops e (Unit {0}) P
 
--- a call that ends at new, or with a fault
+-- what a function returns: it came to `new`, where q leads; or it met the fault of q; or it met a want of memory
 abbrev pub Follows : {X A : Type 0} → Result X SessionFault → Result A SessionFault → A → Type 0
 Follows (Ok x) q new = q ≡ Ok new
 Follows (Err e) q new = UnlessMemory e (q ≡ Err e)
 
--- which also gives the messages
+-- what a function returns: it came to `new`, where q leads, and ms is the message that it returns, if any; or it met
+-- the fault of q, and ms is empty; or it met a want of memory
 abbrev pub Takes : {A : Type 0} → Result (Option Message) SessionFault → Result A SessionFault → List Message → A → Type 0
 Takes (Ok m) q ms new = (q ≡ Ok new) × (ms ≡ option_to_list m)
 Takes (Err e) q ms new = UnlessMemory e ((q ≡ Err e) × (ms ≡ []))
@@ -63,12 +64,12 @@ abbrev pub Foresees : {A : Type 0} → Result (Option Head) SessionFault → Res
 Foresees (Ok head) q ms = IsOk q × (map head_in ms ≡ option_to_list head)
 Foresees (Err e) q ms = Stops e ⊥ ((q ≡ Err e) × (ms ≡ []))
 
--- bytes with which nothing is wrong, where they come
+-- nothing is wrong with the bytes where they come: they bring no fault
 abbrev pub AreRight : Phase → List ℕ → Type 0
 AreRight p bytes = (e : SessionFault) → run p (map byte bytes) ≡ Err e → ⊥
 
--- more bytes make a second piece: bytes are kept already, and with these they are more or fewer than the version range, of which nothing is
--- kept
+-- More bytes make a second piece: some bytes are kept already. Bytes that just complete the version range make none,
+-- since nothing is kept of a whole version range with nothing behind it.
 abbrev pub MakeSecondPiece : Phase → List ℕ → Type 0
 MakeSecondPiece (opening bytes) more = (0 < length bytes) × (length bytes + length more ≢ range_bytes)
 MakeSecondPiece fresh more = ⊥

@@ -32,7 +32,7 @@ pub enum Head {
 }
 
 impl Head {
-    /// A message's head.
+    /// The head of a message.
     pub fn of(message: &Message) -> Head
         ensures { message.now ≡ with_words result (words_in message.now) }
     {
@@ -71,7 +71,7 @@ impl Head {
         }
     }
 
-    /// How many words it has.
+    /// How many words the head has.
     pub fn size(self) -> usize
         ensures { result ≡ head_size self }
     {
@@ -115,7 +115,7 @@ impl Head {
         }
     }
 
-    /// Appends its words, two bytes each, for which there is room.
+    /// Appends the words of the head, two bytes each, for which there is room.
     pub fn put(self, out: &mut Vec<u8>)
         requires { HasRoom out.old (length (bytes_of (head_words self))) }
         ensures items { out.new.items ≡ out.old.items ++ bytes_of (head_words self) }

@@ -31,7 +31,7 @@ pub const VERSION: u16 = 3;
 /// How many bytes the version range has.
 const RANGE_BYTES: usize = 4;
 
-/// Where in a conversation one is: in the version range, directly behind it, or in a message.
+/// Where in a conversation a session is: in the version range, directly behind the range, or in a message.
 #[derive(Clone, Copy, Debug)]
 pub enum Stage {
     Opening,
@@ -97,7 +97,7 @@ fn range_in(pieces: &Pieces, body: &[u8]) -> Option<(u16, u16)>
     Some((low, high))
 }
 
-/// The words of the pieces behind those that are skipped.
+/// The words of the pieces behind the bytes that are skipped.
 #[tactic(auto, using(crate::proofs::Ranges::words_skipped))]
 #[inline(always)]
 fn words_behind(pieces: &Pieces, skipped: usize) -> PieceWords<'_>
@@ -113,7 +113,7 @@ fn words_behind(pieces: &Pieces, skipped: usize) -> PieceWords<'_>
     words
 }
 
-/// What the message begins with that the pieces are.
+/// The head of the message whose bytes are kept behind those that are skipped, or what is wrong with the message.
 #[inline(always)]
 fn read_head_in(pieces: &Pieces, skipped: usize) -> Result<Head, MessageFault>
     requires skipped { IsSkipped skipped pieces.now }
@@ -127,7 +127,8 @@ fn read_head_in(pieces: &Pieces, skipped: usize) -> Result<Head, MessageFault>
     read_head(&mut words)
 }
 
-/// Where one is behind more bytes of the version range and what comes behind it, and how much is to be skipped; or what is wrong with them.
+/// Where a session is once more bytes have come, which begin in the version range, and how many bytes are to be
+/// skipped; or what is wrong with the bytes. Nothing is changed.
 #[tactic(auto, using(crate::proofs::Ranges::still_opening, crate::proofs::Ranges::range_faulty, crate::proofs::Ranges::range_alone, crate::proofs::Ranges::range_and_more, crate::proofs::Ranges::range_and_too_much))]
 fn behind_range(pieces: &Pieces, body: &[u8]) -> Result<(Stage, usize), SessionFault>
     requires { length pieces.now < range_bytes }
@@ -151,7 +152,8 @@ fn behind_range(pieces: &Pieces, body: &[u8]) -> Result<(Stage, usize), SessionF
     Ok((Stage::Inside, RANGE_BYTES))
 }
 
-/// More bytes of the version range, and of what comes behind it: where one is then, and how much is to be skipped.
+/// Takes in more bytes, which begin in the version range: where the session is then, and how many bytes are to be
+/// skipped.
 fn take_range(pieces: &mut Pieces, body: Vec<u8>) -> Result<(Stage, usize), SessionFault>
     requires { length pieces.old < range_bytes }
     ensures runs { IfOk result (λ x. run (opening pieces.old) (map byte body.items) ≡ Ok (phase_in x.0 (drop x.1 pieces.new))) }
@@ -168,7 +170,7 @@ fn take_range(pieces: &mut Pieces, body: Vec<u8>) -> Result<(Stage, usize), Sess
     Ok((stage, skipped))
 }
 
-/// Whether a message has room for more bytes, or else what is wrong.
+/// Whether a message may have so many bytes more. `TooLong` where it would have over 131,072.
 #[tactic(auto, using(crate::proofs::Ranges::more_bytes, crate::proofs::Ranges::too_many_bytes))]
 #[inline(always)]
 fn behind_more(pieces: &Pieces, skipped: usize, body: &[u8]) -> Result<(), SessionFault>
@@ -185,7 +187,7 @@ fn behind_more(pieces: &Pieces, skipped: usize, body: &[u8]) -> Result<(), Sessi
     Ok(())
 }
 
-/// More bytes of a message.
+/// Takes in more bytes of a message.
 #[inline(always)]
 fn take_more(pieces: &mut Pieces, skipped: usize, body: Vec<u8>) -> Result<(), SessionFault>
     requires skipped { IsSkipped skipped pieces.old }
@@ -201,7 +203,8 @@ fn take_more(pieces: &mut Pieces, skipped: usize, body: Vec<u8>) -> Result<(), S
     Ok(())
 }
 
-/// The first bytes behind the version range, if there are any: where one is then.
+/// Takes in bytes directly behind the version range: where the session is then. Where there are no bytes, nothing is
+/// changed.
 #[tactic(auto, using(crate::proofs::Ranges::fresh_bytes, crate::proofs::Ranges::no_more_bytes))]
 #[inline(always)]
 fn take_first(pieces: &mut Pieces, body: Vec<u8>) -> Result<Stage, SessionFault>
@@ -235,7 +238,8 @@ fn word_at(pieces: &Pieces, skipped: usize, body: &[u8], place: usize) -> u16
     u16::from(high) * 256 + u16::from(low)
 }
 
-/// What a message begins with whose bytes are kept, and come, behind those that are skipped.
+/// The head of a message whose bytes are those that are kept and those that come, without those that are skipped; or
+/// what is wrong with the message.
 #[tactic(auto, using(crate::proofs::Fronts::front_taken, crate::proofs::Fronts::front_head, crate::proofs::Fronts::even_head, crate::proofs::Heads::odd_message, crate::proofs::Wholes::half, crate::proofs::Heads::dropped_length))]
 fn head_behind(pieces: &Pieces, skipped: usize, body: &[u8]) -> Result<Head, MessageFault>
     requires skipped { IsSkipped skipped (pieces.now ++ body.now) }
@@ -261,7 +265,7 @@ fn head_behind(pieces: &Pieces, skipped: usize, body: &[u8]) -> Result<Head, Mes
     head_of(&front)
 }
 
-/// What a message begins with whose bytes these are.
+/// The head of the message that the bytes are, or what is wrong with the message.
 #[tactic(auto, unfolding(crate::specs::Message::message_of))]
 fn head_alone(bytes: &[u8]) -> Result<Head, MessageFault>
     requires { length bytes.now ≤ most_bytes }
@@ -274,8 +278,8 @@ fn head_alone(bytes: &[u8]) -> Result<Head, MessageFault>
     read_head(&mut words)
 }
 
-/// What a message begins with whose bytes are kept, and come, behind those that are skipped. Where none are kept, they are read where they
-/// lie.
+/// The head of a message whose bytes are those that are kept and those that come, without those that are skipped; or
+/// what is wrong with the message. Where none are kept, those that come are read where they lie.
 #[tactic(auto, using(crate::proofs::Fronts::alone, crate::proofs::Heads::dropped_length))]
 fn head_in(pieces: &Pieces, skipped: usize, body: &[u8]) -> Result<Head, MessageFault>
     requires skipped { IsSkipped skipped (pieces.now ++ body.now) }
@@ -288,7 +292,8 @@ fn head_in(pieces: &Pieces, skipped: usize, body: &[u8]) -> Result<Head, Message
     head_behind(pieces, skipped, body)
 }
 
-/// Where one is behind more bytes, and how much is to be skipped; or what is wrong with them.
+/// Where a session is once more bytes have come, and how many bytes are to be skipped; or what is wrong with the bytes.
+/// Nothing is changed.
 #[tactic(auto, using(crate::proofs::Ranges::fresh_bytes, crate::proofs::Ranges::no_more_bytes))]
 fn behind(
     stage: Stage,
@@ -316,7 +321,7 @@ fn behind(
     }
 }
 
-/// The message that a mark ends behind these bytes, where no others are kept.
+/// The message that a mark behind these bytes ends, where no other bytes are kept.
 fn whole_behind<'a>(stage: Stage, skipped: usize, body: &'a [u8]) -> Option<WholeMessage<'a>>
     requires { IsHeld stage skipped (kept_at stage body.now) }
     ensures steps { IfSome result (λ message. step (phase_in stage (drop skipped (kept_at stage body.now))) mark ≡ Ok (inside [])) }
@@ -328,7 +333,8 @@ fn whole_behind<'a>(stage: Stage, skipped: usize, body: &'a [u8]) -> Option<Whol
     }
 }
 
-/// What a mark would end behind these bytes.
+/// The head of the message that a mark behind these bytes would end, if it ends one; or what is wrong. Nothing is
+/// changed.
 fn look_at_mark(
     stage: Stage,
     pieces: &Pieces,
@@ -379,7 +385,7 @@ impl Incoming {
         let _stage = self.stage;
     }
 
-    /// More bytes.
+    /// Takes in more bytes.
     #[inline(always)]
     fn take_body(&mut self, body: Vec<u8>) -> Result<(), SessionFault>
         ensures follows { Follows result (run self.old (map byte body.items)) self.new }
@@ -401,7 +407,8 @@ impl Incoming {
         }
     }
 
-    /// What an item of these parts would bring, of which nothing is kept: the head of the message that it would end, or what is wrong.
+    /// What an item of these parts would bring: the head of the message that it would end, or what is wrong. Nothing of
+    /// the item is kept.
     pub fn look(&self, stream: u8, last: bool, body: &[u8]) -> Result<Option<Head>, SessionFault>
         ensures { Foresees result (run self.now (signs (item_of stream last body.now)))
             (said self.now (signs (item_of stream last body.now))) }
@@ -417,8 +424,9 @@ impl Incoming {
         }
     }
 
-    /// The message that an item of datastream 0 with a mark brings whole, of these bytes, where nothing of it is kept already. `None`,
-    /// which changes nothing: [`take`](Incoming::take) says what it brings.
+    /// Takes in an item of datastream 0 that has these bytes and a mark, where it brings a whole message of which
+    /// nothing was kept before: the message. `None` changes nothing: [`take`](Incoming::take) then says what the item
+    /// brings.
     pub fn take_whole<'a>(&mut self, body: &'a [u8]) -> Option<WholeMessage<'a>>
         ensures runs { IfSome result (λ message. run self.old (signs (item_of 0 true body.now)) ≡ Ok self.new) }
         ensures said { IfSome result (λ message. said self.old (signs (item_of 0 true body.now)) ≡ message ∷ []) }
@@ -439,7 +447,7 @@ impl Incoming {
         Some(message)
     }
 
-    /// A mark, which may end a message.
+    /// Takes in a mark: the message that it ends, if it ends one.
     #[inline(always)]
     fn take_mark(&mut self, alloc: Global) -> Result<Option<PiecedMessage>, SessionFault>
         ensures takes { Takes result (step self.old mark) (ended self.old mark) self.new }
@@ -463,8 +471,9 @@ impl Incoming {
         }
     }
 
-    /// One more item, which may end a message. Memory is only refused to bytes that are to be kept behind others and with which nothing is
-    /// wrong: then nothing is changed, and the item can be given again. So the first piece of a message takes none.
+    /// Takes in one more item: the message that it ends, if it ends one. Memory is only refused to bytes that are to be
+    /// kept behind others and with which nothing is wrong: then nothing is changed, and the item can be given again.
+    /// The first piece of a message takes no memory.
     #[tactic(auto, using(crate::proofs::Runs::run_append, crate::proofs::Runs::said_append, crate::proofs::Runs::run_mark, crate::proofs::Runs::said_mark, crate::proofs::Runs::said_bytes))]
     #[inline(always)]
     pub fn take(&mut self, alloc: Global, item: Item) -> Result<Option<PiecedMessage>, SessionFault>

@@ -18,7 +18,8 @@ use courier_types::{PieceWords, ReadRefusal, Shape, Value, read_pieces};
 use std::alloc::{AllocError, Global};
 use std::marker::Model;
 
-/// A message whose words lie in pieces: they are read there, and never joined. Contracts see the message.
+/// A message whose words lie in pieces: the words are read there, and the pieces are never joined. Contracts see the
+/// message.
 #[derive(Debug, Drop)]
 pub struct PiecedMessage {
     head: Head,
@@ -56,7 +57,7 @@ impl PiecedMessage {
     #[inline(always)]
     pub fn words(&self, alloc: Global) -> Result<Words, AllocError>
         ensures words { IfOk result (λ w. w ≡ words_in self.now) }
-        // It is refused memory only where there are words.
+        // Memory is refused only where there are words.
         ensures memory { OnErr result (0 < length (words_in self.now)) }
     {
         let _count = self.pieces.len();
@@ -92,7 +93,7 @@ impl PiecedMessage {
         requires { IsChecked (shape_model shape.now) }
         ensures whole { IfOk result (λ o. option_map value_model o ≡ whole (shape_model shape.now) (words_in self.now)) }
         ensures fits { IfOk result (λ o. IfSome o (λ v. Fits (shape_model shape.now) (value_model v))) }
-        // It is refused memory only where reading the value wants some.
+        // Memory is refused only where reading the value wants some.
         ensures memory { OnErr result (WantsMemory (shape_model shape.now) (words_in self.now)) }
     {
         let _bytes = self.pieces.len();

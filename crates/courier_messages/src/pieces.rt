@@ -11,7 +11,7 @@ use std::slice::from_ref;
 /// How much room is made where a second piece comes, in pieces.
 const FEW: usize = 4;
 
-/// The pieces that are kept. Most messages come in one, which needs no vector around it.
+/// The pieces that are kept. Most messages come in one piece, which needs no vector around it.
 #[derive(Debug, Drop)]
 pub enum Kept {
     /// The only piece, or no bytes.
@@ -38,7 +38,7 @@ impl Kept {
         }
     }
 
-    /// One more piece.
+    /// Puts one more piece behind the others.
     #[tactic(auto, using(crate::proofs::Joins::joined_push))]
     #[inline(always)]
     fn push(&mut self, alloc: Global, piece: Vec<u8>) -> Result<(), AllocError>
@@ -126,7 +126,7 @@ impl Pieces {
         byte_in(self.as_slice(), place)
     }
 
-    /// The pieces; none are left behind.
+    /// Takes all the pieces out.
     #[inline(always)]
     pub fn take(&mut self, alloc: Global) -> Pieces
         ensures taken { result ≡ self.old }
@@ -142,7 +142,8 @@ impl Pieces {
         self.count = 0;
     }
 
-    /// One more piece. The only error is want of memory, which a piece of no bytes never meets, nor the first one.
+    /// Puts one more piece behind the others. The only error is want of memory, which neither the first piece nor a
+    /// piece of no bytes ever meets.
     #[inline(always)]
     pub fn push(&mut self, piece: Vec<u8>) -> Result<(), AllocError>
         requires { length self.old + length piece.items < 2 ^ 64 }

@@ -14,7 +14,7 @@ use courier_types::known::known_bytes;
 use courier_types::{PieceWords, WordSource};
 use std::alloc::{AllocError, Global};
 
-/// A message has at most so many bytes.
+/// How many bytes a message has at most.
 pub const MOST_BYTES: usize = 131_072;
 
 /// The next word, where there is one.
@@ -69,7 +69,7 @@ fn read_abort_head<S: WordSource>(transaction: u16, source: &mut S) -> Result<He
     }
 }
 
-/// What comes before a message's words.
+/// Reads the head that the words begin with.
 #[inline(always)]
 pub fn read_head<S: WordSource>(source: &mut S) -> Result<Head, MessageFault>
     ensures { ReadsHead result (S.words_left source.new) (message_in (S.words_left source.old)) }
@@ -88,7 +88,7 @@ pub fn read_head<S: WordSource>(source: &mut S) -> Result<Head, MessageFault>
     }
 }
 
-/// What comes before the words of a message that begins with these, six of them or all that it has.
+/// The head of a message that begins with these words, which are its first six or all that it has.
 pub fn head_of(words: &[u16]) -> Result<Head, MessageFault>
     ensures { result ≡ heads_in (message_in words.now) }
 {
@@ -115,7 +115,7 @@ pub fn head_of(words: &[u16]) -> Result<Head, MessageFault>
     }
 }
 
-/// The words that are left, written out once. It is refused memory only where there are some.
+/// The words that are left, written out once. Memory is refused only where there are some.
 #[inline(always)]
 pub fn words_left<S: WordSource>(alloc: Global, source: &mut S) -> Result<Words, AllocError>
     ensures words { IfOk result (λ w. w ≡ S.words_left source.old) }

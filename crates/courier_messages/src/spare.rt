@@ -6,7 +6,7 @@ ghost use Rattle.courier_messages.specs.Bounds.{first_room};
 use std::alloc::{AllocError, Global};
 use std::mem::replace;
 
-/// A message that is made has room for so many words at first, which most messages need no more than.
+/// How many words a message that is made has room for at first. Most messages need no more.
 const FIRST_ROOM: usize = 16;
 
 /// The room that the words of a message were made in, kept for those of the next one where it is no more

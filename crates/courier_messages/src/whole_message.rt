@@ -26,7 +26,7 @@ impl<'a> Model for WholeMessage<'a> {
 }
 
 impl<'a> WholeMessage<'a> {
-    /// The message that the bytes are; `None` where they are none.
+    /// The message that the bytes are; `None` where the bytes are no message.
     #[tactic(auto, unfolding(crate::specs::Message::message_of))]
     #[inline(always)]
     pub fn of(bytes: &'a [u8]) -> Option<WholeMessage<'a>>
@@ -43,7 +43,7 @@ impl<'a> WholeMessage<'a> {
         }
     }
 
-    /// What the message begins with.
+    /// The head of the message.
     #[inline(always)]
     pub fn head(&self) -> Head
         ensures { self.now ≡ with_words result (words_in self.now) }

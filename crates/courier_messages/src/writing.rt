@@ -34,8 +34,8 @@ fn byte_count(head: Head, words: usize) -> Option<usize>
 
 /// Appends the message's words, two bytes each.
 ///
-/// The bytes grow by their own allocator, once, before the first byte is written; `alloc` only shows that they may. After a
-/// refused growth, which comes only where they have no room, they are as they were.
+/// The bytes grow by their own allocator, once, before the first byte is written; `alloc` only shows that they may.
+/// Where the growth is refused, the bytes are as they were. Bytes that have room for the message are never refused.
 #[tactic(auto, using(crate::proofs::Puts::message_is_its_parts, crate::proofs::Puts::head_bytes, crate::proofs::Cuts::bytes_length))]
 pub fn write_message(alloc: Global, message: &Message, out: &mut Vec<u8>) -> Result<(), AllocError>
     ensures ok { OnOk result (out.new.items ≡ out.old.items ++ message_bytes message.now) }

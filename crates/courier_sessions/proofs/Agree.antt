@@ -94,7 +94,7 @@ numbers_begin asks made back given got t programs fed sent taken handed answers 
     (begins_then (map transaction_in taken) (map transaction_in (taken ++ option_to_list a.call))
     (map transaction_in (made_messages 1 made)) of_taken of_calls)
 
--- the number behind so many of the calls' numbers
+-- the number that stands behind a prefix of the calls' numbers
 number_at : (k : ℕ) (cs : List RawCall) (ns : List ℕ) (n : ℕ) → Begins (ns ++ n ∷ []) (map transaction_in (made_messages k cs)) →
     (n ≡ (k + length ns) % 65536) × (length ns < length cs)
 unfolding made_messages

@@ -170,7 +170,7 @@ answers_one programs fed given taken handed answers a answer k words h e fine =
       ending = h.ending;
     }
 
--- a reject of a call that was not handed: as if it had been
+-- a reject of a call that was not handed is as one of a call that was
 pub refuses : (programs : List Program) (fed given : List Item) (taken handed answers : List Message) (a : Answering) (reason : ℕ)
     (words : List ℕ) (m : Message) → HasAnswered programs fed given taken handed answers a → a.call ≡ Some m →
     why_unlisted a.programs m ≡ None → answer_refusal (Some (transaction_in m)) (kinds.Reject reason) words ≡ None →

@@ -10,13 +10,13 @@ use Rattle.xns_spp.specs.declared.send_fault.SendFault.{SendFault}
 use Rattle.courier_sessions.specs.Pumping.{Side, sending, feeds, moving, one_step, Leads, on, Refuses, Pumped}
 use Rattle.courier_sessions.specs.declared.feed_refusal.FeedRefusal.{FeedRefusal}
 
--- steps led to here
+-- steps led from the first side and end to these
 pub record Going {S : Type 0} (side : Side S) (first : S × State) (session : S) (endpoint : Held) : Type 0 where
   pub end : State
   pub leads : Leads side first (session, end)
   pub stands : StandsFor endpoint end
 
--- and of so many items that waited so many were fed
+-- steps led from the first side and end to these, and of all items that waited so many were fed
 pub record Feeding {S : Type 0} (side : Side S) (first : S × State) (session : S) (endpoint : Held) (all fed : ℕ) : Type 0 where
   pub end : State
   pub leads : Leads side first (session, end)
@@ -28,7 +28,7 @@ there_in : {X : Type 0} (xs : List X) (i : ℕ) → i < length xs → ((x : X) �
 there_in xs i h (inl k) = (k.0, k.2)
 there_in xs i h (inr k) = absurd (omega (arith, h, k.0))
 
--- the item of a number below their count
+-- a list has an item of each number below its length
 there_is : {X : Type 0} (xs : List X) (i : ℕ) → i < length xs → (x : X) × (slice_get xs i ≡ Some x)
 there_is xs i h = there_in xs i h (slice_get_cases xs i).1
 

@@ -64,7 +64,7 @@ conversation_room : (law : MessageIsSpelled) (fed : List Item) → AllByRecursio
 unfolding conversation
 conversation_room law fed = range_room law (version_range (written fed))
 
--- the one that waits
+-- the message that waits
 
 pub last_is : {X : Type 0} (P : X → Type 0) (xs : List X) (x : X) → AllByRecursion P (xs ++ x ∷ []) → P x
 last_is P [] x h = h.0

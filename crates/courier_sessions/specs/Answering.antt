@@ -33,12 +33,12 @@ pub record Answering : Type 0 where
   -- what is to go out
   pub out : List Item
   pub failed : Bool
-  -- the call that waits to be handed
+  -- the call that came in and waits to be handed
   pub call : Option Message
   -- the number of the call that was handed and waits for its answer
   pub asked : Option ℕ
 
--- the versions are out
+-- a side that is new: its versions are out
 abbrev pub new_answering : List Program → Answering
 new_answering programs = record {
   programs = programs;
@@ -55,24 +55,25 @@ abbrev pub has_items : List Item → Bool
 has_items [] = false
 has_items (x ∷ xs) = true
 
--- what was put out, or a call, has to be fetched or answered first
+-- a call waits to be handed, or for its answer, or what is out was not fetched
 abbrev pub is_busy : Answering → Bool
 is_busy a = is_some a.call || is_some a.asked || has_items a.out
 
--- with the messages that an item ended, of which there is at most one
+-- the side with the messages that an item ended, of which there is at most one
 abbrev pub with_call : Answering → List Message → Answering
 with_call a [] = a
 with_call a (m ∷ ms) = record a { call = Some m }
 
--- with an item's messages ms, behind which the conversation is at q, or the first fault: a message that is no call is one
+-- the side with an item's messages ms, behind which the conversation is at q, or the first fault; a message that is no
+-- call is a fault
 abbrev pub after_messages : Answering → List Message → Result Phase SessionFault → Result Answering SessionFault
 after_messages a ms q = heard ms q then λ p. Ok (with_call (record a { phase = p }) ms)
 
--- with one more item of the peer's
+-- the side with one more item of the peer's, or the first fault
 abbrev pub after_item : Answering → Item → Result Answering SessionFault
 after_item a x = after_messages a (said a.phase (signs x)) (run a.phase (signs x))
 
--- what an item is told, or where it leads
+-- the side once an item is taken in, or the first reason why the item is refused, in this order
 abbrev pub fed : Answering → Item → Result Answering FeedRefusal
 fed a x =
     if a.failed then Err unfed.Stopped
@@ -81,7 +82,7 @@ fed a x =
     else if nat_lt most_item (length x.body) then Err unfed.TooLong
     else feeding.heard (after_item a x)
 
--- stopped
+-- the side is stopped, and otherwise stays as it was
 abbrev pub IsStopped : Answering → Answering → Type 0
 IsStopped old new = new ≡ record old { failed = true }
 
@@ -113,7 +114,7 @@ abbrev pub version_refusal : Option Program → ℕ → Option Unlisted
 version_refusal None version = Some unlisted.Program
 version_refusal (Some e) version = if is_outside e.lowest e.highest version then Some (unlisted.Version e.lowest e.highest) else None
 
--- why a call is not handed, if it isn't; where no program is listed each is handed
+-- why a call is not handed, if it isn't; where no program is listed, each call is handed
 abbrev pub why_unlisted : List Program → Message → Option Unlisted
 why_unlisted [] m = None
 why_unlisted (e ∷ es) (Call transaction program version procedure words) = version_refusal (entry_for (e ∷ es) program) version
@@ -121,7 +122,7 @@ why_unlisted (e ∷ es) (Reject transaction reason words) = None
 why_unlisted (e ∷ es) (Return transaction words) = None
 why_unlisted (e ∷ es) (Abort transaction error words) = None
 
--- what it is answered
+-- the reject that answers a call that is not handed
 abbrev pub reject_message : ℕ → Unlisted → Message
 reject_message transaction unlisted.Program = Reject transaction no_such_program []
 reject_message transaction (unlisted.Version low high) = Reject transaction no_such_version (version_words low high)
@@ -147,19 +148,20 @@ is_reject (answers.Reject reason) = true
 is_reject answers.Return = false
 is_reject (answers.Abort error) = false
 
--- the call that an answer is for: the one that was handed; a reject is also for one that is not handed yet
+-- the transaction of the call that an answer is for: the call that was handed, or, for a reject, a listed call that is
+-- not handed yet
 abbrev pub answers_to : Answering → Answer → Option ℕ
 answers_to a answer = if is_some a.asked then a.asked else if is_reject answer then unread a.programs a.call else None
 
 abbrev pub length_refusal : Message → Option AnswerRefusal
 length_refusal m = if nat_lt most_words (length (message_words m)) then Some refusals.TooLong else None
 
--- why an answer may not be given to this call, if there is one
+-- why an answer may not be given to the call of this transaction, or that there is no such call
 abbrev pub answer_refusal : Option ℕ → Answer → List ℕ → Option AnswerRefusal
 answer_refusal None answer words = Some refusals.NoCall
 answer_refusal (Some transaction) answer words = length_refusal (answer_message answer transaction words)
 
--- what is answered to an answer, which may be given where this refusal is none: memory is refused only to one that may
+-- what a function that gives an answer returns: why the answer may not be given, or, where it may, `Ok` or `NoMemory`
 abbrev pub AnswerAnswers : Option AnswerRefusal → Result (Unit {0}) AnswerRefusal → Type 0
 AnswerAnswers refusal (Ok u) = refusal ≡ None
 AnswerAnswers refusal (Err refusals.NoMemory) = refusal ≡ None

@@ -13,24 +13,25 @@ use Rattle.courier_sessions.specs.Answering.{Answering, transaction_in, is_a_cal
 abbrev pub is_listed : List Program → Message → Bool
 is_listed programs m = not (is_some (why_unlisted programs m))
 
--- no call, and at most 131,072 bytes
+-- the message is no call, and has at most 131,072 bytes
 abbrev pub IsAnswer : Message → Type 0
 IsAnswer m = IsShort m × (is_a_call m ≡ false)
 
--- the items fed, the items given, the calls taken, those of them that were handed or given a reject before, and the answers made, in their
--- orders
+-- a session was fed and gave these items, took these calls, and made these answers, each in order; the listed ones of
+-- the calls were handed, or were given a reject before that
 pub record HasAnswered (programs : List Program) (fed given : List Item) (taken handed answers : List Message)
     (a : Answering) : Type 0 where
   pub table : a.programs ≡ programs
   pub going : a.failed ≡ false
-  -- what was given and is out are the versions and the answers, each cut
+  -- the items that were given, and those that are out, are the versions and the answers, each cut
   pub items : given ++ a.out ≡ items_of answers
   pub good : AllByRecursion IsAnswer answers
-  -- the k-th answer has the number of the k-th call, and each call has its answer but the last one, where one waits
+  -- the k-th answer has the number of the k-th call, and each call has its answer, but for the last one where that
+  -- waits
   pub numbers : map transaction_in taken ≡ map transaction_in answers ++ option_to_list a.asked
-  -- each message of the peer's, all of them calls, was taken, or waits
+  -- each message of the peer's is a call that was taken, or that waits
   pub calls : taken ++ option_to_list a.call ≡ conversation fed
-  -- those are the ones whose program and version are listed
+  -- the calls that were handed, or given a reject before that, are those whose program and version are listed
   pub listed : handed ≡ filter (is_listed programs) taken
   pub single : IfSome a.call (λ m. a.asked ≡ None)
   pub ending : server_ending fed ≡ Ok a.phase

@@ -10,7 +10,7 @@ use Rattle.courier_messages.specs.declared.fault.SessionFault.TheVariants.{BadRe
 use Rattle.courier_sessions.specs.declared.feed_refusal.FeedRefusal.{FeedRefusal}
 use Rattle.courier_sessions.specs.declared.feed_refusal.FeedRefusal.TheVariants.{Fault, NoMemory}
 
--- no item has more bytes than the versions and the longest message
+-- how many bytes an item may have at most: those of the versions and of the longest message
 abbrev pub most_item : ℕ
 most_item = 4 + most_bytes
 
@@ -19,7 +19,7 @@ abbrev pub heard : {S : Type 0} → Result S SessionFault → Result S FeedRefus
 heard (Ok t) = Ok t
 heard (Err e) = Err (Fault e)
 
--- what is told of an item that was looked at
+-- what is returned for an item that was looked at
 abbrev pub told : Result (Unit {0}) SessionFault → Result (Unit {0}) FeedRefusal
 told (Ok u) = Ok u
 told (Err faults.NoMemory) = Err NoMemory
@@ -31,11 +31,11 @@ told (Err BadReply) = Err (Fault BadReply)
 told (Err (Stream kind)) = Err (Fault (Stream kind))
 told (Err Failed) = Err (Fault Failed)
 
--- what is told of an item before it is taken, which leads to q: the fault that a peer makes, or that there is none
+-- what a look finds at an item that leads to q, before the item is taken in: a fault that a peer makes, or none
 abbrev pub Judges : {S : Type 0} → Result (Unit {0}) SessionFault → Result S SessionFault → Type 0
 Judges (Ok u) q = IsOk q
 Judges (Err e) q = Stops e ⊥ (q ≡ Err e)
 
--- an item at which memory may be refused: it would be taken, and has bytes
+-- an item at which memory may be refused: it would be taken in, and has bytes
 abbrev pub MayGrow : {S : Type 0} → Result S FeedRefusal → Item → Type 0
 MayGrow fed x = IsOk fed × (0 < length x.body)

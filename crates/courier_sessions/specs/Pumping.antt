@@ -1,5 +1,5 @@
--- Items that move between a side of a conversation and an end until nothing moves: what is out is sent as far as the end accepts it; once
--- nothing is out, what waits is handed up to the side, as far as that takes it.
+-- Items that move between a side of a conversation and an end until nothing moves. What is out is sent, as far as the
+-- end accepts it. Once nothing is out, what waits at the end is fed to the side, as far as the side takes it.
 use Rattle.std.specs.Prelude.{◌≡◌, List, [], ◌∷◌, Option, Some, None, Result, Ok, Err}
 use Rattle.courier_messages.specs.Refusal.{Stops}
 use Rattle.xns_spp.specs.Held.{Held, StandsFor}
@@ -17,19 +17,19 @@ use Rattle.courier_sessions.specs.declared.feed_refusal.FeedRefusal.TheVariants.
 
 -- a side of a conversation
 pub record Side (S : Type 0) : Type 1 where
-  -- what is out, and the side with that out instead
+  -- what is out at the side, and the side with other items out instead
   pub out : S → List Item
   pub with_out : S → List Item → S
-  -- what an item is told, or where it leads
+  -- the side once an item is taken in, or why the item is refused
   pub fed : S → Item → Result S FeedRefusal
-  -- how a fault leaves it
+  -- how a fault leaves the side
   pub stops : S → S → Type 0
   -- an item at which memory may be refused
   pub grows : S → Item → Type 0
 
 -- ---- one item that is fed
 
--- what is answered to an item that is fed, and what the side is then: a fault is one that a peer makes
+-- what a function that feeds an item returns, and the side afterwards; a fault is one that a peer makes
 abbrev pub IsFed : {S : Type 0} → Side S → S → Item → Result (Unit {0}) FeedRefusal → S → Type 0
 IsFed side t x (Ok u) n = side.fed t x ≡ Ok n
 IsFed side t x (Err NoMemory) n = (n ≡ t) × side.grows t x
@@ -41,7 +41,8 @@ IsFed side t x (Err TooLong) n = (n ≡ t) × (side.fed t x ≡ Err TooLong)
 
 -- ---- steps
 
--- what a step comes to: none applies, or the side and the end are so afterwards, or the side refuses the item
+-- what a step comes to: `None` where no step applies; otherwise the side and the end after the step, or why the side
+-- refuses an item
 abbrev pub Step : Type 0 → Type 0
 Step S = Option (Result (S × State) FeedRefusal)
 
@@ -49,7 +50,7 @@ abbrev pub sending : {S : Type 0} → Option SendFault → S → State → Step 
 sending (Some f) t v = None
 sending None t v = Some (Ok (t, v))
 
--- an item for which the side is busy waits
+-- the step of an item that is fed; no step applies where the side is busy, and the item waits
 abbrev pub feeding : {S : Type 0} → Result S FeedRefusal → State → Step S
 feeding (Ok t) v = Some (Ok (t, v))
 feeding (Err Busy) v = None
@@ -59,12 +60,13 @@ feeding (Err Attention) v = Some (Err Attention)
 feeding (Err (Fault f)) v = Some (Err (Fault f))
 feeding (Err NoMemory) v = Some (Err NoMemory)
 
--- the step that feeds the side the next item that waits, if one does
+-- the step that feeds the side the next item that waits, if an item waits
 abbrev pub feeds : {S : Type 0} → Side S → S → State → Option Item → Step S
 feeds side t v None = None
 feeds side t v (Some x) = feeding (side.fed t x) (after_take v)
 
--- the first item that is out is sent, if the end accepts it, and the others xs are out still; where none is out the next that waits is fed
+-- the first item that is out is sent, if the end accepts it, and the others, xs, are still out; where no item is out,
+-- the next item that waits is fed
 abbrev pub moving : {S : Type 0} → Side S → S → State → List Item → Step S
 moving side t v (x ∷ xs) = sending (send_fault v x) (side.with_out t xs) (after_send v x)
 moving side t v [] = feeds side t v (take_answer v)
@@ -96,12 +98,12 @@ server_side = record {
 
 -- ---- steps that are taken
 
--- steps lead from one to the other
+-- what steps lead to from the side and the end x
 pub data Leads {S : Type 0} (side : Side S) (x : S × State) : S × State → Type 0 where
   here : Leads side x x
   on : {y z : S × State} → Leads side x y → one_step side y ≡ Some (Ok z) → Leads side x z
 
--- the next item that waits is refused, and leaves the side so; it is not for want of time
+-- the next item that waits is refused, for another reason than that the side is busy, and leaves the side as n
 abbrev pub Refuses : {S : Type 0} → Side S → S → Option Item → FeedRefusal → S → Type 0
 Refuses side t None e n = ⊥
 Refuses side t (Some x) Busy n = ⊥
@@ -111,12 +113,13 @@ Refuses side t (Some x) TooLong n = IsFed side t x (Err TooLong) n
 Refuses side t (Some x) Attention n = IsFed side t x (Err Attention) n
 Refuses side t (Some x) (Fault f) n = IsFed side t x (Err (Fault f)) n
 
--- where items stop to move
+-- where items stop moving: no step applies, or nothing is out and the next item that waits is refused
 abbrev pub Settles : {S : Type 0} → Side S → S × State → Result (Unit {0}) FeedRefusal → S → Type 0
 Settles side last (Ok u) n = (n ≡ last.0) × (one_step side last ≡ None)
 Settles side last (Err e) n = (side.out last.0 ≡ []) × Refuses side last.0 (take_answer last.1) e n
 
--- steps were taken up to the last, where none applies, or where nothing is out and the next item that waits is refused
+-- steps lead to the last side and end, where no step applies, or where nothing is out and the next item that waits is
+-- refused
 pub record Pumped {S : Type 0} (side : Side S) (first : S × State) (result : Result (Unit {0}) FeedRefusal) (session : S)
     (endpoint : Held) : Type 0 where
   pub last : S × State

@@ -26,23 +26,23 @@ pub record Talk : Type 0 where
   pub failed : Bool
   -- the last call's number
   pub transaction : ℕ
-  -- whether it waits for its answer
+  -- whether the last call waits for its answer
   pub waiting : Bool
   -- the answer that is not picked up
   pub outcome : Option Message
 
--- the versions are out
+-- a side that is new: its versions are out
 abbrev pub new_talk : Talk
 new_talk = record { phase = opening []; out = versions_item ∷ []; failed = false; transaction = 0; waiting = false; outcome = None }
 
 abbrev pub next_transaction : Talk → ℕ
 next_transaction t = (t.transaction + 1) % 65536
 
--- with one more call
+-- the side with one more call
 abbrev pub called : Talk → RawCall → Talk
 called t c = record t { out = t.out ++ cut (call_message (next_transaction t) c); transaction = next_transaction t; waiting = true }
 
--- why a call may not be made
+-- why a call may not be made, if it may not
 abbrev pub call_refusal : Talk → RawCall → Option CallRefusal
 call_refusal t c =
     if t.failed then Some refusals.Stopped
@@ -50,7 +50,7 @@ call_refusal t c =
     else if nat_lt most_call_words (length c.words) then Some refusals.TooLong
     else None
 
--- what is answered to a call, which may be made where this refusal is none: memory is refused only to one that may
+-- what a function that makes a call returns: why the call may not be made, or, where it may, `Ok` or `NoMemory`
 abbrev pub CallAnswers : Option CallRefusal → Result (Unit {0}) CallRefusal → Type 0
 CallAnswers refusal (Ok u) = refusal ≡ None
 CallAnswers refusal (Err refusals.NoMemory) = refusal ≡ None
@@ -61,7 +61,7 @@ CallAnswers refusal (Err refusals.TooLong) = refusal ≡ Some refusals.TooLong
 abbrev pub wrong_unless : Bool → Option SessionFault
 wrong_unless right = if right then None else Some WrongTransaction
 
--- why a message is no answer to the call that waits
+-- why a message is no answer to the call that waits, if it is none
 abbrev pub reply_fault : Bool → ℕ → Message → Option SessionFault
 reply_fault waiting expects (Call transaction program version procedure words) = Some BadReply
 reply_fault waiting expects (Reject transaction reason words) = wrong_unless (waiting && (transaction == expects))
@@ -72,16 +72,16 @@ abbrev pub answered_unless : Option SessionFault → Talk → Message → Result
 answered_unless (Some e) t m = Err e
 answered_unless None t m = Ok (record t { waiting = false; outcome = Some m })
 
--- with the messages that an item ended, of which there is at most one
+-- the side with the messages that an item ended, of which there is at most one
 abbrev pub answered : Talk → List Message → Result Talk SessionFault
 answered t [] = Ok t
 answered t (m ∷ ms) = answered_unless (reply_fault t.waiting t.transaction m) t m
 
--- with one more item of the peer's, or the first fault
+-- the side with one more item of the peer's, or the first fault
 abbrev pub after_item : Talk → Item → Result Talk SessionFault
 after_item t x = run t.phase (signs x) then λ p. answered (record t { phase = p }) (said t.phase (signs x))
 
--- what an item is told, or where it leads: that it is an attention item is told before its bytes are looked at
+-- the side once an item is taken in, or the first reason why the item is refused, in this order
 abbrev pub fed : Talk → Item → Result Talk FeedRefusal
 fed t x =
     if t.failed then Err unfed.Stopped
@@ -89,6 +89,6 @@ fed t x =
     else if nat_lt most_item (length x.body) then Err unfed.TooLong
     else heard (after_item t x)
 
--- stopped: what is out and the answer that is there stay
+-- the side is stopped; what is out and the answer that is there stay
 abbrev pub IsStopped : Talk → Talk → Type 0
 IsStopped old new = new ≡ record old { failed = true }

@@ -1,4 +1,4 @@
--- What a session that goes on has done.
+-- What a session that calls, and goes on, has done.
 use Rattle.std.specs.Prelude.{◌≡◌, ℕ, ◌+◌, ◌%◌, List, [], ◌∷◌, ◌++◌, length, Bool, true, false, if◌then◌else◌, Option, Some, None, Ok, Err}
 use Rattle.std.specs.Prelude.{◌⊎◌}
 use Rattle.std.specs.Option.{option_to_list}
@@ -31,14 +31,14 @@ made_messages k (c ∷ cs) = call_message (k % 65536) c ∷ made_messages (k + 1
 abbrev pub count_if : Bool → ℕ
 count_if waits = if waits then 1 else 0
 
--- the calls made, the items fed, the items given and the answers handed, in their orders
+-- a session made these calls, was fed and gave these items, and handed these answers, each in order
 pub record HasDone (made : List RawCall) (fed given : List Item) (handed : List Message) (t : Talk) : Type 0 where
   pub going : t.failed ≡ false
-  -- what was given and is out are the versions and the calls
+  -- the items that were given, and those that are out, are the versions and the calls, each cut
   pub items : given ++ t.out ≡ caller_items made
   pub short : AllByRecursion IsShortCall made
   pub transaction : t.transaction ≡ length made % 65536
-  -- each message of the peer's was handed, or is there
+  -- each message of the peer's was handed, or is there to be handed
   pub messages : handed ++ option_to_list t.outcome ≡ conversation fed
   pub answers : AreAnswers 1 (conversation fed)
   -- each call but the one that waits is answered

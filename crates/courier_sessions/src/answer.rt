@@ -1,3 +1,5 @@
+//! What a call is answered by.
+
 /// What a call is answered by, but for its words and its transaction (XSIS 038112, Courier, Return, Abort and Reject message).
 #[derive(Clone, Copy, Debug, PartialEq, Eq)]
 pub enum Answer {

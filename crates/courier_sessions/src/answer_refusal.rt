@@ -1,9 +1,11 @@
+//! Why an answer is not put out.
+
 use thiserror::Error;
 
-/// Why an answer is not put out. The side is as it was.
+/// Why an answer is not put out. The side then is as it was.
 #[derive(Clone, Copy, Debug, PartialEq, Eq, Error)]
 pub enum AnswerRefusal {
-    /// No call waits for it.
+    /// No call waits for the answer.
     #[error("no call waits for this answer")]
     NoCall,
     /// The message has over 131,072 bytes.

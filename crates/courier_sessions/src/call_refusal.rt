@@ -1,6 +1,8 @@
+//! Why a call is not made.
+
 use thiserror::Error;
 
-/// Why a call is not made. The side is as it was.
+/// Why a call is not made. The side then is as it was.
 #[derive(Clone, Copy, Debug, PartialEq, Eq, Error)]
 pub enum CallRefusal {
     /// The conversation has stopped.

@@ -50,7 +50,7 @@ impl Model for WordCaller {
     } };
 }
 
-/// Why a message is no answer to the call that waits.
+/// Why a message with this head is no answer to the call that waits; `None` where it is one.
 fn reply_fault(head: Head, waiting: bool, expects: u16) -> Option<SessionFault>
     ensures fault { (words : List ℕ) → result ≡ reply_fault waiting expects (with_words head words) }
     ensures memory { result ≡ Some NoMemory → ⊥ }
@@ -83,7 +83,7 @@ impl WordCaller {
         })
     }
 
-    /// Whether it has stopped.
+    /// Whether the conversation has stopped.
     pub fn is_stopped(&self) -> bool
         ensures { result ≡ self.now.failed }
     {
@@ -131,8 +131,9 @@ impl WordCaller {
 
     /// Puts out a call.
     ///
-    /// It is refused, and nothing is changed, as `Stopped` where the conversation has stopped; `Busy` where a call waits for its answer or
-    /// an answer was not picked up; `TooLong` over 65,530 words; `NoMemory` where a growth was refused.
+    /// A call is refused, and nothing is changed, as `Stopped` where the conversation has stopped; `Busy` where a call
+    /// waits for its answer or an answer was not picked up; `TooLong` over 65,530 words; `NoMemory` where a growth was
+    /// refused.
     pub fn call(
         &mut self,
         alloc: Global,
@@ -161,7 +162,7 @@ impl WordCaller {
         Ok(())
     }
 
-    /// What is wrong with an item of these parts, if anything is: it is told before the item is taken.
+    /// What is wrong with an item of these parts, if anything is. The item is not taken in.
     fn judge(&self, stream: u8, last: bool, body: &[u8]) -> Result<(), SessionFault>
         ensures { Judges result (after_item self.now (item_of stream last body.now)) }
     {

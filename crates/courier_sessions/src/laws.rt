@@ -22,9 +22,10 @@ ghost use Rattle.std.specs.Option.{option_to_list};
 ghost use Rattle.xns_spp.specs.Growth.{Begins};
 ghost use Rattle.xns_spp.specs.declared.item.Item.{Item};
 
-/// A session that goes on has given the versions and the items of its calls, in order, or they are out; each message that the peer's items
-/// say was handed as the answer to the call of its number, in order, or is there. It stops exactly where the conversation stops or a
-/// message is no answer.
+/// What a session that calls has done, as long as it goes on. The versions and the items of its calls were given, in
+/// order, or are still out. Each message that the peer's items say was handed, in order, as the answer to the call of
+/// its number, or is there to be handed. The session stops exactly where the conversation stops or a message is no
+/// answer.
 pub fn a_session_is_its_conversation()
     ensures start { HasDone [] [] [] [] new_talk }
     ensures call { (made : List RawCall) (fed given : List Item) (handed : List Message) (t : Talk) (c : RawCall)
@@ -42,10 +43,11 @@ pub fn a_session_is_its_conversation()
     courier_messages::laws::one_item_more();
 }
 
-/// A session that is called, as long as it goes on: the items that it gave and that are out are the versions and the answers made, each
-/// cut, the k-th with the transaction of the k-th call; the calls that it took, with the one that waits, are the peer's messages, in order,
-/// each once, and those that it handed, or that were rejected before they were handed, are the listed ones of them. It stops exactly where
-/// the conversation stops or a message is no call.
+/// What a session that is called has done, as long as it goes on. The items that it gave, and those that are out, are
+/// the versions and the answers made, each cut; the k-th answer has the transaction of the k-th call. The calls that it
+/// took, with the one that waits, are the peer's messages, in order, each once. The listed ones of the calls that it
+/// took were handed, or were rejected before they were handed. The session stops exactly where the conversation stops
+/// or a message is no call.
 pub fn a_server_session_is_its_conversation()
     ensures start { (programs : List Program) → HasAnswered programs [] [] [] [] [] (new_answering programs) }
     ensures feed { (programs : List Program) (fed given : List Item) (taken handed answers : List Message) (a n : Answering) (x : Item)
@@ -79,9 +81,9 @@ pub fn a_server_session_is_its_conversation()
     courier_messages::laws::a_server_hears_one_item_more();
 }
 
-/// A calling and a called session that face each other, each fed a prefix of what the other gave: neither stops at the next item; the calls
-/// that the one takes begin those that the other made, in order; and the answers that the caller has, handed or not, begin those that were
-/// made.
+/// A session that calls and a session that is called face each other, and each was fed a prefix of what the other gave.
+/// Neither stops at the next item. The calls that the one took, with the call that waits, begin those that the other
+/// made, in order. The answers that the caller has, handed or not, begin those that were made.
 pub fn sessions_agree()
     ensures server { (made : List RawCall) (back given : List Item) (got : List Message) (t : Talk) (programs : List Program)
         (fed sent : List Item) (taken handed answers : List Message) (a : Answering) (x : Item) → HasDone made back given got t
@@ -105,7 +107,8 @@ pub fn sessions_agree()
     courier_messages::laws::a_server_hears_one_item_more();
 }
 
-/// Room for so many words always serves: a call that waits has at most 65,530 of its own, and any message that was read at most 65,534.
+/// How many words of its own a message has at most: a call that waits has at most 65,530, and any message that was read
+/// at most 65,534. Room for so many words always serves.
 pub fn words_have_their_room()
     ensures read { (bytes : List ℕ) (m : Message) → message_of bytes ≡ Ok m → HasRoom m }
     ensures call { (programs : List Program) (fed given : List Item) (taken handed answers : List Message) (a : Answering) (m : Message)

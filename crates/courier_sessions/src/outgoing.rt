@@ -18,7 +18,7 @@ pub const MOST_ITEM: usize = 4 + MOST_BYTES;
 /// How many words an item holds at most.
 const WORDS_AN_ITEM: usize = MOST_BODY / 2;
 
-/// An item of datastream 0 or another, which is no attention item, whose bytes are copied. It is refused memory only where there are some.
+/// An item of any datastream, without attention, whose bytes are copied. Memory is refused only where there are bytes.
 pub fn copied_item(alloc: Global, stream: u8, last: bool, body: &[u8]) -> Result<Item, AllocError>
     ensures copied { IfOk result (λ x. x ≡ item_of stream last body.now) }
     ensures memory { OnErr result (0 < length body.now) }
@@ -35,7 +35,7 @@ pub fn copied_item(alloc: Global, stream: u8, last: bool, body: &[u8]) -> Result
     })
 }
 
-/// The program, version and procedure that a call with this head names; 0 for each where it is no call's.
+/// The program, version and procedure that a call with this head names; each is 0 where the head is no call's.
 fn procedure_of(head: Head) -> (u32, u16, u16)
     ensures { (transaction program version procedure : ℕ) → head ≡ Call transaction program version procedure
         → result ≡ (program, version, procedure) }
@@ -74,7 +74,8 @@ fn whole_words(alloc: Global, head: Head, words: &[u16]) -> Result<Vec<u16>, All
     Ok(all)
 }
 
-/// Puts the items of a message with this head and these words behind those that are out. Where memory is refused these stay as they are.
+/// Puts the items of a message with this head and these words behind those that are out. Where memory is refused, `out`
+/// holds what it held.
 pub fn put_message(
     alloc: Global,
     head: Head,

@@ -20,14 +20,15 @@ fn refuses(endpoint: &Endpoint, item: &Item) -> bool
     endpoint.send_fault(item).is_some()
 }
 
-/// Has an endpoint accept an item, unless it would be refused: that one is let go.
+/// Gives an endpoint an item to send. An item that the endpoint refuses is let go.
 fn accept(endpoint: &mut Endpoint, item: Item)
     ensures { (s : State) → StandsFor endpoint.old s → StandsFor endpoint.new (after_send s item) }
 {
     let _ = endpoint.send(item);
 }
 
-/// Sends the first item that is to go out, if there is one and the endpoint accepts it; whether it did.
+/// Sends the first item that is to go out, if there is one and the endpoint accepts it. Returns whether the item was
+/// sent.
 fn send_first<S: WordSide>(side: &mut S, endpoint: &mut Endpoint) -> bool
     ensures sent { (s : State) (x : Item) (xs : List Item) → StandsFor endpoint.old s → S.side.out side.old ≡ x ∷ xs → result ≡ true →
         (send_fault s x ≡ None) × (S.side.out side.new ≡ xs) × StandsFor endpoint.new (after_send s x) }
@@ -49,8 +50,8 @@ fn send_first<S: WordSide>(side: &mut S, endpoint: &mut Endpoint) -> bool
     true
 }
 
-/// Feeds the item that waits first at an endpoint, which then hands it up; whether it did. Where it is refused it waits still. None is fed
-/// where none waits, or the side is busy.
+/// Feeds a side the first item that waits at an endpoint, which then hands the item up. Returns whether an item was
+/// fed: none is where none waits, or where the side is busy. An item that the side refuses still waits at the endpoint.
 fn feed_first<S: WordSide>(
     side: &mut S,
     alloc: Global,
@@ -77,11 +78,11 @@ fn feed_first<S: WordSide>(
     }
 }
 
-/// Moves items both ways between a side and an endpoint until nothing moves. What is out is sent, as far as the endpoint accepts it; once
-/// nothing is out, what waits at the endpoint is fed to the side, until that is busy.
+/// Moves items both ways between a side and an endpoint until nothing moves. What is out is sent, as far as the
+/// endpoint accepts it. Once nothing is out, what waits at the endpoint is fed to the side, until the side is busy.
 ///
-/// The first item that the side refuses for another reason is told, with the reason: it waits at the endpoint still, and so do those behind
-/// it. After `NoMemory` the same call goes on.
+/// An `Err` is why the side refused an item, for another reason than being busy. The item still waits at the endpoint,
+/// and so do those behind it. After `NoMemory` the function can be run again, and goes on with that item.
 pub fn pump<S: WordSide>(
     side: &mut S,
     alloc: Global,

@@ -69,7 +69,7 @@ fn is_call(head: Head) -> bool
     matches!(head, Head::Call { .. })
 }
 
-/// Which call a message with this head belongs to.
+/// The transaction of a message with this head.
 fn transaction_of(head: Head) -> u16
     ensures { (words : List ℕ) → result ≡ transaction_in (with_words head words) }
 {
@@ -95,7 +95,7 @@ fn answer_head(answer: Answer, transaction: u16) -> Head
     }
 }
 
-/// Whether it is a reject.
+/// Whether the answer is a reject.
 fn is_reject(answer: Answer) -> bool
     ensures { result ≡ is_reject answer }
 {
@@ -110,7 +110,8 @@ fn is_too_long(head: Head, count: usize) -> bool
 }
 
 impl WordServer {
-    /// A side for these programs, whose versions are out. Where there are none each call is handed. The only error is want of memory.
+    /// A side for these programs, whose versions are out. Where there are no programs, each call is handed. The only
+    /// error is want of memory.
     pub fn new(alloc: Global, programs: Vec<Program>) -> Result<WordServer, AllocError>
         ensures { IfOk result (λ s. s ≡ new_answering programs.items) }
     {
@@ -124,14 +125,14 @@ impl WordServer {
         })
     }
 
-    /// Whether a call waits, or something is out.
+    /// Whether a call waits to be handed or for its answer, or something is out.
     pub fn is_busy(&self) -> bool
         ensures { result ≡ is_busy self.now }
     {
         self.call.is_some() || self.asked.is_some() || !self.out.is_empty()
     }
 
-    /// What is wrong with an item of these parts, if anything is: it is told before the item is taken.
+    /// What is wrong with an item of these parts, if anything is. The item is not taken in.
     fn judge(&self, stream: u8, last: bool, body: &[u8]) -> Result<(), SessionFault>
         ensures { Judges result (after_item self.now (item_of stream last body.now)) }
     {
@@ -209,7 +210,7 @@ impl WordServer {
         told(self.hear(alloc, stream, last, body), &mut self.failed)
     }
 
-    /// Whether it has stopped.
+    /// Whether the conversation has stopped.
     pub fn is_stopped(&self) -> bool
         ensures { result ≡ self.now.failed }
     {
@@ -230,7 +231,7 @@ impl WordServer {
         self.call.as_ref()
     }
 
-    /// Hands the call that waits, once, if its program and version are listed.
+    /// Hands the call that waits, once, if its program and version are listed. `None` changes nothing.
     pub fn take_call(&mut self) -> Option<PiecedMessage>
         ensures handed { (m : Message) → self.old.call ≡ Some m → why_unlisted self.old.programs m ≡ None → (result ≡ Some m)
             × (self.new ≡ after_call self.old m) }
@@ -278,8 +279,9 @@ impl WordServer {
         Ok(())
     }
 
-    /// Puts out the reject of a call that waits and whose program or version is not listed: reason 0, or reason 1 with the versions that
-    /// are (XSIS 038112, Courier, Reject message). Whether there was one. The only error is want of memory: nothing is changed then.
+    /// Puts out the reject of a call that waits and whose program or version is not listed: reason 0, or reason 1 with
+    /// the versions that are listed (XSIS 038112, Courier, Reject message). Returns whether there was such a call. The
+    /// only error is want of memory: nothing is changed then.
     pub fn reject_unlisted(&mut self, alloc: Global) -> Result<bool, AllocError>
         ensures rejected { (m : Message) (u : Unlisted) → self.old.call ≡ Some m → why_unlisted self.old.programs m ≡ Some u
             → result ≡ Ok true → self.new ≡ after_reject self.old m u }
@@ -306,7 +308,8 @@ impl WordServer {
         Ok(())
     }
 
-    /// Which call an answer is for: the one that was handed; a reject is also for one that waits, is listed and was not handed.
+    /// The transaction of the call that an answer is for: the call that was handed, or, for a reject, a call that
+    /// waits, is listed and was not handed.
     fn answers_to(&self, answer: Answer) -> Option<u16>
         ensures { result ≡ answers_to self.now answer }
     {
@@ -324,7 +327,7 @@ impl WordServer {
         }
     }
 
-    /// Puts out the answer to this call, if there is one.
+    /// Puts out the answer to the call of this transaction, if there is one.
     fn answer_to(
         &mut self,
         alloc: Global,
@@ -351,8 +354,8 @@ impl WordServer {
 
     /// Puts out the answer to the call that was handed.
     ///
-    /// It is refused, and nothing is changed, as `NoCall` where none was handed that waits for its answer; `TooLong` over 131,072 bytes;
-    /// `NoMemory` where a growth was refused.
+    /// An answer is refused, and nothing is changed, as `NoCall` where no call was handed that waits for its answer;
+    /// `TooLong` where the message has over 131,072 bytes; `NoMemory` where a growth was refused.
     pub fn answer(
         &mut self,
         alloc: Global,
@@ -367,8 +370,9 @@ impl WordServer {
         self.answer_to(alloc, self.asked, answer, words)
     }
 
-    /// The same; but a reject also answers a call that waits, is listed and was not handed, as one that is too long for the program: it is
-    /// handed no more.
+    /// Puts out the answer to the call that was handed, and refuses an answer, as [`answer`](WordServer::answer) does.
+    /// A reject also answers a call that waits, is listed and was not handed, as one that is too long for the program:
+    /// that call is then handed no more.
     pub fn answer_or_reject(
         &mut self,
         alloc: Global,

@@ -9,15 +9,15 @@ use courier_messages::SessionFault;
 use std::alloc::Global;
 use xns_spp::Item;
 
-/// A side of a Courier conversation over words, whose items go out and which is fed the peer's.
+/// A side of a Courier conversation over words. Its items go out, and it is fed the items of its peer.
 ///
-/// An `impl` names its side, by which its steps are defined.
+/// Each `impl` names the side that its steps are defined by.
 pub trait WordSide {
     ghost use Rattle.std.specs.Prelude.{◌≡◌, ◌≢◌, ◌<◌, List, [], ◌∷◌, length, Some, None, option_copied};
     ghost use Rattle.xns_spp.specs.declared.item.Item.{Item};
     ghost use Rattle.courier_sessions.specs.Pumping.{Side, IsFed};
 
-    // What is out, and what an item is told.
+    // What is out at the side, and what comes of an item that it is fed.
     ghost side: { Side Self };
 
     /// Takes in one more item of the peer's, whose bytes are copied, and keeps the message that it ends.
@@ -38,7 +38,8 @@ pub trait WordSide {
         ensures fewer { side.out self.old ≢ [] → length (side.out self.new) < length (side.out self.old) };
 }
 
-/// What is told of an item that a side looked at. A fault stops the side; where memory is refused it goes on.
+/// What is returned for an item that a side looked at. A fault stops the side; where memory is refused, the side goes
+/// on.
 pub fn told(taken: Result<(), SessionFault>, failed: &mut bool) -> Result<(), FeedRefusal>
     ensures told { result ≡ feeding.told taken }
     ensures good { taken ≡ Ok tt → failed.new ≡ failed.old }

@@ -12,9 +12,9 @@ use std::alloc::{AllocError, Global};
 /// Why a call is not handed.
 #[derive(Clone, Copy, Debug, PartialEq, Eq)]
 pub enum Unlisted {
-    /// Its program is not listed.
+    /// The program of the call is not listed.
     Program,
-    /// Its program is listed in other versions.
+    /// The program of the call is listed, in other versions: those from `low` to `high`.
     Version { low: u16, high: u16 },
 }
 
@@ -32,7 +32,7 @@ fn entry_for(programs: &[Program], program: u32) -> Option<Program>
     None
 }
 
-/// Why a call with this head is not handed, if it isn't. Where no program is listed each is handed.
+/// Why a call with this head is not handed, if it isn't. Where no program is listed, each call is handed.
 pub fn refusal(programs: &[Program], head: Head) -> Option<Unlisted>
     ensures { (words : List ℕ) → result ≡ why_unlisted programs.now (with_words head words) }
 {

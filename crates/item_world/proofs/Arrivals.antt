@@ -71,7 +71,7 @@ pub record IsFront (peer : State) (xs : List Item) : Type 0 where
 front_more : (peer : State) (xs : List Item) (x : Item) → IsFront peer xs → WentOut peer (length xs) x → IsFront peer (xs ++ x ∷ [])
 front_more peer xs x f out = record { taken = begins_more xs peer.accepted x f.taken out.is; went_out = omega (arith, length-append xs (x ∷ []), out.sent) }
 
--- what begins what went out at the peer, with more items that went out there next, begins it too
+-- items that begin what went out at the peer, with more items that went out there next, begin what went out there
 front_all : (peer : State) (xs items : List Item) → IsFront peer xs → ((i : ℕ) (x : Item) → slice_get items i ≡ Some x → WentOut peer (length xs + i) x) → IsFront peer (xs ++ items)
 front_all peer xs [] f h = subst (IsFront peer) (sym (append-nil xs)) f
 front_all peer xs (y ∷ ys) f h =
@@ -96,7 +96,7 @@ same_packet p q b h i = cc
 same_number : (m n : ℕ) → Some m ≡ Some n → m ≡ n
 same_number m n h = cc
 
--- the item that it brings went out at the peer
+-- the item that a packet of the peer brings went out at the peer
 brought : (s peer : State) (b : List ℕ) (k : ℕ) (x : Item) → Comes s peer b → Brings s b k x → WentOut peer k x
 brought s peer b k x c i =
     let m : Meant = c.meant in

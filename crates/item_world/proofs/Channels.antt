@@ -12,7 +12,7 @@ use Rattle.item_world.specs.declared.side.Side.TheVariants.{A, B}
 abbrev InOrder : Channel → Side → Type 0
 InOrder c side = Begins (c.handed side) (c.accepted (other side))
 
--- where both lists are known
+-- a side is in order, where what it handed up and what the other side accepted are known
 same : (c d : Channel) (side : Side) (h a : List Item) → d.handed side ≡ h → d.accepted (other side) ≡ a → Begins h a → InOrder d side
 same c d side h a p q b = subst (λ (l : List Item). Begins (d.handed side) l) (sym q) (subst (λ (l : List Item). Begins l a) (sym p) b)
 

@@ -30,7 +30,7 @@ pub delivers_now : (w : World) (side : Side) (s p : State) (k : ℕ) (bytes : Li
 delivers_now w side s p k bytes x i =
     delivers_lands w k ∙ (ap (flushed w) (lands_there w side s p k bytes x i) ∙ ap (λ (v : World). flushes v (other side)) (sym (lands_now w side s p k bytes x i)))
 
--- from a world in which the packet came
+-- the ends of a world once a packet that was just sent came and was answered
 pub delivered : Kept → (w : World) (side : Side) (s p : State) (k : ℕ) (bytes : List ℕ) → Pair w side s p
     → IsNew w side s p k bytes → Pair (delivers w k) side s (after_flush (after_receive p bytes))
 delivered kept w side s p k bytes x i =

@@ -115,7 +115,7 @@ further_before m n (Foreign side bytes) le h = absurd h
 further_before m n (Send side x) le h = absurd h
 further_before m n (Take side) le h = tt
 
--- what always holds holds after them
+-- what always holds of a world
 pub record Both (w : World) : Type 0 where
   pub holds : Holds w
   pub linked : Linked w
@@ -136,7 +136,7 @@ both_plain k n w ss h b = events_after k w ss (All-weaker (IsFurther n) IsEvent 
 
 -- ---- events one after another
 
--- u goes on as v by so many events at most
+-- u goes on as v by at most n events
 record Leads (u v : World) (n : ℕ) : Type 0 where
   steps : List Event
   plain : All (IsFurther (length u.bag)) steps
@@ -241,7 +241,8 @@ le_then a b c h i = omega arith
 pub still_left : (n h i : ℕ) → h ≤ i → n ≤ i + (n - h)
 still_left n h i a = omega arith
 
--- one way after what was done, where the items of w are meant
+-- at most n events lead from w, by way of v, to a world in which all that this side of w had accepted is handed up at
+-- the other side
 record Handed (w v : World) (side : Side) (n : ℕ) : Type 0 where
   then : World
   leads : Leads w then n

@@ -37,7 +37,7 @@ IsKeptIn w x = IsSoundSpelling (end_of w x.side) (end_of w (other x.side)) x
 
 -- ---- an end goes on
 
--- what went out there did
+-- what went out at an end is still what went out once the end has grown
 still_out : (s t : State) (k : ℕ) (x : Item) → Grows s t → WentOut s k x → WentOut t k x
 still_out s t k x g was = record { is = begins_get s.accepted t.accepted k x g.accepted was.is; sent = omega (arith, was.sent, g.sent) }
 
@@ -69,7 +69,7 @@ stays_spelled s t peer x g i = spelled_on s t peer peer x x.delivered i (stays_s
 peer_spelled : (s t peer : State) (x : Emitted) → Grows s t → IsSoundSpelling peer s x → IsSoundSpelling peer t x
 peer_spelled s t peer x g i = spelled_on peer peer s t x x.delivered i i.sound (omega arith) (begins_length s.taken t.taken g.taken)
 
--- the packets that it sends
+-- a packet that an end sends now is sound
 abbrev IsNew : (t peer : State) (side : Side) → List ℕ → Type 0
 IsNew t peer side b = IsSoundSpelling t peer (emitted side (moment t peer) b)
 
@@ -238,7 +238,7 @@ run_holds laws w (e ∷ es) fits h = run_holds laws (happens w e) es (All-tail I
 
 -- ---- at every moment
 
--- after these events, and after the first n small steps of one event more
+-- what always holds, holds after these events and the first n small steps of one event more
 pub within_holds : EachStepKeepsTheOrder → (setup : Setup) (events : List Event) (e : Event) (n : ℕ) → IsSetup setup → IsGood setup → All IsEvent events → IsEvent e
     → Holds (all_stepped (run (start setup) events) (take n (steps_of (run (start setup) events) e)))
 within_holds laws setup events e n fits good given event =

@@ -139,7 +139,7 @@ get_of_map [] k x h = absurd (cc)
 get_of_map (y ∷ xs) zero x h = (y, refl, cc)
 get_of_map (y ∷ xs) (suc k) x h = get_of_map xs k x h
 
--- nothing comes of it any more
+-- nothing comes any more of a packet that lived no longer before
 pub lands_nowhere : (w v : World) (k : ℕ) (x : Emitted) → Later w v → slice_get w.bag k ≡ Some x → has_passed w x ≡ true → landing v k ≡ None
 lands_nowhere w v k x h is past =
     let there = begins_get (map as_sent w.bag) (map as_sent v.bag) k (as_sent x) h.bag (get_map w.bag k x is) in

@@ -148,7 +148,7 @@ drop_all [] (suc n) h = refl
 drop_all (x ∷ bag) zero h = absurd (omega (arith, h))
 drop_all (x ∷ bag) (suc n) h = drop_all bag n (omega (arith, h))
 
--- where the first n from number i on are settled
+-- the numbers of the packets that are not settled, where the first n packets from number i on are settled
 unsettled_rested : (w : World) (n i : ℕ) (bag : List Emitted) → n ≤ length bag → All (IsSettled w) (take n bag) → unsettled w i bag ≡ unsettled w (i + n) (drop n bag)
 unsettled_rested w zero i bag l h = ap (λ (k : ℕ). unsettled w k bag) (omega arith)
 unsettled_rested w (suc n) i [] l h = absurd (omega arith)
@@ -158,7 +158,7 @@ unsettled_rested w (suc n) i (x ∷ bag) l h =
     ∙ (unsettled_rested w n (i + 1) bag (omega (arith, l)) (All-tail (IsSettled w) x (take n bag) h)
     ∙ ap (λ (k : ℕ). unsettled w k (drop n bag)) count)
 
--- the numbers listed so far, and those from number k on
+-- the numbers listed so far, with those of the packets from number k on, are all numbers from r on
 abbrev pub AreListed : World → List ℕ → ℕ → ℕ → Type 0
 AreListed w ns r k = ns ++ unsettled w k (drop k w.bag) ≡ unsettled w r (drop r w.bag)
 

@@ -176,7 +176,7 @@ proper_heard laws t p q m to back i ours =
 
 -- ---- an end asks, and is told
 
--- after a tick its first packet comes to the peer, which answers it
+-- after a tick of an end, the first packet of the tick comes to the peer, which answers the packet
 pub record Asked (w : World) (side : Side) (s p : State) : Type 0 where
   pub bytes : List ℕ
   pub new : IsNew (ticks w side) side (after_tick s) p (length w.bag) bytes
@@ -267,7 +267,7 @@ goes k w side s p knows none left =
 pub handing_one : EndLaws → (p : State) → p.handed < length p.taken → (after_take p).handed ≡ p.handed + 1
 handing_one laws p lt = let e = element p.taken p.handed lt in ap (λ (t : State). t.handed) (laws.hands_up.some p e.0 e.1)
 
--- the peer hands up what waits
+-- the peer hands up the item that waits
 pub took : EndLaws → (w : World) (side : Side) (s p : State) → Pair w side s p → p.handed < length p.taken
     → (end_of (takes w (other side)) (other side)).handed ≡ p.handed + 1
 took laws w side s p x lt =

@@ -10,8 +10,9 @@ use Rattle.item_world.specs.Landing.{landing, reached}
 use Rattle.item_world.specs.UserSteps.{resends, sends_system_packet}
 use Rattle.item_world.specs.World.{World, flushes, ticks, overhears, sends, takes}
 
--- packet k comes to an end, which answers it; bytes from elsewhere come to an end; an end is given an item, hands one up, flushes, ticks,
--- sends its first item again, or sends a system packet. No event of a play has the last two.
+-- A small step: packet k comes to an end, which answers it; bytes from elsewhere come to an end; an end is given an
+-- item, hands one up, flushes, ticks, sends its first item again, or sends a system packet. No event of a play has the
+-- last two.
 pub data Step : Type 0 where
   arrival : ℕ → Step
   noise : Side → List ℕ → Step
@@ -48,7 +49,7 @@ all_stepped w steps = fold stepped w steps
 
 -- ---- the steps of an event
 
--- packet k is answered, and then the end that it came to flushes; nothing happens where it comes to none
+-- packet k comes to an end, which answers it and then flushes; nothing happens where packet k comes to no end
 abbrev pub arrival_steps : ℕ → Option (Side × World) → List Step
 arrival_steps k None = []
 arrival_steps k (Some l) = arrival k ∷ flushing l.0 ∷ []
@@ -59,7 +60,7 @@ delivery_steps w k = arrival_steps k (landing w k)
 abbrev pub delivers : World → ℕ → World
 delivers w k = all_stepped w (delivery_steps w k)
 
--- packets are delivered in turn
+-- the steps by which packets are delivered in turn
 abbrev pub delivery_steps_of : World → List ℕ → List Step
 delivery_steps_of w [] = []
 delivery_steps_of w (k ∷ ks) = delivery_steps w k ++ delivery_steps_of (delivers w k) ks

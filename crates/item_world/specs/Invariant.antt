@@ -14,7 +14,7 @@ use Rattle.item_world.specs.declared.side.Side.{Side}
 use Rattle.item_world.specs.Side.{other}
 use Rattle.item_world.specs.World.{World, end_of}
 
--- no further apart than a window or a backlog is long
+-- two numbers are no further apart than a window or a backlog is long
 pub record IsClose (n m : ℕ) : Type 0 where
   pub least : m ≤ n + most_pending
   pub most : n ≤ m + most_pending
@@ -34,7 +34,7 @@ pub record IsSoundPacket (s : State) (p : SppPacketModel) (m : Meant) : Type 0 w
   pub acknowledges : m.acknowledge ≤ length s.taken
   pub allows : m.allocation ≤ window_top s
 
--- bytes that were sent then spell a packet, whose numbers were close to what both ends had taken
+-- bytes that were sent at this moment spell a packet whose numbers were close to what both ends had taken
 pub record IsSpelling (bytes : List ℕ) (at : Moment) : Type 0 where
   pub packet : SppPacketModel
   pub meant : Meant
@@ -43,11 +43,11 @@ pub record IsSpelling (bytes : List ℕ) (at : Moment) : Type 0 where
   pub reduced : IsReduced packet.header meant
   pub close : IsCloseTo at meant
 
--- the bytes of a packet from s to its peer spell a packet of which this is true
+-- the bytes that s sent to its peer spell a packet, and what the packet says is true of s now
 pub record IsSoundSpelling (s peer : State) (x : Emitted) : Type 0 where
   pub says : IsSpelling x.bytes x.at
   pub sound : IsSoundPacket s says.packet says.meant
-  -- since it was sent, both ends have taken no less
+  -- both ends have taken no less than when the packet was sent
   pub sender : x.at.sender ≤ length s.taken
   pub receiver : x.at.receiver ≤ length peer.taken
 
@@ -56,8 +56,9 @@ pub record WentOut (s : State) (k : ℕ) (x : Item) : Type 0 where
   pub is : slice_get s.accepted k ≡ Some x
   pub sent : k < s.sent
 
--- an end beside its peer: what it has taken begins what the peer accepted, and went out there, as did each early item, which is the item of
--- its number; of its own the peer has taken no less than it was acknowledged, and no more than went out
+-- An end s beside its peer. What s has taken begins what the peer accepted, and went out at the peer. Each early item
+-- of s is the item of its number at the peer, and went out there. Of the items of s, the peer has taken no fewer than
+-- are acknowledged at s, and no more than went out at s.
 pub record Stands (s peer : State) : Type 0 where
   pub fits : IsState s
   pub taken : Begins s.taken peer.accepted

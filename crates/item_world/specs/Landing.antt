@@ -13,7 +13,8 @@ abbrev pub landed : World → ℕ → Option Emitted → Option (Side × World)
 landed w k None = None
 landed w k (Some x) = if has_passed w x then None else Some (other x.side, answered w k x)
 
--- the end that packet k comes to, and the world once that end has answered it; none where there is no packet k, or where it lives no longer
+-- the end that packet k comes to, and the world once that end has answered the packet; none where there is no packet k,
+-- or where packet k lives no longer
 abbrev pub landing : World → ℕ → Option (Side × World)
 landing w k = landed w k (slice_get w.bag k)
 

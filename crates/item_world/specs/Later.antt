@@ -35,6 +35,6 @@ pub record Lands (w : World) (k : ℕ) (side : Side) (v : World) : Type 0 where
 abbrev pub does_land : World → ℕ → Bool
 does_land w k = is_some (landing w k)
 
--- where packet k lands nowhere, it never does again
+-- where packet k lands nowhere in w, it lands nowhere in any world that w goes on as
 abbrev pub StaysAway : World → ℕ → Type 0
 StaysAway w k = landing w k ≡ None → (v : World) → Later w v → landing v k ≡ None

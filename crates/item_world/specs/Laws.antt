@@ -74,7 +74,7 @@ AQuietEndLeavesTheNetwork = (n : Network) (w : World) (side : Side) (s : State) 
 abbrev pub APacketThatLandsIsReceived : Type 0
 APacketThatLandsIsReceived = (w : World) (k : ℕ) (side : Side) (v : World) → landing w k ≡ Some (side, v) → Lands w k side v
 
--- a rest may leave out what lands nowhere as it begins: that never lands again, however the world goes on
+-- a rest may leave out the packets that land nowhere as it begins: these never land again, however the world goes on
 pub record ARestLeavesOutWhatIsSettled : Type 0 where
   pub left_out : (w : World) → unsettled w 0 w.bag ≡ filter (does_land w) (undelivered 0 w.bag)
   pub away : (w : World) → All (StaysAway w) (undelivered 0 w.bag)
@@ -117,8 +117,9 @@ pub record NetworkLaws : Type 0 where
   pub moves : AMoveIsOfOneEnd
   pub reached : ALandingHasAnEnd
 
--- From every world that small steps lead to, whatever was lost, repeated or late before, a few plain steps lead to one in which all that
--- was accepted is handed up and acknowledged. Without a take, some lead to where an item waits, or to where all is acknowledged.
+-- From every world that small steps lead to, whatever was lost, repeated or late before, a few plain steps lead to a
+-- world in which all that was accepted is handed up and acknowledged. Some steps without a take lead to a world in
+-- which an item waits, or in which all is acknowledged.
 pub record NoWorldIsStuck : Type 0 where
   pub starts : (setup : Setup) → Linked (start setup)
   pub each : (w : World) (s : Step) → IsStep s → Holds w → Linked w → Linked (stepped w s)

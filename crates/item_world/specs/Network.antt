@@ -26,7 +26,7 @@ moment_of c side = record { sender = count_of c side; receiver = count_of c (oth
 abbrev pub is_settled : World → Emitted → Bool
 is_settled w x = x.delivered || has_passed w x
 
--- of the packets the first n are all settled
+-- the first n packets of the world are all settled
 pub record AreRested (n : ℕ) (w : World) : Type 0 where
   pub within : n ≤ length w.bag
   pub settled : All (λ x. is_settled w x ≡ true) (take n w.bag)
@@ -36,7 +36,7 @@ abbrev pub unsettled : World → ℕ → List Emitted → List ℕ
 unsettled w i [] = []
 unsettled w i (x ∷ xs) = if is_settled w x then unsettled w (i + 1) xs else i ∷ unsettled w (i + 1) xs
 
--- the packets are those of the world, and so are the counts of what its ends have taken
+-- a network stands for a world: it has the packets of the world, and counts what the ends of the world have taken
 pub record IsNetwork (n : Network) (w : World) : Type 0 where
   pub bag : n.packets ≡ w.bag
   pub taken : (side : Side) → count_of n.taken side ≡ length (end_of w side).taken

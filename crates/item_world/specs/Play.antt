@@ -25,7 +25,7 @@ abbrev pub with_side : Pair → Side → Participant → Pair
 with_side p A e = record p { a = e }
 with_side p B e = record p { b = e }
 
--- the pair ends with what is left behind the reference at this side
+-- the pair ends as it was, but at this side with what is left behind the reference
 abbrev pub LendsSide : MutBor Pair → Side → MutBor Participant → Fml
 LendsSide s side r = Lends pair.the_row participant.the_row s r (with_side s.now side)
 
@@ -35,7 +35,7 @@ pub record IsParticipant (p : Participant) (s : State) : Type 0 where
   pub sent : p.sent ≡ s.accepted
   pub handed : p.handed ≡ take s.handed s.taken
 
--- under the laws of an end: where it stood for s, it then stands for what f makes of s
+-- under the laws of an end, a participant that stood for s then stands for what f makes of s
 abbrev pub Becomes : Participant → Participant → (State → State) → Type 0
 Becomes p q f = EndLaws → (s : State) → IsParticipant p s → IsParticipant q (f s)
 
@@ -44,7 +44,7 @@ pub record IsPlaying (p : Play) (w : World) : Type 0 where
   pub ends : (side : Side) → IsParticipant (at_side p.ends side) (end_of w side)
   pub network : IsNetwork p.network w
 
--- under the laws of an end: where it stood for w, it then stands for what f makes of w
+-- under the laws of an end, a play that stood for w then stands for what f makes of w
 abbrev pub StepsBy : Play → Play → (World → World) → Type 0
 StepsBy p q f = EndLaws → (w : World) → IsPlaying p w → IsPlaying q (f w)
 

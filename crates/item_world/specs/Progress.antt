@@ -15,8 +15,8 @@ use Rattle.item_world.specs.Landing.{landing}
 use Rattle.item_world.specs.Side.{other}
 use Rattle.item_world.specs.World.{World, end_of, ticks, flushes, sent_at, handed_at}
 
--- an end ticks, flushes, hands an item up, or answers one of the packets that are sent from number n on: no item is accepted, and nothing
--- that was sent before is needed
+-- A plain step: an end ticks, flushes, hands an item up, or answers one of the packets that are sent from number n on.
+-- No item is accepted, and no packet that was sent before is needed.
 abbrev pub IsPlainStep : ℕ → Step → Type 0
 IsPlainStep n (arrival k) = n ≤ k
 IsPlainStep n (taking side) = Unit {0}
@@ -24,8 +24,8 @@ IsPlainStep n (flushing side) = Unit {0}
 IsPlainStep n (ticking side) = Unit {0}
 IsPlainStep n _ = ⊥
 
--- w goes on as v, in which each item that an end of w had accepted is handed up at the other and acknowledged, and nothing else was
--- accepted; so neither end is full, unless the connection carries no more items that way
+-- w goes on as v, in which each item that an end of w had accepted is handed up at the other end and acknowledged, and
+-- no other item was accepted. Neither end is full in v, unless the connection carries no more items that way.
 pub record IsDone (w v : World) : Type 0 where
   pub accepted : (side : Side) → sent_at v side ≡ sent_at w side
   pub handed : (side : Side) → handed_at v (other side) ≡ sent_at w side
@@ -36,7 +36,8 @@ pub record IsDone (w v : World) : Type 0 where
 abbrev pub pending : World → Side → ℕ
 pending w side = length (sent_at w side) - (end_of w (other side)).handed
 
--- plain steps after which all is done, with nothing needed of what was sent before: twelve for each item that is pending, and twelve more
+-- plain steps after which all is done, without any packet that was sent before: at most twelve for each item that is
+-- pending, and twelve more
 pub record Finishes (w : World) : Type 0 where
   pub more : List Step
   pub plain : All (IsPlainStep (length w.bag)) more
@@ -50,7 +51,7 @@ IsWire n (flushing side) = Unit {0}
 IsWire n (ticking side) = Unit {0}
 IsWire n _ = ⊥
 
--- after some such steps an item waits at the other end, or all that this one accepted is acknowledged
+-- after some ticks, flushes and arrivals an item waits at the other end, or all that this end accepted is acknowledged
 pub record Stirs (w : World) (side : Side) : Type 0 where
   pub more : List Step
   pub wire : All (IsWire (length w.bag)) more
@@ -64,7 +65,8 @@ IsFurther n (Tick side) = Unit {0}
 IsFurther n (Take side) = Unit {0}
 IsFurther n _ = ⊥
 
--- events of a play after which all is done, with nothing needed of what was sent before: six for each item that is pending, and six more
+-- events of a play after which all is done, without any packet that was sent before: at most six for each item that is
+-- pending, and six more
 pub record FinishesByEvents (w : World) : Type 0 where
   pub more : List Event
   pub further : All (IsFurther (length w.bag)) more
@@ -123,7 +125,7 @@ pub record StirsOut (w : World) (side : Side) : Type 0 where
 
 -- ---- what is known of the ends' addresses at every moment
 
--- if the bytes are a packet, it is one from this end
+-- if the bytes are a packet, the packet is from this end
 abbrev pub IsFrom : Ends → List ℕ → Type 0
 IsFrom e bytes = (p : SppPacketModel) → spp_packet_of bytes ≡ Ok p → (p.source ≡ e.own) × (p.header.source_id ≡ e.id)
 

@@ -37,11 +37,11 @@ start s = record {
 
 -- ---- packets
 
--- what both ends have taken as the first sends to the second
+-- how many items two ends have taken as the first sends to the second
 abbrev pub moment : (sender receiver : State) → Moment
 moment s peer = record { sender = length s.taken; receiver = length peer.taken }
 
--- bytes as they are sent
+-- a packet of these bytes as it is sent, which is not delivered yet
 abbrev pub emitted : Side → Moment → List ℕ → Emitted
 emitted side at bytes = record { side = side; bytes = bytes; at = at; delivered = false }
 
@@ -53,11 +53,11 @@ with_packets bag side at packets = bag ++ map (emitted side at) packets
 abbrev pub moved : World → Side → State → List (List ℕ) → World
 moved w side s packets = record (with_end w side s) { bag = with_packets w.bag side (moment s (end_of w (other side))) packets }
 
--- packet k was delivered
+-- packet k, which is x, is marked as delivered
 abbrev pub marked : World → ℕ → Emitted → World
 marked w k x = record w { bag = slice_set w.bag k (record x { delivered = true }) }
 
--- while a packet lives, an end takes at most so many items
+-- how many items an end takes at most while a packet lives
 abbrev pub lifetime : ℕ
 lifetime = 30000
 
@@ -76,15 +76,15 @@ flushes w side = moved w side (after_flush (end_of w side)) (flush_answer (end_o
 abbrev pub ticks : World → Side → World
 ticks w side = moved w side (after_tick (end_of w side)) (tick_answer (end_of w side))
 
--- bytes come, and are answered
+-- bytes come to an end, which answers them
 abbrev pub receives : World → Side → List ℕ → World
 receives w side bytes = moved w side (after_receive (end_of w side) bytes) (option_to_list (receive_answer (end_of w side) bytes).reply)
 
--- bytes from elsewhere come; those that would pass for a packet of the connection are passed over
+-- bytes from elsewhere come to an end; bytes that would pass for a packet of the connection are passed over
 abbrev pub overhears : World → Side → List ℕ → World
 overhears w side bytes = if is_ours (end_of w side) bytes then w else receives w side bytes
 
--- a refused item is dropped
+-- an end is given an item to send; an item that the end refuses is dropped
 abbrev pub sends : World → Side → Item → World
 sends w side x = moved w side (after_send (end_of w side) x) []
 
@@ -101,7 +101,7 @@ sent_at w side = (end_of w side).accepted
 abbrev pub handed_at : World → Side → List Item
 handed_at w side = take (end_of w side).handed (end_of w side).taken
 
--- what both ends accepted, and what they handed up
+-- the channel of a world: what each end accepted, and what each end handed up
 abbrev pub channel_of : World → Channel
 channel_of w = record { accepted = sent_at w; handed = handed_at w }
 

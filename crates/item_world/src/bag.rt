@@ -1,3 +1,5 @@
+//! Every packet that was ever sent, as a list.
+
 use crate::side::Side;
 use xns_spp::{Bytes, Listed};
 

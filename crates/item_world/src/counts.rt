@@ -1,3 +1,5 @@
+//! How many items each end has taken.
+
 ghost use Rattle.std.specs.Prelude.{◌≡◌, ◌≤◌, ◌+◌, ℕ};
 ghost use Rattle.xns_spp.specs.Numbers.{most_items};
 ghost use Rattle.item_world.specs.Network.{count_of, moment_of, with_count};

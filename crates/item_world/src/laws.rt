@@ -44,11 +44,9 @@ pub fn end_laws_are_given()
     open_ends_learn_nothing();
 }
 
-/// What is true at every moment is true at the start, and is kept by each small step of an end and by each packet that comes,
-/// in whatever order they are taken.
-///
-/// Where it is true, what either end has handed up begins what the other sent, and a packet that still lives is read as the
-/// numbers that its fields were made of.
+/// What `Holds` says of a world is true at the start, and is kept by each small step of an end and by each packet that
+/// comes, in whatever order these are taken. Where it is true, what either end has handed up begins what the other
+/// sent, and a packet that still lives is read as the numbers that its fields were made of.
 pub fn each_step_keeps_the_order()
     ensures { EachStepKeepsTheOrder }
 {
@@ -69,8 +67,8 @@ pub fn moves_keep_the_order()
     ensures { MovesKeepTheOrder }
 {}
 
-/// Over every list of deliveries, losses, repeats and reorderings, what either end has handed up begins what the other sent,
-/// where no packet is delivered once an end has taken more than 30,000 further items since it was sent.
+/// Over every list of deliveries, losses, repeats and reorderings, what either end has handed up begins what the other
+/// sent. No packet is delivered once an end has taken more than 30,000 further items since the packet was sent.
 ///
 /// At every moment, within an event too, each packet ever sent is sound: its fields were made of numbers within 64 of what the
 /// end that they count had taken then; a data packet carries the item of its number, which went out by now, and no packet
@@ -104,9 +102,10 @@ pub fn the_bag_never_shrinks()
 /// The laws of the network, for a play that does more at its ends than hand items up.
 ///
 /// An end that flushes or receives keeps what it accepted and handed up. Only an end that is given an item accepts one, and only an
-/// end that hands an item up does so; the other end stays as it is. A world goes on with each move: its ends take no less, and its bag
-/// keeps what was sent. An end that sends and takes nothing leaves the network as it was. A packet that lands is received, and whether one
-/// lands is known by the end that it comes to. One that lands nowhere as a rest begins never lands again, so a rest may leave it out.
+/// end that hands an item up does so; the other end stays as it is. A world goes on with each move: its ends take no
+/// less, and its bag keeps what was sent. An end that sends and takes nothing leaves the network as it was. A packet
+/// that lands is received. A packet lands exactly where there is an end that it comes to. A packet that lands nowhere
+/// as a rest begins never lands again, so a rest may leave it out.
 pub fn network_laws_are_given()
     ensures { NetworkLaws }
 {
@@ -114,8 +113,8 @@ pub fn network_laws_are_given()
     each_step_is_a_move();
 }
 
-/// From every world that small steps lead to, some further ticks, arrivals of packets sent from then on, and takes lead to one in which
-/// each item that either end had accepted is handed up at the other.
+/// From every world that small steps lead to, some further ticks, arrivals of packets sent from then on, and takes lead
+/// to a world in which each item that either end had accepted is handed up at the other.
 pub fn no_world_is_stuck()
     ensures { NoWorldIsStuck }
 {

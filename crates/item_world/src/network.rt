@@ -1,3 +1,5 @@
+//! The network of a play: every packet that was ever sent between two ends.
+
 ghost use Rattle.std.specs.Prelude.{◌≡◌, ◌≤◌, ◌<◌, ◌+◌, ◌^◌, ◌∷◌, ◌++◌, if◌then◌else◌, ℕ, [], map, length, Some, IsSome, OnOk, OnErr, IfOk};
 ghost use Rattle.std.specs.Prelude.{IfSome, slice_get};
 ghost use Rattle.std.specs.Vec.{vec_len, vec_capacity};
@@ -18,12 +20,12 @@ use std::alloc::{AllocError, Global};
 use std::marker::Model;
 use xns_spp::Bytes;
 
-/// Every packet that was ever sent between two ends, in order, and how many items both have taken from them.
+/// Every packet that was ever sent between two ends, in order, and how many items each end has taken from them.
 #[derive(Drop)]
 pub struct Network {
     packets: Vec<Emitted>,
     taken: Counts,
-    /// Of the packets, how many first ones were surely all delivered, or live no longer.
+    /// How many packets at the front are known to be settled: each was delivered, or lives no longer.
     rested: usize,
 }
 
@@ -36,7 +38,7 @@ impl Model for Network {
 }
 
 impl Network {
-    /// Nothing was sent yet.
+    /// A network over which nothing was sent yet.
     pub fn new(alloc: Global) -> Network
         ensures { (result.packets ≡ []) × (result.taken ≡ record { a = 0; b = 0 }) × (result.rested ≡ 0) }
     {
@@ -57,7 +59,8 @@ impl Network {
         packet.at.is_past(now.sender, now.receiver)
     }
 
-    /// The end that the packet of this number comes to. `None` where there is no such packet, or where it lives no longer.
+    /// The end that the packet of this number comes to; `None` where there is no such packet, or where it lives no
+    /// longer.
     pub fn lands_at(&self, number: usize) -> Option<Side>
         ensures lands { (w : World) → IsNetwork self.now w → result ≡ end_reached (landing w number) }
         ensures there { IfSome result (λ side. number < length self.now.packets) }
@@ -89,8 +92,8 @@ impl Network {
         Ok(())
     }
 
-    /// A packet was delivered to an end, which took so many items from it, and perhaps replies. The only error is want of memory, where
-    /// there is a reply; the network is then as it was.
+    /// A packet was delivered to an end, which took so many items from the packet, and perhaps replies. The only error
+    /// is want of memory, where there is a reply; the network is then as it was.
     pub fn deliver(
         &mut self,
         side: Side,
@@ -121,7 +124,7 @@ impl Network {
         self.packets[number].delivered || self.has_passed(number)
     }
 
-    /// A packet before which all are settled, as far on as can be seen.
+    /// The number of the first packet that is not settled, or how many packets there are where all are settled.
     fn first_unsettled(&self) -> usize
         ensures { (w : World) → IsNetwork self.now w → AreRested result w }
     {
@@ -133,7 +136,7 @@ impl Network {
         self.packets.len()
     }
 
-    /// Lists the number of a packet, where it is not settled.
+    /// Lists the number of a packet, where the packet is not settled.
     fn list(&self, numbers: &mut Vec<usize>, number: usize) -> Result<(), AllocError>
         requires { number < length self.now.packets }
         ensures { OnOk result ((w : World) (x : Emitted) → IsNetwork self.now w → slice_get w.bag number ≡ Some x
@@ -145,8 +148,8 @@ impl Network {
         Ok(())
     }
 
-    /// The numbers of the packets that are not settled, in order. The only error is want of memory, where there are packets; whatever
-    /// comes, the network stands for what it stood for.
+    /// The numbers of the packets that are not settled, in order. The only error is want of memory, where there are
+    /// packets; with or without the error, the network stands for what it stood for.
     pub fn unsettled(&mut self, alloc: Global) -> Result<Vec<usize>, AllocError>
         ensures network { (w : World) → IsNetwork self.old w → IsNetwork self.new w }
         ensures memory { OnErr result (0 < length self.old.packets) }
@@ -176,7 +179,7 @@ impl Network {
     }
 }
 
-/// Appends packets of one moment to those before, which have room for them.
+/// Appends packets of one moment to the packets before, which have room for them.
 fn append_all(before: &mut Vec<Emitted>, side: Side, at: Moment, packets: Vec<Bytes>)
     requires { vec_len before.old + vec_len packets ≤ vec_capacity before.old }
     ensures { before.new.items ≡ with_packets before.old.items side at packets.items }

@@ -1,3 +1,5 @@
+//! The two ends of a play.
+
 ghost use Rattle.std.specs.Prelude.{◌≡◌};
 ghost use Rattle.std.specs.Borrow.{sem};
 ghost use Rattle.item_world.specs.Play.{LendsSide, at_side};

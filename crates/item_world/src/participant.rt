@@ -1,3 +1,5 @@
+//! One end of a play, with the items that it accepted and handed up.
+
 ghost use Rattle.std.specs.Prelude.{◌≡◌, ◌<◌, [], length, OnOk, OnErr, IfOk};
 ghost use Rattle.xns_spp.specs.Sending.{after_send, after_take};
 ghost use Rattle.item_world.specs.Play.{Becomes};
@@ -26,7 +28,7 @@ impl Participant {
         }
     }
 
-    /// Gives the endpoint an item to send; one that it refuses is dropped.
+    /// Gives the endpoint an item to send; an item that the endpoint refuses is dropped.
     pub fn send(&mut self, alloc: Global, item: &Item) -> Result<(), AllocError>
         ensures { OnOk result (Becomes self.old self.new (λ s. after_send s item.now)) }
     {
@@ -47,7 +49,7 @@ impl Participant {
     }
 }
 
-/// The item once more. The only error is want of memory, where the item has bytes.
+/// A copy of the item. The only error is want of memory, where the item has bytes.
 pub fn copied(alloc: Global, item: &Item) -> Result<Item, AllocError>
     ensures item { IfOk result (λ x. x ≡ item.now) }
     ensures memory { OnErr result (0 < length item.now.body) }

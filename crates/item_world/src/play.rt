@@ -1,3 +1,5 @@
+//! A play of items between two ends, over a network.
+
 ghost use Rattle.std.specs.Prelude.{◌≡◌, ◌<◌, OnOk, IfOk, Some, fold};
 ghost use Rattle.item_world.specs.declared.event.Event.TheVariants.{Deliver, Rest, Tick, Foreign, Send, Take};
 ghost use Rattle.item_world.specs.Events.{delivers, happens, run, IsEvent};
@@ -93,7 +95,7 @@ impl Play {
         Ok(())
     }
 
-    /// Delivers each packet that was never delivered and is there as this begins, in order.
+    /// Delivers each packet that is there as the rest begins and was never delivered, in order.
     fn rest(&mut self, alloc: Global) -> Result<(), AllocError>
         ensures { OnOk result (StepsBy self.old self.new (λ w. happens w Rest)) }
     {

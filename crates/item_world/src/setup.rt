@@ -1,3 +1,5 @@
+//! What two ends begin with.
+
 ghost use Rattle.std.specs.Prelude.{◌↔◌, IsTrue, IfOk};
 
 use crate::side::Side;
@@ -28,8 +30,8 @@ impl Setup {
     ghost use Rattle.item_world.specs.Setup.{IsSetup, IsGood};
     ghost use Rattle.item_world.specs.World.{start, end_of};
 
-    /// Whether a connection can be made so: both identifiers are known, window and backlog are from 1 to 64 items,
-    /// and neither end is the broadcast host.
+    /// Whether a connection can be made from this setup: both identifiers are known, window and backlog are from 1 to
+    /// 64 items, and neither end is the broadcast host.
     pub fn is_good(&self) -> bool
         ensures { IsTrue result ↔ IsGood self.now }
     {

@@ -1,3 +1,5 @@
+//! The two ends of a connection.
+
 ghost use Rattle.std.specs.Prelude.{◌≡◌};
 
 /// One of the two ends of a connection.

@@ -69,7 +69,7 @@ command_in (a ∷ b ∷ c ∷ []) = three_words a b c
 command_in (a ∷ b ∷ p ∷ v ∷ q ∷ words) = more_words a b p v q words
 command_in _ = None
 
--- what a line says; none where it is refused. An empty line and one that begins with byte 35 say nothing
+-- what a line says; none where the line is refused. An empty line and one that begins with byte 35 say nothing
 unfoldable pub command_of : List ℕ → Option CommandModel
 command_of [] = Some skips
 command_of (byte ∷ bytes) = if byte == 35 then Some skips else command_in (words_of_line (byte ∷ bytes))

@@ -18,7 +18,7 @@ is_said_with c (typed v) = c.program == 7 && (c.version == 2
     && (if c.procedure == 1 then is_cardinal v else c.procedure == 2 && is_no_fields v))
 is_said_with c (raw_words words) = nat_le (length words) most_call_words
 
--- an Add, a Total, or words that fit in a message
+-- the call is an Add, a Total, or has words as arguments, which fit in a message
 abbrev pub is_said : CallModel → Bool
 is_said c = is_said_with c c.arguments
 

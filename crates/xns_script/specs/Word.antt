@@ -28,7 +28,7 @@ words_after (Some rest) = words_of_line rest
 
 -- ---- numbers
 
--- the number that these digits make after those of n
+-- the number that the digits make where they stand behind the digits of n
 abbrev pub digits_from : ℕ → List ℕ → ℕ
 digits_from n [] = n
 digits_from n (digit ∷ digits) = digits_from (10 * n + (digit - 48)) digits
@@ -44,7 +44,7 @@ MayBeDecimal word = (0 < length word) × (length word ≤ 10) × (slice_index wo
 abbrev pub at_most : ℕ → ℕ → List ℕ → Option ℕ
 at_most most n word = if nat_le n most then (if bytes_eq (decimal n) word then Some n else None) else None
 
--- the number whose decimal this word is, if it is at most so much; a decimal has no leading zero but 0 itself
+-- the number whose decimal this word is, if the number is not over the most; a decimal has no leading zero but 0 itself
 unfoldable pub number_of : ℕ → List ℕ → Option ℕ
 number_of most word = at_most most (digits_from 0 word) word
 
@@ -54,7 +54,7 @@ abbrev pub word_in : Result (List ℕ) FromHexError → Option ℕ
 word_in (Ok (high ∷ low ∷ [])) = Some (from_be_bytes w16 (high ∷ low ∷ []))
 word_in _ = None
 
--- four hex digits: those of two bytes
+-- the word that four hex digits spell, those of two bytes
 unfoldable pub hex_word_of : List ℕ → Option ℕ
 hex_word_of word = word_in (decode_sized word 2)
 
@@ -62,7 +62,7 @@ abbrev pub bytes_if_any : Result (List ℕ) FromHexError → Option (List ℕ)
 bytes_if_any (Ok (byte ∷ bytes)) = Some (byte ∷ bytes)
 bytes_if_any _ = None
 
--- an even number of hex digits, at least two
+-- the bytes that hex digits spell, at least one byte
 unfoldable pub hex_bytes_of : List ℕ → Option (List ℕ)
 hex_bytes_of word = bytes_if_any (decode_of word)
 
@@ -70,7 +70,7 @@ abbrev pub and_more : Option ℕ → Option (List ℕ) → Option (List ℕ)
 and_more (Some w) (Some ws) = Some (w ∷ ws)
 and_more _ _ = None
 
--- each word has four hex digits
+-- the words that are spelled, where each is of four hex digits
 abbrev pub all_hex_words : List (List ℕ) → Option (List ℕ)
 all_hex_words [] = Some []
 all_hex_words (word ∷ words) = and_more (hex_word_of word) (all_hex_words words)

@@ -38,7 +38,7 @@ impl Script {
         }
     }
 
-    /// Reads the line of that number. After the first line that is refused it reads no more.
+    /// Reads one more line, which has this number. After the first line that is refused, no line is read.
     ///
     /// # Errors
     /// Where memory is refused; the script is then as it was.
@@ -68,14 +68,14 @@ impl Script {
         }
     }
 
-    /// The number of the first line that is refused, which count from 1.
+    /// The number of the first line that is refused; lines count from 1. `None` where no line is refused.
     pub fn refused(&self) -> Option<usize>
         ensures { result ≡ self.now.refused }
     {
         self.refused
     }
 
-    /// The calls that are to be made; the tally's table lets them be.
+    /// The calls that are to be made. Each may be made of the tally.
     pub fn calls(&self) -> &[Call]
         ensures value { result.now ≡ self.now.calls.items }
         ensures fit { All (CallFits tally.table) (map call_model result.now) }

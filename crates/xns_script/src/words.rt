@@ -11,7 +11,7 @@ use memchr::memchr;
 use std::alloc::{AllocError, Global};
 use xns_spp::Bytes;
 
-/// The decimal of a number of 32 bits has at most so many digits.
+/// How many digits the decimal of a number of 32 bits has at most.
 const MOST_DIGITS: usize = 10;
 
 /// The first word of a line, and what follows the space behind the word, if there is one.
@@ -32,7 +32,7 @@ pub(crate) fn is(word: &[u8], name: &[u8]) -> bool
     word == name
 }
 
-/// The number whose decimal the word is, if it is at most so much. No decimal has a leading zero but 0 itself.
+/// The number whose decimal the word is, if the number is at most `most`. No decimal has a leading zero but 0 itself.
 pub(crate) fn read_number(most: u32, word: &[u8]) -> Option<u32>
     ensures value { result ≡ number_of most word.now }
     ensures within { IfSome result (λ number. number ≤ most) }
@@ -62,7 +62,7 @@ fn may_be_decimal(word: &[u8]) -> bool
     }
 }
 
-/// The number that digits make, or `None` where a byte is no digit.
+/// The number that the digits of a word make; `None` where a byte is no digit.
 fn read_digits(word: &[u8]) -> Option<u64>
     requires { length word.now ≤ 10 }
     ensures some { IfSome result (λ number. AreDigits word.now × (number ≡ digits_from 0 word.now)) }
@@ -98,7 +98,7 @@ pub(crate) fn read_hex_word(digits: &[u8]) -> Option<u16>
     }
 }
 
-/// The bytes that hex digits of either case spell; there is at least one.
+/// The bytes that hex digits of either case spell, at least one; `None` where the digits spell none.
 pub(crate) fn read_hex_bytes(alloc: Global, digits: &[u8]) -> Result<Option<Bytes>, AllocError>
     ensures { IfOk result (λ bytes. bytes ≡ hex_bytes_of digits.now) }
 {
@@ -151,7 +151,7 @@ fn is_dash(line: &[u8]) -> bool
     }
 }
 
-/// Words of four hex digits.
+/// The words that a line spells, each of four hex digits; `None` where a word is not of this form.
 fn read_hex_words(alloc: Global, line: &[u8]) -> Result<Option<Vec<u16>>, AllocError>
     ensures { IfOk result (λ answer. option_map (λ v. v.items) answer ≡ all_hex_words (words_of_line line.now)) }
 {
