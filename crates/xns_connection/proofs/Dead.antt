@@ -107,7 +107,7 @@ shut_side None (Some w) x = refl
 dead_hears : (now : ℕ) (bytes : List ℕ) (old new : Connection) → is_dead old.closed ≡ true → Step now (heard bytes) old new
     → (new.conversation.side ≡ old.conversation.side) × (new.told ≡ old.told)
 dead_hears now bytes old new dead step =
-    let drain : drains old.conversation.side old.conversation.closing ≡ true = old.deaf (dead_closed old.closed dead) in
+    let drain : drains old.conversation.side old.conversation.closing ≡ true = old.fits.deaf (dead_closed old.closed dead) in
     let same : new.conversation.side ≡ old.conversation.side = ∥∥₁_elim old.stands (Prim.hlevel props) (λ x.
     let m = step.on x.0 x.1 in
     m.at.side ∙ (shut_side old.closed new.closed m.to ∙ settled_side drain m.settles.moves m.settles.is)) in

@@ -1,8 +1,12 @@
 -- What is due of a connection that is not closed, and of one that is.
-use Rattle.std.proofs.Common.{◌≡◌, ◌≢◌, ◌∙◌, ap, refl, ℕ, Bool, true, false}
+use Rattle.std.proofs.Common.{◌≡◌, ◌≢◌, ◌∙◌, ap, refl, ℕ, Bool, true, false, Option, Some, None}
 use Rattle.std.specs.Prelude.{◌==◌, if◌then◌else◌}
-use Rattle.xns_connection.specs.Connecting.{is_again, is_open_due, is_closed_due}
+use Rattle.std.specs.Option.{is_some}
+use Rattle.xns_connection.specs.Connecting.{FitsClosed, is_again, is_open_due, is_closed_due}
 use Rattle.xns_agenda.specs.Waiting.{Waiting, after_step, after_word, after_heard, idle_span, later, waiting_on, idling}
+use Rattle.xns_connection.specs.Closing.{drains}
+use Rattle.xns_connection.specs.declared.conversation.Conversation.{Conversation}
+use Rattle.xns_connection.specs.declared.why.Why.{Why}
 use Rattle.xns_agenda.specs.declared.due.Due.{Due}
 use Rattle.xns_agenda.specs.declared.due.Due.TheVariants.{Never, AgainAt, AskAt, ForgetAt}
 
@@ -60,3 +64,19 @@ heard_shut w (ForgetAt t) more again now is shut = ap is_closed_due is
 
 pub word_shut : (w v : Waiting) (more again : Bool) (now : ℕ) → v ≡ after_word w more again now → is_closed_due w.due ≡ true → is_closed_due v.due ≡ true
 word_shut w v more again now is shut = ap (λ (u : Waiting). is_closed_due u.due) is ∙ heard_shut (record w { misses = 0; heard_at = now }) w.due more again now refl shut
+
+-- ---- whether it is closed
+
+pub fits_same : (closed : Option Why) (t u : Conversation) (w : Waiting) → FitsClosed closed t w
+    → drains u.side u.closing ≡ drains t.side t.closing → FitsClosed closed u w
+fits_same closed t u w fits same =
+    record { open_due = fits.open_due; closed_due = fits.closed_due; deaf = λ some. same ∙ fits.deaf some }
+
+pub fits_open : (closed : Option Why) (t : Conversation) (w : Waiting) → is_some closed ≡ false → is_open_due w.due ≡ true → FitsClosed closed t w
+fits_open (Some why) t w none opens = absurd (cc)
+fits_open None t w none opens = record { open_due = λ z. opens; closed_due = λ some. absurd (some refl); deaf = λ some. absurd (some refl) }
+
+pub fits_shut : (closed : Option Why) (t : Conversation) (w : Waiting) → is_some closed ≡ true → is_closed_due w.due ≡ true
+    → drains t.side t.closing ≡ true → FitsClosed closed t w
+fits_shut None t w some shuts deaf = absurd (cc)
+fits_shut (Some why) t w some shuts deaf = record { open_due = λ none. absurd (cc); closed_due = λ z. shuts; deaf = λ z. deaf }

@@ -1,4 +1,5 @@
 mod Alike
+mod Belonging
 mod Closes
 mod Coming
 mod Dead

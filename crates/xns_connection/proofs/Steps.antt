@@ -14,11 +14,10 @@ use Rattle.xns_spp.specs.Sending.{tick_answer, waiting_count}
 use Rattle.xns_spp.specs.Telling.{unacknowledged_count}
 use Rattle.xns_spp.specs.declared.input.Input.{Input}
 use Rattle.xns_spp.specs.State.{State}
-use Rattle.xns_connection.specs.Connecting.{again_for, goes_again, is_again, is_closed_due, is_foreign, is_open_due, owed_after, owed_heard, wait_heard, why_after}
+use Rattle.xns_connection.specs.Connecting.{FitsClosed, again_for, goes_again, is_again, is_foreign, owed_after, owed_heard, wait_heard, why_after}
 use Rattle.xns_connection.specs.Moving.{HasHistory, IsAt, Scene, Settles, is_calm, scene}
 use Rattle.xns_connection.specs.Step.{May, MovesOwed, Step, WaitsBy, is_calm_then, parts_of}
 use Rattle.xns_connection.specs.Deeds.{Deed, Parts, acted, acted_by, given_up, heard, Moved, ClosesThen, GoesOnBy, closed_moved, done, given_up_by, is_starved, owed_by, owed_moved, shut, took, wait_by, wait_moved}
-use Rattle.xns_connection.specs.Closing.{drains}
 use Rattle.xns_connection.specs.Story.{wants_answer}
 use Rattle.xns_connection.specs.Telling.{is_over, is_progress, waits}
 use Rattle.xns_connection.specs.declared.connection.Connection.{Connection}
@@ -99,9 +98,7 @@ goes_on_by now old mid new r o n was closed w v settles packets next owes = reco
 -- what is known of the parts of a connection
 record Known (t : Conversation) (w : Waiting) (closed : Option Why) : Type 0 where
   timed : closed ≡ None → (s : State) → StandsFor t.endpoint s → tick_answer s ≢ [] → is_again w.due ≡ true
-  open_due : closed ≡ None → is_open_due w.due ≡ true
-  closed_due : closed ≢ None → is_closed_due w.due ≡ true
-  deaf : closed ≢ None → drains t.side t.closing ≡ true
+  fits : FitsClosed closed t w
   stands : HasHistory t.endpoint
 
 known_one : (t : Conversation) (w : Waiting) (closed : Option Why) (a b : Known t w closed) → a ≡ b
@@ -117,14 +114,12 @@ with_known p k = record {
   closed = p.closed;
   told = p.told;
   timed = k.timed;
-  open_due = k.open_due;
-  closed_due = k.closed_due;
-  deaf = k.deaf;
+  fits = k.fits;
   stands = k.stands;
 }
 
 abbrev known_of : (c : Connection) → Known c.conversation c.wait c.closed
-known_of c = record { timed = c.timed; open_due = c.open_due; closed_due = c.closed_due; deaf = c.deaf; stands = c.stands }
+known_of c = record { timed = c.timed; fits = c.fits; stands = c.stands }
 
 -- a connection is its parts
 pub same_connection : (c d : Connection) → parts_of d ≡ parts_of c → d ≡ c

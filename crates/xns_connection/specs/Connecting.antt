@@ -1,5 +1,5 @@
 -- A connection: what is due, why it is closed, and what is owed.
-use Rattle.std.specs.Prelude.{ℕ, Bool, true, false, ◌&&◌, ◌||◌, ◌==◌, nat_le, nat_lt, if◌then◌else◌, List, Option, Some, None, Result, Ok, Err}
+use Rattle.std.specs.Prelude.{◌≡◌, ◌≢◌, ℕ, Bool, true, false, ◌&&◌, ◌||◌, ◌==◌, nat_le, nat_lt, if◌then◌else◌, List, Option, Some, None, Result, Ok, Err}
 use Rattle.courier_messages.specs.declared.fault.SessionFault.{SessionFault}
 use Rattle.courier_messages.specs.declared.fault.SessionFault.TheVariants.{NoCommonVersion, BadVersions, BadMessage, WrongTransaction}
 use Rattle.courier_messages.specs.declared.fault.SessionFault.TheVariants.{BadReply, Stream, Failed}
@@ -11,13 +11,14 @@ use Rattle.xns_spp.specs.State.{State}
 use Rattle.xns_spp.specs.Telling.{unacknowledged_count}
 use Rattle.xns_spp.specs.declared.dropped.Dropped.{Dropped}
 use Rattle.xns_spp.specs.declared.dropped.Dropped.TheVariants as drops
-use Rattle.xns_connection.specs.Closing.{end_stream, end_reply_stream}
+use Rattle.xns_connection.specs.Closing.{drains, end_stream, end_reply_stream}
 use Rattle.xns_connection.specs.Telling.{is_progress}
 use Rattle.xns_agenda.specs.Measuring.{is_vain}
 use Rattle.xns_agenda.specs.Waiting.{Waiting, after_word, is_overdue}
 use Rattle.xns_agenda.specs.declared.act.Act.{Act}
 use Rattle.xns_agenda.specs.declared.act.Act.TheVariants.{Nothing, Again, Ask, GiveUp, Forget}
 use Rattle.xns_connection.specs.declared.closing.Closing.{Closing}
+use Rattle.xns_connection.specs.declared.conversation.Conversation.{Conversation}
 use Rattle.xns_agenda.specs.declared.due.Due.{Due}
 use Rattle.xns_agenda.specs.declared.due.Due.TheVariants.{Never, AgainAt, AskAt, ForgetAt}
 use Rattle.xns_connection.specs.declared.owed.Owed.{Owed}
@@ -33,19 +34,25 @@ is_again (AgainAt t) = true
 is_again (AskAt t) = false
 is_again (ForgetAt t) = false
 
--- what a connection that is not closed has
+-- what may be due of an open connection
 abbrev pub is_open_due : Due → Bool
 is_open_due Never = true
 is_open_due (AgainAt t) = true
 is_open_due (AskAt t) = true
 is_open_due (ForgetAt t) = false
 
--- what a closed one has: nothing goes out by the time alone
+-- what may be due of a closed connection: nothing goes out by the time alone
 abbrev pub is_closed_due : Due → Bool
 is_closed_due Never = true
 is_closed_due (AgainAt t) = false
 is_closed_due (AskAt t) = false
 is_closed_due (ForgetAt t) = true
+
+-- an open connection waits for what an open one does; a closed one waits for what a closed one does, and its side reads no more
+pub record FitsClosed (closed : Option Why) (conversation : Conversation) (wait : Waiting) : Type 0 where
+  pub open_due : closed ≡ None → is_open_due wait.due ≡ true
+  pub closed_due : closed ≢ None → is_closed_due wait.due ≡ true
+  pub deaf : closed ≢ None → drains conversation.side conversation.closing ≡ true
 
 -- ---- why it is closed
 
@@ -90,7 +97,7 @@ why_refused TooLong = Some (Refused TooLong)
 why_refused Attention = Some (Refused Attention)
 why_refused (Fault f) = why_fault f
 
--- why it is closed after its items moved, if it is
+-- why a connection is closed after its items moved, if it is
 abbrev pub why_after : Closing → (over : Bool) → Result (Unit {0}) FeedRefusal → Option Why
 why_after c over (Err e) = why_refused e
 why_after c over (Ok u) = if over then Some (why_over c) else None
@@ -106,7 +113,7 @@ owed_after o Forget = o
 
 -- ---- what came
 
--- no word of the peer
+-- the packet is not from our peer
 abbrev pub is_foreign : Option Dropped → Bool
 is_foreign None = false
 is_foreign (Some drops.NotIdp) = true
@@ -117,7 +124,18 @@ is_foreign (Some drops.OutOfOrder) = false
 is_foreign (Some drops.NoRoom) = false
 is_foreign (Some drops.Repeat) = false
 
--- an item that the end has
+-- the packet was dropped as one of another connection
+abbrev pub is_of_another : Option Dropped → Bool
+is_of_another None = false
+is_of_another (Some drops.NotIdp) = false
+is_of_another (Some drops.NotSpp) = false
+is_of_another (Some drops.NotOurs) = true
+is_of_another (Some drops.AheadOfUs) = false
+is_of_another (Some drops.OutOfOrder) = false
+is_of_another (Some drops.NoRoom) = false
+is_of_another (Some drops.Repeat) = false
+
+-- the packet was dropped because its item came before
 abbrev pub is_repeat : Option Dropped → Bool
 is_repeat None = false
 is_repeat (Some drops.NotIdp) = false

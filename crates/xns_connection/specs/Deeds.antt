@@ -39,9 +39,9 @@ pub data Deed : Type 0 where
   took : Deed
   heard : List ℕ → Deed
 
--- ---- what that does to a side
+-- ---- what a deed does to a side
 
--- with one more call
+-- the side with one more call
 abbrev pub side_called : Side → RawCall → Side
 side_called (Calls t) call = Calls (talk.called t call)
 side_called (Answers a) call = Answers a
@@ -50,7 +50,7 @@ abbrev pub answered_for : Option ℕ → Answering → Answer → List ℕ → A
 answered_for None a kind words = a
 answered_for (Some k) a kind words = answering.answered a (answer_message kind k words)
 
--- with an answer to the call that was handed
+-- the side with an answer to the call that was handed
 abbrev pub side_answered : Side → Answer → List ℕ → Side
 side_answered (Calls t) kind words = Calls t
 side_answered (Answers a) kind words = Answers (answered_for a.asked a kind words)
@@ -59,12 +59,12 @@ abbrev pub handed_by : Option Message → Answering → Answering
 handed_by None a = a
 handed_by (Some m) a = after_call a m
 
--- the message that waits was handed
+-- the side when the message that waits was handed
 abbrev pub side_taken : Side → Side
 side_taken (Calls t) = Calls (record t { outcome = None })
 side_taken (Answers a) = Answers (handed_by (listed_call a.programs a.call) a)
 
--- ---- to a conversation
+-- ---- what a deed does to a conversation
 
 abbrev pub done : Deed → Scene → Scene
 done nothing x = x
@@ -74,7 +74,7 @@ done (gave kind words) x = record x { side = side_answered x.side kind words }
 done took x = record x { side = side_taken x.side }
 done (heard bytes) x = record x { state = after_receive x.state bytes }
 
--- ---- and to what it has done
+-- ---- what a deed adds to what a conversation has done
 
 abbrev pub with_answer : Option ℕ → Answer → List ℕ → Story → Story
 with_answer None kind words h = h
@@ -134,34 +134,34 @@ is_starved (Err (Fault f)) = false
 abbrev pub owed_moved : Owed → (starved : Bool) → (before after : ℕ) → Owed
 owed_moved o starved before after = record o { moving = starved; word = o.word || nat_lt after before; fresh = true }
 
--- one that is closed stays so, for the same reason
+-- a connection that is closed stays closed, for the same reason
 abbrev pub closed_moved : Option Why → Result (Unit {0}) FeedRefusal → Scene → Option Why
 closed_moved (Some why) moved x = Some why
 closed_moved None moved x = why_after x.closing (is_over x.closing x.state) moved
 
--- where that closed it, what comes is read no more
+-- where the step closed the connection, what comes is read no more
 abbrev pub shut : (was closed : Option Why) → Scene → Scene
 shut (Some why) closed x = x
 shut None None x = x
 shut None (Some why) x = deafened x
 
--- and it lingers
+-- where the step closed the connection, it lingers
 abbrev pub wait_moved : (was closed : Option Why) → Waiting → Scene → (now : ℕ) → Waiting
 wait_moved (Some why) closed w x now = w
 wait_moved None None w x now = after_step w (waits x.state) (wants_answer x.side) now
 wait_moved None (Some why) w x now = lingering w now
 
--- what comes is read no more, but for the closing exchange
+-- the conversation reads only items of the closing exchange
 abbrev pub given_up : Conversation → Conversation
 given_up t = record t { closing = record t.closing { deaf = true } }
 
--- where that closed it
+-- where the step closed the connection, the conversation reads only items of the closing exchange
 abbrev pub given_up_by : (was closed : Option Why) → Conversation → Conversation
 given_up_by (Some why) closed t = t
 given_up_by None None t = t
 given_up_by None (Some why) t = given_up t
 
--- so a connection whose items moved was closed, if it was
+-- how a connection was closed whose items moved, if it was
 pub record ClosesThen (now : ℕ) (old : Conversation) (moved : Result (Unit {0}) FeedRefusal) (new : Conversation) (was closed : Option Why)
     (wait wait_new : Waiting) : Type 0 where
   pub why : (s : State) → StandsFor old.endpoint s → closed ≡ closed_moved was moved (scene old s)
@@ -180,7 +180,7 @@ pub record Moved (now : ℕ) (x : Scene) (moved : Result (Unit {0}) FeedRefusal)
   pub owes : owed_new ≡ owed_moved owed (is_starved moved) (waiting_count x.state) (waiting_count to.state)
   pub waits : wait_new ≡ wait_moved was closed wait to now
 
--- the same of the parts of a connection, whatever the history of its end
+-- from these parts of a connection, whatever the history of its end, what can move moved
 pub record GoesOnBy (now : ℕ) (old new : Conversation) (owed owed_new : Owed) (was closed : Option Why) (wait wait_new : Waiting)
     : Type 0 where
   pub moved : Result (Unit {0}) FeedRefusal

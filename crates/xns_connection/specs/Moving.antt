@@ -28,7 +28,7 @@ pub record Scene : Type 0 where
   pub closing : Closing
   pub state : State
 
--- that of a conversation whose end has this history
+-- the scene of a conversation whose end has this history
 abbrev pub scene : Conversation → State → Scene
 scene t s = record { side = t.side; closing = t.closing; state = s }
 
@@ -66,7 +66,7 @@ pub data Rounds (side : Side) (s : State) : Side → State → Type 0 where
   again : {mid free next : Side} {v w : State} → Rounds side s mid v → is_stopped mid ≡ false → Rejects mid free → Pumps free v (Ok tt) next w
       → Rounds side s next w
 
--- the same up to where nothing moves and no call is to be rejected, or where the side refuses an item, or memory is refused
+-- items moved, and calls were rejected, until nothing moves and no call is to be rejected, or the side refuses an item, or memory is refused
 pub data Converses (side : Side) (s : State) : Result (Unit {0}) FeedRefusal → Side → State → Type 0 where
   calms : {next : Side} {v : State} → Rounds side s next v → (is_stopped next ≡ false → IsListed next) → Converses side s (Ok tt) next v
   starves : {next : Side} {v : State} → Rounds side s next v → IsUnlisted next → Converses side s (Err NoMemory) next v
@@ -96,17 +96,17 @@ drained_out x = if drains x.side x.closing then taken_many (waiting_count x.stat
 abbrev pub may_end : Scene → Bool
 may_end x = x.closing.wanted && (not (drains x.side x.closing) && (not (has_call x.side) && not (has_items (out_of x.side))))
 
--- EndReply is
+-- EndReply is to be put out
 abbrev pub may_reply : Scene → Bool
 may_reply x = x.closing.reply_wanted && (not x.closing.reply_sent && (drains x.side x.closing && not (has_items (out_of x.side))))
 
--- it is put out, unless there is no room
+-- End is put out where it is to be, unless there is no room
 abbrev pub ended : Scene → Scene
 ended x =
     if may_end x && is_ok (send_answer x.state (closing_item end_stream))
     then record x { closing = record x.closing { end_sent = true }; state = after_send x.state (closing_item end_stream) } else x
 
--- so is EndReply
+-- EndReply is put out where it is to be, unless there is no room
 abbrev pub replied : Scene → Scene
 replied x =
     if may_reply x && is_ok (send_answer x.state (closing_item end_reply_stream))

@@ -1,5 +1,5 @@
 -- One step of a connection: something is done, and then what can move moves. It determines every part of the new connection.
-use Rattle.std.specs.Prelude.{◌≡◌, ◌≢◌, ℕ, List, [], Bool, true, false, not, ◌&&◌, Option, None, Result, Ok, IfOk, OnErr}
+use Rattle.std.specs.Prelude.{◌≡◌, ◌≢◌, ℕ, List, [], Bool, true, false, not, ◌&&◌, Option, None, Result, Ok, Err, IfOk, OnErr}
 use Rattle.courier_sessions.specs.declared.feed_refusal.FeedRefusal.{FeedRefusal}
 use Rattle.xns_agenda.specs.Waiting.{HearsAt, StepsAt, Waiting, after_step, new_waiting}
 use Rattle.xns_agenda.specs.declared.pace.Pace.{Pace}
@@ -68,6 +68,11 @@ pub record Step (now : ℕ) (deed : Deed) (old new : Connection) : Type 0 where
   pub packets : new.conversation.packets ≡ old.conversation.packets
   pub told : new.told ≡ old.told
   pub stays : old.closed ≢ None → new.closed ≡ old.closed
+
+-- whether a packet that a connection took in belongs to it: one for which memory was refused does
+abbrev pub is_ours_by : Result Bool AllocError → Bool
+is_ours_by (Ok ours) = ours
+is_ours_by (Err e) = true
 
 -- ---- steps that move nothing
 

@@ -22,7 +22,7 @@ use Rattle.xns_connection.specs.declared.owed.Owed.{Owed}
 abbrev pub owes_end : Conversation → Bool
 owes_end t = t.closing.wanted && (not (drains t.side t.closing) && (not (has_call t.side) && not (has_items (out_of t.side))))
 
--- it is put out, unless there is no room for it
+-- End is put out where it is to be, unless there is no room
 abbrev pub HasSaidEnd : Conversation → Type 0
 HasSaidEnd t = owes_end t ≡ true → (s : State) → StandsFor t.endpoint s → is_ok (send_answer s (closing_item end_stream)) ≡ false
 
@@ -30,7 +30,7 @@ HasSaidEnd t = owes_end t ≡ true → (s : State) → StandsFor t.endpoint s �
 abbrev pub owes_reply : Conversation → Bool
 owes_reply t = t.closing.reply_wanted && (not t.closing.reply_sent && (drains t.side t.closing && not (has_items (out_of t.side))))
 
--- it is put out, unless there is no room for it
+-- EndReply is put out where it is to be, unless there is no room
 abbrev pub HasSaidReply : Conversation → Type 0
 HasSaidReply t = owes_reply t ≡ true → (s : State) → StandsFor t.endpoint s → is_ok (send_answer s (closing_item end_reply_stream)) ≡ false
 

@@ -3,10 +3,10 @@
 pub struct Call<'a> {
     /// The number of the remote program.
     pub program: u32,
-    /// The version of the program that is called.
+    /// The version of the remote program.
     pub version: u16,
     /// The number of the procedure.
     pub procedure: u16,
-    /// Its arguments, at most 65,530 words.
+    /// The arguments of the call, at most 65,530 words.
     pub words: &'a [u16],
 }

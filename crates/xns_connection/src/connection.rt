@@ -1,7 +1,7 @@
 //! A conversation with its waits.
 
 ghost use Rattle.std.specs.Prelude.{◌≡◌, ◌≢◌, ◌<◌, ◌&&◌, ◌||◌, [], ℕ, List, not, if◌then◌else◌, true};
-ghost use Rattle.std.specs.Prelude.{OnOk, OnErr, Some, None, Ok};
+ghost use Rattle.std.specs.Prelude.{OnOk, OnErr, Some, None, Ok, false};
 ghost use Rattle.std.specs.Option.{is_some};
 ghost use Rattle.xns_spp.specs.Ends.{is_open, is_ours_at};
 ghost use Rattle.xns_spp.specs.Held.{StandsFor};
@@ -11,8 +11,7 @@ ghost use Rattle.xns_spp.specs.Sending.{tick_answer};
 ghost use Rattle.xns_spp.specs.State.{State};
 ghost use Rattle.xns_spp.specs.Telling.{is_out, own_name, peer_name};
 ghost use Rattle.xns_connection.specs.Calls.{call_model};
-ghost use Rattle.xns_connection.specs.Closing.{drains};
-ghost use Rattle.xns_connection.specs.Connecting.{is_again, is_dead, is_open_due, is_closed_due, why_given_up, owed_after};
+ghost use Rattle.xns_connection.specs.Connecting.{FitsClosed, is_again, is_dead, is_open_due, is_closed_due, why_given_up, owed_after};
 ghost use Rattle.xns_connection.specs.Moving.{HasHistory};
 ghost use Rattle.xns_connection.specs.Reasons.{call_fault_of, answer_fault_of};
 ghost use Rattle.xns_connection.specs.Refusing.{Answers};
@@ -29,7 +28,7 @@ use crate::call::Call;
 use crate::conversation::Conversation;
 use crate::owed::Owed;
 use crate::refusal::Refusal;
-use crate::settling::{is_progress, note, owed_after, settled, wait_unless};
+use crate::settling::{is_of_another, is_progress, note, owed_after, settled, wait_unless};
 use crate::why::Why;
 use crate::why_closed::{is_dead, why_given_up};
 use courier_messages::PiecedMessage;
@@ -48,18 +47,16 @@ pub struct Connection {
     closed: Option<Why>,
     /// Whether the program was told that it is closed.
     told: bool,
-    // What waits for the peer goes out again at a time that is set.
+    // Where something waits for the peer, a time is set at which it goes out again.
     ghost timed: { closed ≡ None → (s : State) → StandsFor conversation.endpoint s → tick_answer s ≢ [] → is_again wait.due ≡ true },
-    ghost open_due: { closed ≡ None → is_open_due wait.due ≡ true },
-    ghost closed_due: { closed ≢ None → is_closed_due wait.due ≡ true },
-    ghost deaf: { closed ≢ None → drains conversation.side conversation.closing ≡ true },
+    ghost fits: { FitsClosed closed conversation wait },
     ghost stands: { HasHistory conversation.endpoint },
 }
 
 impl Connection {
-    ghost use Rattle.xns_connection.specs.Step.{GivesNext, Hands, MovesOwed, Step, parts_of};
+    ghost use Rattle.xns_connection.specs.Step.{GivesNext, Hands, MovesOwed, Step, is_ours_by, parts_of};
 
-    /// Moves what can move.
+    /// Moves items until none can move.
     fn go_on(&mut self, alloc: Global, now: u64)
         ensures step { Step now nothing self.old self.new }
     {
@@ -73,18 +70,30 @@ impl Connection {
         );
     }
 
-    /// Takes in a packet that was read from bytes, at this time. Where memory is refused it is as if the packet were lost.
-    pub fn receive(&mut self, alloc: Global, now: u64, packet: &SppPacket) -> Result<(), AllocError>
+    /// Takes in a packet that was read from bytes, at this time, if it belongs to the connection; whether it does. One that does not changes
+    /// nothing. The only error is want of memory: the packet belongs to the connection, and it is as if it were lost.
+    pub fn receive(
+        &mut self,
+        alloc: Global,
+        now: u64,
+        packet: &SppPacket,
+    ) -> Result<bool, AllocError>
         requires { IsSppPacket packet.now }
+        ensures ours { (s : State) → StandsFor self.old.conversation.endpoint s → is_ours_at s.ends packet.now ≡ is_ours_by result }
+        ensures step { result ≡ Ok true → (b : List ℕ) → spp_packet_of b ≡ Ok packet.now → Step now (heard b) self.old self.new }
+        ensures foreign { result ≡ Ok false → self.new ≡ self.old }
         ensures unchanged { OnErr result (self.new ≡ self.old) }
         ensures memory { OnErr result ((s : State) (b : List ℕ) → StandsFor self.old.conversation.endpoint s
             → spp_packet_of b ≡ Ok packet.now → StoresBytes s b) }
-        ensures step { OnOk result ((b : List ℕ) → spp_packet_of b ≡ Ok packet.now → Step now (heard b) self.old self.new) }
     {
         xns_spp::laws::written_packet_is_read_again();
+        xns_spp::laws::foreign_bytes_change_nothing();
         let before = self.conversation.endpoint.unacknowledged();
         let was_open = self.conversation.endpoint.is_open();
         let input = self.conversation.receive(alloc, packet)?;
+        if is_of_another(input.dropped) {
+            return Ok(false);
+        }
         let more = is_progress(&self.conversation, before, was_open);
         let left = self.conversation.endpoint.unacknowledged() > 0;
         note(input, more, left, &mut self.owed, &mut self.wait, now);
@@ -96,10 +105,10 @@ impl Connection {
             &mut self.wait,
             now,
         );
-        Ok(())
+        Ok(true)
     }
 
-    /// Moves what memory was refused for.
+    /// Moves the items for which memory was refused.
     #[tactic(auto, using(crate::proofs::Moments::no_step))]
     fn move_owed(&mut self, alloc: Global, now: u64)
         ensures moved { MovesOwed self.old.owed.moving now self.old self.new }
@@ -110,8 +119,8 @@ impl Connection {
         self.go_on(alloc, now);
     }
 
-    /// Does what is due at this time, and says what that is. After `GiveUp` the connection is closed; after `Forget` it may go, once the
-    /// program was told that it is closed. A [dead](Connection::is_dead) one may go as soon as the program was told.
+    /// Does what is due at this time, and says what that is. After `GiveUp` the connection is closed. After `Forget` the connection may go,
+    /// once the program was told that it is closed. A [dead](Connection::is_dead) connection may go as soon as the program was told.
     pub fn act(&mut self, now: u64) -> Act
         ensures act { result ≡ act_at self.old.wait now }
         ensures later { now < last_time → IsDueAfter now self.new.wait.due }
@@ -130,7 +139,7 @@ impl Connection {
         act
     }
 
-    /// Nobody hears the packets of the connection, as an Error packet of this number says: it is closed, unless it is closed already.
+    /// Closes the connection, unless it is closed: an Error packet of this number says that nobody hears its packets.
     #[tactic(auto, using(crate::proofs::Moments::no_step, crate::proofs::Moments::one_close))]
     pub fn not_served(&mut self, now: u64, number: u16)
         ensures goes { Goes self.old.conversation self.new.conversation }
@@ -225,7 +234,7 @@ impl Connection {
         );
     }
 
-    /// The message that waits for the program, once: an answer, or a call. `None` where none waits.
+    /// Takes the message that waits for the program: an answer, or a call. `None`: no message waits.
     #[tactic(auto, using(crate::proofs::Moments::no_step))]
     pub fn take_message(&mut self, alloc: Global, now: u64) -> Option<PiecedMessage>
         ensures message { result ≡ waiting_message self.old.conversation.side }
@@ -246,7 +255,7 @@ impl Connection {
         Some(message)
     }
 
-    /// Why it is closed, once.
+    /// Takes the reason why the connection is closed. `None`: it is open, or the reason was taken before.
     pub fn take_why(&mut self) -> Option<Why>
         ensures why { result ≡ (if self.old.told then None else self.old.closed) }
         ensures told { self.new.told ≡ self.old.told || is_some self.old.closed }
@@ -274,7 +283,7 @@ impl Connection {
         self.owed.fresh
     }
 
-    /// What is due, and when. Where something waits for the peer of a connection that is not closed, it goes out again at that time.
+    /// What is due, and when. Where something waits for the peer of a connection that is not closed, this is when that goes out again.
     pub fn due(&self) -> Due
         ensures due { result ≡ self.now.wait.due }
         ensures timed { self.now.closed ≡ None → (s : State) → StandsFor self.now.conversation.endpoint s → tick_answer s ≢ []
@@ -292,15 +301,15 @@ impl Connection {
         self.wait.heard_at()
     }
 
-    /// Whether it is closed.
+    /// Whether the connection is closed.
     pub fn is_closed(&self) -> bool
         ensures { result ≡ is_some self.now.closed }
     {
         self.closed.is_some()
     }
 
-    /// Whether it is closed by silence, by a refusal or by an Error packet: nothing of it goes out, and it does not linger. One that is
-    /// closed by the closing exchange is not dead.
+    /// Whether silence, a refusal or an Error packet closed the connection: nothing of it goes out, and it does not linger. A connection
+    /// that the closing exchange closed is not dead.
     pub fn is_dead(&self) -> bool
         ensures { result ≡ is_dead self.now.closed }
     {
@@ -314,35 +323,28 @@ impl Connection {
         self.told
     }
 
-    /// Whether its peer has replied.
+    /// Whether the peer has replied.
     pub fn is_open(&self) -> bool
         ensures { (s : State) → StandsFor self.now.conversation.endpoint s → result ≡ is_open s.ends }
     {
         self.conversation.endpoint.is_open()
     }
 
-    /// Whether a packet belongs to the connection.
-    pub fn is_ours(&self, packet: &SppPacket) -> bool
-        ensures { (s : State) → StandsFor self.now.conversation.endpoint s → result ≡ is_ours_at s.ends packet.now }
-    {
-        self.conversation.endpoint.is_packet_ours(packet)
-    }
-
-    /// Whether a packet with this sequence number went out of it lately: its item is not acknowledged, or it brought none.
+    /// Whether a packet with this sequence number went out lately: its item is not acknowledged, or the packet brought none.
     pub fn is_out(&self, sequence: u16) -> bool
         ensures { (s : State) → StandsFor self.now.conversation.endpoint s → result ≡ is_out s sequence }
     {
         self.conversation.endpoint.is_out(sequence)
     }
 
-    /// Its own address and connection identifier.
+    /// The connection's own address and identifier.
     pub fn own(&self) -> (Address, u16)
         ensures { (s : State) → StandsFor self.now.conversation.endpoint s → result ≡ own_name s.ends }
     {
         self.conversation.endpoint.own()
     }
 
-    /// The peer's. `None` before the connection is open.
+    /// The peer's address and connection identifier. `None`: the connection is not open yet.
     pub fn peer(&self) -> Option<(Address, u16)>
         ensures { (s : State) → StandsFor self.now.conversation.endpoint s → result ≡ peer_name s.ends }
     {

@@ -30,7 +30,7 @@ use xns_spp::{Bytes, Endpoint, Input, Item, SppPacket};
 /// The datastream of the item that asks for an end of the connection.
 const END: u8 = 254;
 
-/// The datastream of the item that answers it.
+/// The datastream of the item that answers an [`END`].
 const END_REPLY: u8 = 255;
 
 /// The end of a connection and its side.
@@ -73,7 +73,7 @@ impl Conversation {
     ghost use Rattle.xns_connection.specs.Reasons.{call_fault_of, answer_fault_of};
     ghost use Rattle.xns_connection.specs.Telling.{is_over, owes_end, owes_reply, waits};
 
-    /// One in which nothing was said.
+    /// A conversation in which nothing was said.
     pub fn new(alloc: Global, endpoint: Endpoint, side: Side) -> Conversation
         ensures endpoint { result.endpoint ≡ endpoint }
         ensures side { result.side ≡ side }
@@ -88,7 +88,7 @@ impl Conversation {
         }
     }
 
-    /// Whether what comes is looked at for the closing exchange alone.
+    /// Whether the conversation reads only items of the closing exchange.
     fn drains(&self) -> bool
         ensures { result ≡ drains self.now.side self.now.closing }
     {
@@ -98,7 +98,7 @@ impl Conversation {
             || self.closing.deaf
     }
 
-    /// Takes the item that waits first, if one does, and notes what it says of closing.
+    /// Takes the item that waits first, if one waits, and notes what that item says of closing.
     fn take_one(&mut self)
         requires { drains self.old.side self.old.closing ≡ true }
         ensures packets { self.new.packets ≡ self.old.packets }
@@ -111,7 +111,7 @@ impl Conversation {
         self.closing = noted(self.closing, item.stream);
     }
 
-    /// Takes all that waits, and notes what is said of closing.
+    /// Takes all items that wait, and notes what they say of closing.
     fn drain(&mut self)
         requires { drains self.old.side self.old.closing ≡ true }
         ensures packets { self.new.packets ≡ self.old.packets }
@@ -122,7 +122,7 @@ impl Conversation {
         }
     }
 
-    /// Takes all that waits, where it is looked at for the closing exchange alone.
+    /// Takes all items that wait, where the conversation reads only those of the closing exchange.
     fn drain_out(&mut self)
         ensures packets { self.new.packets ≡ self.old.packets }
         ensures at { (s : State) → StandsFor self.old.endpoint s → IsAt self.new (drained_out (scene self.old s)) }
@@ -149,7 +149,7 @@ impl Conversation {
         self.closing.wanted && !self.drains() && !self.side.has_call() && !self.side.has_out()
     }
 
-    /// Puts out an item of the closing exchange, unless there is no room; whether it did.
+    /// Puts out an item of the closing exchange, if there is room; whether there was.
     fn put(&mut self, alloc: Global, stream: u8) -> bool
         ensures answer { (s : State) → StandsFor self.old.endpoint s → result ≡ is_ok (send_answer s (closing_item stream)) }
         ensures stands { (s : State) → StandsFor self.old.endpoint s → StandsFor self.new.endpoint (after_send s (closing_item stream)) }
@@ -160,7 +160,7 @@ impl Conversation {
         self.endpoint.send(closing_item(alloc, stream)).is_ok()
     }
 
-    /// Answers an End, once.
+    /// Puts out EndReply, once, where the peer asked for it.
     fn say_reply(&mut self, alloc: Global)
         ensures packets { self.new.packets ≡ self.old.packets }
         ensures at { (s : State) → StandsFor self.old.endpoint s → IsAt self.new (replied (scene self.old s)) }
@@ -173,7 +173,7 @@ impl Conversation {
         }
     }
 
-    /// Asks for an end, once, where that is wanted: behind all that is out, and after the answer to a call that waits.
+    /// Puts out End, once, where the program wants it: behind all items that are out, and after the answer to a call that waits.
     fn say_end(&mut self, alloc: Global)
         ensures packets { self.new.packets ≡ self.old.packets }
         ensures at { (s : State) → StandsFor self.old.endpoint s → IsAt self.new (ended (scene self.old s)) }
@@ -186,7 +186,7 @@ impl Conversation {
         }
     }
 
-    /// Moves items between the side and the endpoint, unless what comes is looked at for the closing exchange alone.
+    /// Moves items between the side and the endpoint, unless the conversation reads only items of the closing exchange.
     fn converse(&mut self, alloc: Global) -> Result<(), FeedRefusal>
         ensures packets { self.new.packets ≡ self.old.packets }
         ensures moves { (s : State) → StandsFor self.old.endpoint s → (x : Scene) × IsAt self.new x × Moves (scene self.old s) result x }
@@ -197,7 +197,7 @@ impl Conversation {
         self.side.converse(alloc, &mut self.endpoint)
     }
 
-    /// Says what is to be said of closing, and looks at what waits where it is looked at for that alone.
+    /// Puts out End and EndReply where they are to go out, and takes all items that wait where only those of the closing exchange are read.
     fn close_up(&mut self, alloc: Global)
         ensures packets { self.new.packets ≡ self.old.packets }
         ensures at { (s : State) → StandsFor self.old.endpoint s → IsAt self.new (closed_up (scene self.old s)) }
@@ -207,7 +207,7 @@ impl Conversation {
         self.say_reply(alloc);
     }
 
-    /// What comes is read no more, but for the closing exchange.
+    /// From now on the conversation reads only items of the closing exchange.
     pub fn give_up(&mut self)
         ensures drains { drains self.new.side self.new.closing ≡ true }
         ensures rest { self.new ≡ record self.old { closing = record self.old.closing { deaf = true } } }
@@ -215,7 +215,7 @@ impl Conversation {
         self.closing.deaf = true;
     }
 
-    /// The side reads no more where it refused an item, unless memory was refused.
+    /// Where the side refused an item for another reason than memory, the conversation reads only items of the closing exchange from now on.
     fn mark(&mut self, moved: Result<(), FeedRefusal>)
         ensures packets { self.new.packets ≡ self.old.packets }
         ensures good { moved ≡ Ok tt → self.new ≡ self.old }
@@ -229,8 +229,8 @@ impl Conversation {
         }
     }
 
-    /// Moves what can move. An `Err` is why the side refused an item: it reads no more then, unless it is `NoMemory`, after which the
-    /// same call goes on.
+    /// Moves items until none can move. An `Err` is why the side refused an item: the side reads no more then. `NoMemory` is an exception:
+    /// the next `settle` goes on where this one stopped.
     pub fn settle(&mut self, alloc: Global) -> Result<(), FeedRefusal>
         ensures packets { self.new.packets ≡ self.old.packets }
         ensures settles { (s : State) → StandsFor self.old.endpoint s → (x : Scene) × IsAt self.new x × Settles (scene self.old s) result x }
@@ -244,7 +244,7 @@ impl Conversation {
         moved
     }
 
-    /// Whether nothing can move, and nothing is to be said or read of closing.
+    /// Whether no item can move, and nothing is to be said or read of closing.
     pub fn is_calm(&self) -> bool
         ensures value { (s : State) → StandsFor self.now.endpoint s → result ≡ is_calm (scene self.now s) }
     {
@@ -257,7 +257,7 @@ impl Conversation {
         self.endpoint.waiting() == 0
     }
 
-    /// The program wants an end.
+    /// Notes that the program wants to close the connection.
     pub fn close(&mut self)
         ensures rest { self.new ≡ record self.old { closing = record self.old.closing { wanted = true } } }
     {
@@ -279,7 +279,7 @@ impl Conversation {
         self.endpoint.input_packet(alloc, packet)
     }
 
-    /// Whether something waits for the peer: it is not open, or an item is not acknowledged.
+    /// Whether something waits for the peer: the connection is not open, or an item is not acknowledged.
     pub fn waits(&self) -> bool
         ensures value { (s : State) → StandsFor self.now.endpoint s → result ≡ waits s }
         ensures tick { (s : State) → StandsFor self.now.endpoint s → result ≡ false → tick_answer s ≡ [] }
@@ -287,7 +287,7 @@ impl Conversation {
         !self.endpoint.is_open() || self.endpoint.unacknowledged() > 0
     }
 
-    /// Whether the closing exchange is over, and its last item has arrived.
+    /// Whether the closing exchange is over, and the peer has acknowledged its last item.
     pub fn is_over(&self) -> bool
         ensures { (s : State) → StandsFor self.now.endpoint s → result ≡ is_over self.now.closing s }
     {
@@ -329,7 +329,7 @@ impl Conversation {
         self.side.answer(alloc, answer, words)
     }
 
-    /// The message that waits for the program, once.
+    /// Takes the message that waits for the program. `None`: no message waits.
     pub fn take_message(&mut self) -> Option<PiecedMessage>
         ensures message { result ≡ waiting_message self.old.side }
         ensures is { self.new ≡ record self.old { side = side_taken self.old.side } }

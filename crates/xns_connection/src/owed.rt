@@ -1,4 +1,4 @@
-/// What is to go out beside items for the first time, and what is to be done again.
+/// What a connection is to send besides its new items, and what it is to do once more.
 #[derive(Clone, Copy)]
 pub struct Owed {
     /// A packet that says what came and how much room there is.
@@ -7,14 +7,14 @@ pub struct Owed {
     pub again: bool,
     /// A packet that asks the peer for a word.
     pub asks: bool,
-    /// Memory was refused while items moved: they are to move.
+    /// Memory was refused while items moved: the items are to move.
     pub moving: bool,
-    /// Something was done since it was found that nothing is to go out.
+    /// Something changed since `next_packet` last returned `None`.
     pub fresh: bool,
 }
 
 impl Owed {
-    /// Nothing, at a dead connection: nothing of it goes out again.
+    /// What a dead connection owes: nothing. It sends nothing any more.
     pub const SILENT: Owed = Owed {
         word: false,
         again: false,
@@ -23,7 +23,7 @@ impl Owed {
         fresh: false,
     };
 
-    /// Nothing, at a new connection.
+    /// What a new connection owes: nothing.
     pub const NONE: Owed = Owed {
         word: false,
         again: false,

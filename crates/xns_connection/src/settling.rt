@@ -1,4 +1,4 @@
-//! What becomes of a connection when something was done: what can move moves, and what is waited for, and owed, is set anew.
+//! What becomes of a connection after something was done: its items move, and its timer and what it owes are set anew.
 
 ghost use Rattle.std.specs.Prelude.{◌≡◌, ◌≢◌, ◌<◌, ◌&&◌, ◌||◌, [], not, nat_lt, true, false};
 ghost use Rattle.std.specs.Prelude.{Some, None, Err};
@@ -9,8 +9,7 @@ ghost use Rattle.xns_spp.specs.Held.{StandsFor};
 ghost use Rattle.xns_spp.specs.Sending.{tick_answer};
 ghost use Rattle.xns_spp.specs.State.{State};
 ghost use Rattle.xns_spp.specs.Telling.{unacknowledged_count};
-ghost use Rattle.xns_connection.specs.Closing.{drains};
-ghost use Rattle.xns_connection.specs.Connecting.{is_again, is_open_due, is_closed_due, why_after, owed_after, again_for, is_foreign, is_repeat};
+ghost use Rattle.xns_connection.specs.Connecting.{FitsClosed, is_again, is_open_due, is_closed_due, why_after, owed_after, again_for, is_foreign, is_of_another, is_repeat};
 ghost use Rattle.xns_connection.specs.Moving.{HasHistory};
 ghost use Rattle.xns_connection.specs.Deeds.{ClosesThen, GoesOnBy, is_starved};
 ghost use Rattle.xns_connection.specs.Story.{wants_answer};
@@ -27,7 +26,14 @@ use std::alloc::Global;
 use xns_agenda::{Act, Wait};
 use xns_spp::{Dropped, Input};
 
-/// Whether a packet is no word of the peer.
+/// Whether a packet was dropped as one of another connection.
+pub fn is_of_another(dropped: Option<Dropped>) -> bool
+    ensures { result ≡ is_of_another dropped }
+{
+    matches!(dropped, Some(Dropped::NotOurs))
+}
+
+/// Whether the packet is not from our peer.
 fn is_foreign(dropped: Option<Dropped>) -> bool
     ensures { result ≡ is_foreign dropped }
 {
@@ -37,7 +43,7 @@ fn is_foreign(dropped: Option<Dropped>) -> bool
     )
 }
 
-/// What a connection that is not closed waits for after a step.
+/// Restarts the timer of an open connection after a step.
 #[tactic(auto, using(crate::proofs::Moments::one_step))]
 pub fn wait_on(conversation: &Conversation, wait: &mut Wait, now: u64)
     requires { is_open_due wait.old.due ≡ true }
@@ -50,7 +56,7 @@ pub fn wait_on(conversation: &Conversation, wait: &mut Wait, now: u64)
     wait.step(conversation.waits(), conversation.side.wants_answer(), now);
 }
 
-/// Notes why a connection is closed after its items moved, if it is, and what is waited for then.
+/// After items moved: records the close reason, if any, and restarts the timer.
 #[tactic(auto, using(crate::proofs::Moments::no_step, crate::proofs::Moments::one_close))]
 fn after_moving(
     conversation: &mut Conversation,
@@ -59,15 +65,11 @@ fn after_moving(
     wait: &mut Wait,
     now: u64,
 )
-    requires deaf { closed.old ≢ None → drains conversation.old.side conversation.old.closing ≡ true }
-    requires open_due { closed.old ≡ None → is_open_due wait.old.due ≡ true }
-    requires closed_due { closed.old ≢ None → is_closed_due wait.old.due ≡ true }
+    requires fits { FitsClosed closed.old conversation.old wait.old }
     ensures closes { ClosesThen now conversation.old moved conversation.new closed.old closed.new wait.old wait.new }
     ensures timed { closed.new ≡ None → (s : State) → StandsFor conversation.new.endpoint s → tick_answer s ≢ []
         → is_again wait.new.due ≡ true }
-    ensures open_due { closed.new ≡ None → is_open_due wait.new.due ≡ true }
-    ensures closed_due { closed.new ≢ None → is_closed_due wait.new.due ≡ true }
-    ensures deaf { closed.new ≢ None → drains conversation.new.side conversation.new.closing ≡ true }
+    ensures fits { FitsClosed closed.new conversation.new wait.new }
 {
     if closed.is_some() {
         return;
@@ -89,7 +91,7 @@ fn is_starved(moved: Result<(), FeedRefusal>) -> bool
     matches!(moved, Err(FeedRefusal::NoMemory))
 }
 
-/// Moves what can move; notes why the connection is closed then, if it is, and what is waited for.
+/// Moves items until none can move; then records the close reason, if any, and what the connection owes, and restarts the timer.
 pub fn settled(
     conversation: &mut Conversation,
     alloc: Global,
@@ -98,16 +100,12 @@ pub fn settled(
     wait: &mut Wait,
     now: u64,
 )
-    requires deaf { closed.old ≢ None → drains conversation.old.side conversation.old.closing ≡ true }
-    requires open_due { closed.old ≡ None → is_open_due wait.old.due ≡ true }
-    requires closed_due { closed.old ≢ None → is_closed_due wait.old.due ≡ true }
+    requires fits { FitsClosed closed.old conversation.old wait.old }
     requires stands { HasHistory conversation.old.endpoint }
     ensures moved { GoesOnBy now conversation.old conversation.new owed.old owed.new closed.old closed.new wait.old wait.new }
     ensures timed { closed.new ≡ None → (s : State) → StandsFor conversation.new.endpoint s → tick_answer s ≢ []
         → is_again wait.new.due ≡ true }
-    ensures open_due { closed.new ≡ None → is_open_due wait.new.due ≡ true }
-    ensures closed_due { closed.new ≢ None → is_closed_due wait.new.due ≡ true }
-    ensures deaf { closed.new ≢ None → drains conversation.new.side conversation.new.closing ≡ true }
+    ensures fits { FitsClosed closed.new conversation.new wait.new }
     ensures stands { HasHistory conversation.new.endpoint }
 {
     let waiting = conversation.endpoint.waiting();
@@ -118,7 +116,7 @@ pub fn settled(
     after_moving(conversation, moved, closed, wait, now);
 }
 
-/// Whether a packet of the peer has more acknowledged, or opens the connection.
+/// Whether a packet of the peer acknowledged more, or opened the connection.
 pub fn is_progress(conversation: &Conversation, before: usize, was_open: bool) -> bool
     ensures { (s : State) → StandsFor conversation.now.endpoint s
         → result ≡ nat_lt (unacknowledged_count s) before || (is_open s.ends && not was_open) }
@@ -127,15 +125,15 @@ pub fn is_progress(conversation: &Conversation, before: usize, was_open: bool) -
         || (conversation.endpoint.is_open() && !was_open)
 }
 
-/// Whether a packet was dropped because its item is there.
+/// Whether a packet was dropped because its item came before.
 fn is_repeat(dropped: Option<Dropped>) -> bool
     ensures { result ≡ is_repeat dropped }
 {
     matches!(dropped, Some(Dropped::Repeat))
 }
 
-/// Whether the first item goes out again for a packet, where `more` says whether the packet has more acknowledged, or opens the connection,
-/// and `left` whether an item is still not acknowledged: after a wait that was in vain, or for a repeat, where something is overdue.
+/// Whether a packet that came makes the first item go out again: after a wait that was in vain, or for a repeat, where something is overdue.
+/// `more` says whether the packet acknowledged more, or opened the connection, and `left` whether an item is still not acknowledged.
 fn goes_again(dropped: Option<Dropped>, more: bool, left: bool, wait: &Wait, now: u64) -> bool
     ensures { result ≡ again_for dropped more left wait.now now }
 {
@@ -147,8 +145,8 @@ fn goes_again(dropped: Option<Dropped>, more: bool, left: bool, wait: &Wait, now
     left && may
 }
 
-/// Notes a packet that came, where `more` says whether it has more acknowledged, or opens the connection, and `left` whether an item is
-/// still not acknowledged.
+/// Records in the timer and in what the connection owes that a packet came. `more` says whether the packet acknowledged more, or opened the
+/// connection, and `left` whether an item is still not acknowledged.
 pub fn note(input: Input, more: bool, left: bool, owed: &mut Owed, wait: &mut Wait, now: u64)
     ensures foreign { is_foreign input.dropped ≡ true → (wait.new ≡ wait.old) × (owed.new ≡ owed.old) }
     ensures wait { is_foreign input.dropped ≡ false
@@ -169,7 +167,7 @@ pub fn note(input: Input, more: bool, left: bool, owed: &mut Owed, wait: &mut Wa
     wait.hear(more, again, now);
 }
 
-/// What is owed after an act.
+/// What a connection owes after an act.
 pub fn owed_after(owed: Owed, act: Act) -> Owed
     ensures { result ≡ owed_after owed act }
 {
@@ -188,7 +186,7 @@ pub fn owed_after(owed: Owed, act: Act) -> Owed
     after
 }
 
-/// What a connection waits for after a step that closes none.
+/// Restarts the timer of a connection after a step that closed none. The timer of a closed connection stays as it is.
 #[tactic(auto, using(crate::proofs::Moments::no_step))]
 pub fn wait_unless(conversation: &Conversation, closed: Option<Why>, wait: &mut Wait, now: u64)
     requires open_due { closed ≡ None → is_open_due wait.old.due ≡ true }

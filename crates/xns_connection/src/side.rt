@@ -24,13 +24,13 @@ use xns_spp::Endpoint;
 /// A side of a conversation.
 #[derive(Drop)]
 pub enum Side {
-    /// It makes calls.
+    /// The side that makes calls.
     Calls(WordCaller),
-    /// It is called.
+    /// The side that is called.
     Answers(WordServer),
 }
 
-/// What is told of a call.
+/// What the program is told where a session made a call or refused it.
 fn call_result(made: Result<(), CallRefusal>) -> Result<(), Refusal>
     ensures { result ≡ call_result made }
 {
@@ -43,7 +43,7 @@ fn call_result(made: Result<(), CallRefusal>) -> Result<(), Refusal>
     }
 }
 
-/// What is told of an answer.
+/// What the program is told where a session took an answer or refused it.
 fn answer_result(given: Result<(), AnswerRefusal>) -> Result<(), Refusal>
     ensures { result ≡ answer_result given }
 {
@@ -56,7 +56,7 @@ fn answer_result(given: Result<(), AnswerRefusal>) -> Result<(), Refusal>
 }
 
 impl Side {
-    /// Whether it has stopped, and is fed no more.
+    /// Whether the side has stopped: it is fed no more.
     pub fn is_stopped(&self) -> bool
         ensures { result ≡ is_stopped self.now }
     {
@@ -66,7 +66,7 @@ impl Side {
         }
     }
 
-    /// Whether items are to go out.
+    /// Whether the side has items that are to go out.
     pub fn has_out(&self) -> bool
         ensures { result ≡ has_items (out_of self.now) }
     {
@@ -86,7 +86,7 @@ impl Side {
         }
     }
 
-    /// Whether a call of its own wants its answer.
+    /// Whether a call that the side made wants its answer.
     pub fn wants_answer(&self) -> bool
         ensures { result ≡ wants_answer self.now }
     {
@@ -139,7 +139,7 @@ impl Side {
         }
     }
 
-    /// The message that is there for the program, once: an answer, or a call whose program is listed.
+    /// Takes the message that waits for the program: an answer, or a call whose program is listed. `None`: no message waits.
     pub fn take_message(&mut self) -> Option<PiecedMessage>
         ensures message { result ≡ waiting_message self.old }
         ensures is { self.new ≡ side_taken self.old }
@@ -182,8 +182,8 @@ impl Side {
         }
     }
 
-    /// Moves items until nothing moves and no call is there whose program is not listed: such calls are rejected. After `NoMemory` the
-    /// same call goes on.
+    /// Moves items until none moves, and rejects each call whose program is not listed. After `NoMemory` the next `converse` goes on where
+    /// this one stopped.
     pub fn converse(&mut self, alloc: Global, endpoint: &mut Endpoint) -> Result<(), FeedRefusal>
         requires { is_stopped self.old ≡ false }
         ensures converses { (s : State) → StandsFor endpoint.old s → (v : State) × StandsFor endpoint.new v

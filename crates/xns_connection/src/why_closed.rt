@@ -23,8 +23,8 @@ fn why_over(closing: Closing) -> Why
     }
 }
 
-/// Why a connection is closed that is given up for this reason, where so many items are not acknowledged: where EndReply may be the only
-/// one, the closing exchange counts as over.
+/// Why a connection is closed that is given up for this reason while so many items are not acknowledged. Where EndReply may be the only
+/// such item, the closing exchange counts as over.
 pub fn why_given_up(closing: Closing, unacknowledged: usize, reason: Why) -> Why
     ensures { result ≡ why_given_up closing unacknowledged reason }
 {
@@ -52,8 +52,8 @@ fn is_closing(stream: u8) -> bool
     stream == 254 || stream == 255
 }
 
-/// Why a connection is closed whose side refused an item, if it is: an item that closes it, and one for which no memory was there, close
-/// none.
+/// Why a connection is closed whose side refused an item. `None`: the item closes no connection, as one of the closing exchange, or one for
+/// which memory was refused.
 fn why_refused(refusal: FeedRefusal) -> Option<Why>
     ensures { result ≡ why_refused refusal }
 {
@@ -71,7 +71,7 @@ fn why_refused(refusal: FeedRefusal) -> Option<Why>
     }
 }
 
-/// Why a connection is closed after its items moved, if it is.
+/// Why a connection is closed after its items moved. `None`: it is not.
 pub fn why_after(conversation: &Conversation, moved: Result<(), FeedRefusal>) -> Option<Why>
     ensures { (s : State) → StandsFor conversation.now.endpoint s
         → result ≡ why_after conversation.now.closing (is_over conversation.now.closing s) moved }

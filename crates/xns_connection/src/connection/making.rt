@@ -22,7 +22,7 @@ impl Connection {
     ghost use Rattle.xns_connection.specs.Step.{IsMade};
     ghost use Rattle.xns_connection.specs.declared.closing.TheConstants.Closing.{NONE};
 
-    /// One with this endpoint and this side, in which nothing was said.
+    /// A connection with this endpoint and this side, in which nothing was said.
     fn new(
         alloc: Global,
         endpoint: Endpoint,

@@ -17,7 +17,7 @@ use xns_spp::Bytes;
 impl Conversation {
     ghost use Rattle.xns_connection.specs.Telling.{word_answer};
 
-    /// Makes the packets that go out for the first time, where none that were made wait.
+    /// Makes the packets of all items that may go out for the first time, where no packet that was made waits.
     fn flush(&mut self, alloc: Global) -> Result<(), AllocError>
         requires { self.old.packets.items ≡ [] }
         ensures side { (self.new.side ≡ self.old.side) × (self.new.closing ≡ self.old.closing) }
@@ -30,7 +30,7 @@ impl Conversation {
         Ok(())
     }
 
-    /// Makes the packet of the first item again; `None` where there is none.
+    /// Makes the packet of the first item that is not acknowledged. `None`: each item is acknowledged.
     fn again(&mut self, alloc: Global) -> Result<Option<Bytes>, AllocError>
         ensures answer { IfOk result (λ o. (s : State) → StandsFor self.old.endpoint s → o ≡ resend_answer s) }
         ensures side { (self.new.side ≡ self.old.side) × (self.new.closing ≡ self.old.closing) }
@@ -42,7 +42,7 @@ impl Conversation {
         self.endpoint.resend_first(alloc)
     }
 
-    /// The next packet of those that were made.
+    /// Takes the first of the packets that were made. `None`: none waits.
     fn fetch(&mut self) -> Option<Bytes>
         ensures packets { self.old.packets.items ≡ option_to_list result ++ self.new.packets.items }
         ensures none { result ≡ None → self.new.packets.items ≡ [] }
@@ -51,7 +51,7 @@ impl Conversation {
         self.packets.pop_front()
     }
 
-    /// The next packet of those that were made, or that is to go out again.
+    /// The first of the packets that were made; where none waits, the one that is to go out again.
     fn older_packet(&mut self, alloc: Global, owed: &mut Owed) -> Result<Option<Bytes>, AllocError>
         ensures side { (self.new.side ≡ self.old.side) × (self.new.closing ≡ self.old.closing) }
         ensures none { result ≡ Ok None → self.new.packets.items ≡ [] }
@@ -71,7 +71,7 @@ impl Conversation {
         Ok(packet)
     }
 
-    /// The packet without an item that is owed.
+    /// The packet without an item that the peer is owed. `None`: none is owed.
     fn system_packet(&self, alloc: Global, owed: &mut Owed) -> Result<Option<Bytes>, AllocError>
         ensures done { OnOk result ((owed.new.asks ≡ false) × (owed.new.word ≡ false) × (owed.new.fresh ≡ owed.new.moving)) }
         ensures answer { (s : State) → StandsFor self.now.endpoint s → IfOk result (λ o. o ≡ word_answer owed.old s) }
@@ -97,7 +97,7 @@ impl Conversation {
         owed.moving || owed.asks || !self.packets.is_empty()
     }
 
-    /// The next packet that goes out for the first time, or a packet without an item that is owed.
+    /// The next packet that goes out for the first time; where there is none, the packet without an item that the peer is owed.
     fn newer_packet(&mut self, alloc: Global, owed: &mut Owed) -> Result<Option<Bytes>, AllocError>
         requires { self.old.packets.items ≡ [] }
         ensures side { (self.new.side ≡ self.old.side) × (self.new.closing ≡ self.old.closing) }

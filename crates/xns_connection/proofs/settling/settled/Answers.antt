@@ -6,10 +6,16 @@ use Rattle.xns_connection.proofs.Settled.{still_drained}
 use Rattle.xns_connection.proofs.Steps.{goes_on_by, left_history}
 use Rattle.xns_connection.proofs.settling.settled.Goals as goal
 
-pub after_moving-requires-clause-deaf : goal.after_moving-requires-clause-deaf
-after_moving-requires-clause-deaf c = λ some. ∥∥₁_elim c.requires.stands (Prim.hlevel props) (λ x.
-    let k = c.settle-moved.ensures.settles x.0 x.1 in
-    still_drained c.settle-moved.new.self (scene c.args.conversation.now x.0) k.0 c.settle-moved.result k.1 k.2 (c.requires.deaf some))
+pub after_moving-requires : goal.after_moving-requires
+after_moving-requires c = record {
+  fits = record {
+    open_due = c.requires.fits.open_due;
+    closed_due = c.requires.fits.closed_due;
+    deaf = λ some. ∥∥₁_elim c.requires.stands (Prim.hlevel props) (λ x.
+        let k = c.settle-moved.ensures.settles x.0 x.1 in
+        still_drained c.settle-moved.new.self (scene c.args.conversation.now x.0) k.0 c.settle-moved.result k.1 k.2 (c.requires.fits.deaf some));
+  };
+}
 
 pub returns-clause-moved : goal.returns-clause-moved
 returns-clause-moved c =

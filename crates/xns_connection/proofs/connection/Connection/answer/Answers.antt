@@ -5,19 +5,21 @@ use Rattle.xns_connection.specs.declared.conversation.Conversation.{Conversation
 use Rattle.xns_connection.proofs.Steps.{same_history, step_by}
 use Rattle.std.proofs.Common.{subst}
 use Rattle.xns_spp.specs.Held.{Held, StandsFor}
+use Rattle.xns_connection.proofs.Dues.{fits_same}
 use Rattle.xns_connection.proofs.connection.Connection.answer.Goals as goal
 
 pub invariant_of-self : goal.invariant_of-self
 invariant_of-self c = record {
   timed = λ none s stands some. c.args.self.now.timed none s (subst (λ (e : Held). StandsFor e s) c.answer.ensures.endpoint stands) some;
-  open_due = c.args.self.now.open_due;
-  closed_due = c.args.self.now.closed_due;
-  deaf = λ some. c.answer.ensures.drains ∙ c.args.self.now.deaf some;
+  fits = fits_same _ _ _ _ c.args.self.now.fits c.answer.ensures.drains;
   stands = same_history _ _ c.answer.ensures.endpoint c.args.self.now.stands;
 }
 
 pub invariant_of-self-2-clause-stands : goal.invariant_of-self-2-clause-stands
 invariant_of-self-2-clause-stands c = c.settled.ensures.stands
+
+pub settled-requires-clause-fits : goal.settled-requires-clause-fits
+settled-requires-clause-fits c = fits_same _ _ _ _ c.args.self.now.fits c.in_ok-answer.ensures.drains
 
 pub settled-requires-clause-stands : goal.settled-requires-clause-stands
 settled-requires-clause-stands c = same_history _ _ c.answer.ensures.endpoint c.args.self.now.stands

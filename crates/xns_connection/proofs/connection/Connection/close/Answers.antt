@@ -1,13 +1,15 @@
-use Rattle.std.proofs.Common.{◌∙◌, ap, refl}
+use Rattle.std.proofs.Common.{ap, refl}
 use Rattle.xns_connection.specs.Closing.{drains}
 use Rattle.xns_connection.specs.Deeds.{asked}
 use Rattle.xns_connection.specs.Moving.{scene}
 use Rattle.xns_connection.specs.declared.conversation.Conversation.{Conversation}
+use Rattle.xns_connection.proofs.Dues.{fits_same}
 use Rattle.xns_connection.proofs.Steps.{same_history, step_by}
 use Rattle.xns_connection.proofs.connection.Connection.close.Goals as goal
 
-pub settled-requires-clause-deaf : goal.settled-requires-clause-deaf
-settled-requires-clause-deaf c = λ some. ap (λ (t : Conversation). drains t.side t.closing) c.close.ensures.rest ∙ c.args.self.now.deaf some
+pub settled-requires-clause-fits : goal.settled-requires-clause-fits
+settled-requires-clause-fits c =
+    fits_same _ _ _ _ c.args.self.now.fits (ap (λ (t : Conversation). drains t.side t.closing) c.close.ensures.rest)
 
 pub settled-requires-clause-stands : goal.settled-requires-clause-stands
 settled-requires-clause-stands c = same_history _ _ (ap (λ (t : Conversation). t.endpoint) c.close.ensures.rest) c.args.self.now.stands

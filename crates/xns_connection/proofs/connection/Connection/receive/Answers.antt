@@ -1,24 +1,23 @@
-use Rattle.std.proofs.Common.{subst}
-use Rattle.xns_spp.specs.Held.{Held}
-use Rattle.xns_connection.specs.Closing.{drains}
-use Rattle.xns_spp.specs.Receiving.{after_receive}
-use Rattle.xns_connection.proofs.Moments.{hears_at}
-use Rattle.std.proofs.Common.{◌∙◌, ap, refl, ℕ}
+use Rattle.std.proofs.Common.{◌≡◌, ◌∙◌, ◌++◌, [], ap, refl, rules, subst, sym, ℕ, true, false}
 use Rattle.std.specs.Prelude.{nat_lt}
-use Rattle.xns_connection.proofs.Owing.{progress_is}
-use Rattle.std.proofs.Common.{◌≡◌}
-use Rattle.xns_spp.specs.Held.{StandsFor}
-use Rattle.xns_spp.specs.State.{State}
-use Rattle.xns_connection.specs.Telling.{is_progress}
-use Rattle.xns_connection.proofs.Steps.{heard_by, owed_is_heard, wait_is_heard}
-use Rattle.xns_connection.proofs.Steps.{heard_history, same_history}
+use Rattle.xns_spp.specs.Held.{Held, StandsFor}
 use Rattle.xns_spp.specs.Packet.{spp_packet_spelling}
-use Rattle.std.proofs.Common.{◌++◌, []}
+use Rattle.xns_spp.specs.Receiving.{after_receive}
+use Rattle.xns_spp.specs.State.{State}
+use Rattle.xns_connection.specs.Closing.{drains}
+use Rattle.xns_connection.specs.Connecting.{is_of_another}
+use Rattle.xns_connection.specs.Step.{is_ours_by, parts_of}
+use Rattle.xns_connection.specs.Telling.{is_progress}
 use Rattle.xns_connection.specs.declared.conversation.Conversation.{Conversation}
+use Rattle.xns_connection.proofs.Belonging.{belongs, conversation_stays, stored_is_ours}
+use Rattle.xns_connection.proofs.Dues.{fits_same}
+use Rattle.xns_connection.proofs.Moments.{hears_at}
+use Rattle.xns_connection.proofs.Owing.{progress_is}
+use Rattle.xns_connection.proofs.Steps.{heard_by, heard_history, owed_is_heard, same_connection, same_history, wait_is_heard}
 use Rattle.xns_connection.proofs.connection.Connection.receive.Goals as goal
 
 pub returns-clause-step : goal.returns-clause-step
-returns-clause-step c = λ b read.
+returns-clause-step c = λ yes b read.
     let k = c.in_ok-input.ensures in
     let n = c.note.ensures in
     let more_is : (s : State) → StandsFor c.args.self.now.conversation.endpoint s → c.is_progress-more.result ≡ is_progress s (after_receive s b) = λ s stands.
@@ -46,8 +45,62 @@ invariant_of-self c =
     let end = ap (λ (t : Conversation). t.endpoint) c.in_err-input.ensures.unchanged in
     record {
       timed = λ none s stands some. c.args.self.now.timed none s (subst (λ (e : Held). StandsFor e s) end stands) some;
-      open_due = c.args.self.now.open_due;
-      closed_due = c.args.self.now.closed_due;
-      deaf = λ some. ap (λ (t : Conversation). drains t.side t.closing) c.in_err-input.ensures.unchanged ∙ c.args.self.now.deaf some;
+      fits = fits_same _ _ _ _ c.args.self.now.fits (ap (λ (t : Conversation). drains t.side t.closing) c.in_err-input.ensures.unchanged);
       stands = same_history _ _ end c.args.self.now.stands;
     }
+
+pub invariant_of-self-then-is_of_another : goal.invariant_of-self-then-is_of_another
+invariant_of-self-then-is_of_another c =
+    let p = c.args.packet.now in
+    let read = c.written_packet_is_read_again.ensures.again p [] c.requires in
+    let k = c.in_ok-input.ensures in
+    let same : c.receive.new.self ≡ c.args.self.now.conversation
+    = conversation_stays c.foreign_bytes_change_nothing.ensures c.args.self.now.conversation c.receive.new.self (spp_packet_spelling p ++ []) p c.in_ok-input.input
+    c.args.self.now.stands read (λ s stands. k.answer s (spp_packet_spelling p ++ []) stands read) (λ s stands. k.stands s (spp_packet_spelling p ++ []) stands read)
+    k.rest (sym c.is_of_another.ensures ∙ c.if-is_of_another.true) in
+    let end = ap (λ (t : Conversation). t.endpoint) same in
+    record {
+      timed = λ none s stands some. c.args.self.now.timed none s (subst (λ (e : Held). StandsFor e s) end stands) some;
+      fits = fits_same _ _ _ _ c.args.self.now.fits (ap (λ (t : Conversation). drains t.side t.closing) same);
+      stands = same_history _ _ end c.args.self.now.stands;
+    }
+
+pub returns-then-is_of_another-clause-foreign : goal.returns-then-is_of_another-clause-foreign
+returns-then-is_of_another-clause-foreign c = λ ok.
+    let p = c.args.packet.now in
+    let read = c.written_packet_is_read_again.ensures.again p [] c.requires in
+    let k = c.in_ok-input.ensures in
+    let same : c.receive.new.self ≡ c.args.self.now.conversation
+    = conversation_stays c.foreign_bytes_change_nothing.ensures c.args.self.now.conversation c.receive.new.self (spp_packet_spelling p ++ []) p c.in_ok-input.input
+    c.args.self.now.stands read (λ s stands. k.answer s (spp_packet_spelling p ++ []) stands read) (λ s stands. k.stands s (spp_packet_spelling p ++ []) stands read)
+    k.rest (sym c.is_of_another.ensures ∙ c.if-is_of_another.true) in
+    same_connection _ _ (ap (λ (t : Conversation). record (parts_of c.args.self.now) { conversation = t }) same)
+
+pub returns-then-is_of_another-clause-ours : goal.returns-then-is_of_another-clause-ours
+returns-then-is_of_another-clause-ours c = λ s stands.
+    let p = c.args.packet.now in
+    let read = c.written_packet_is_read_again.ensures.again p [] c.requires in
+    belongs s (spp_packet_spelling p ++ []) p c.in_ok-input.input true read (c.in_ok-input.ensures.answer s (spp_packet_spelling p ++ []) stands read)
+    (sym c.is_of_another.ensures ∙ c.if-is_of_another.true)
+
+pub returns-clause-ours : goal.returns-clause-ours
+returns-clause-ours c = λ s stands.
+    let p = c.args.packet.now in
+    let read = c.written_packet_is_read_again.ensures.again p [] c.requires in
+    belongs s (spp_packet_spelling p ++ []) p c.in_ok-input.input false read (c.in_ok-input.ensures.answer s (spp_packet_spelling p ++ []) stands read)
+    (sym c.is_of_another.ensures ∙ c.if-is_of_another.false)
+
+pub returns-in_err-input-clause-ours : goal.returns-in_err-input-clause-ours
+returns-in_err-input-clause-ours c = λ s stands.
+    let p = c.args.packet.now in
+    let read = c.written_packet_is_read_again.ensures.again p [] c.requires in
+    let refused : is_ours_by c.from_residual.result ≡ true = search rules in
+    stored_is_ours c.foreign_bytes_change_nothing.ensures s (spp_packet_spelling p ++ []) p read
+    (c.in_err-input.ensures.memory s (spp_packet_spelling p ++ []) stands read) ∙ sym refused
+
+pub settled-requires-clause-fits : goal.settled-requires-clause-fits
+settled-requires-clause-fits c = record {
+  open_due = λ none. c.note.ensures.open_due (c.args.self.now.fits.open_due none);
+  closed_due = λ some. c.note.ensures.closed_due (c.args.self.now.fits.closed_due some);
+  deaf = λ some. ap (λ (t : Conversation). drains t.side t.closing) c.in_ok-input.ensures.rest ∙ c.args.self.now.fits.deaf some;
+}

@@ -9,6 +9,7 @@ use Rattle.xns_connection.specs.declared.conversation.Conversation.{Conversation
 use Rattle.xns_connection.proofs.Steps.{calm_then, first_no, same_connection, second_no, step_by}
 use Rattle.xns_connection.proofs.connection.Connection.take_message.Goals.{else-not-self-via-then-not-self+else-is_calm, else-not-self-via-else-not-self}
 use Rattle.xns_connection.proofs.Steps.{same_history}
+use Rattle.xns_connection.proofs.Dues.{fits_same}
 use Rattle.xns_connection.proofs.connection.Connection.take_message.Goals as goal
 
 pub returns-in_err-message-clause-step : goal.returns-in_err-message-clause-step
@@ -45,14 +46,15 @@ invariant_of-self-then-is_calm-clause-stands c = same_history _ _ c.in_ok-messag
 pub invariant_of-self-2-clause-stands : goal.invariant_of-self-2-clause-stands
 invariant_of-self-2-clause-stands c = c.settled.ensures.stands
 
+pub settled-requires-clause-fits : goal.settled-requires-clause-fits
+settled-requires-clause-fits c = fits_same _ _ _ _ c.args.self.now.fits c.in_ok-message.ensures.drains
+
 pub settled-requires-clause-stands : goal.settled-requires-clause-stands
 settled-requires-clause-stands c = same_history _ _ c.in_ok-message.ensures.endpoint c.args.self.now.stands
 
 pub invariant_of-self : goal.invariant_of-self
 invariant_of-self c = record {
   timed = λ none s stands some. c.args.self.now.timed none s (subst (λ (e : Held). StandsFor e s) c.take_message.ensures.endpoint stands) some;
-  open_due = c.args.self.now.open_due;
-  closed_due = c.args.self.now.closed_due;
-  deaf = λ some. c.take_message.ensures.drains ∙ c.args.self.now.deaf some;
+  fits = fits_same _ _ _ _ c.args.self.now.fits c.take_message.ensures.drains;
   stands = same_history _ _ c.take_message.ensures.endpoint c.args.self.now.stands;
 }
