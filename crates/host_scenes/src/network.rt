@@ -117,6 +117,6 @@ impl Network {
     /// A packet that has arrived.
     pub fn arrived(&mut self, now: u64) -> Option<Flying> {
         let place = self.flying.iter().position(|packet| packet.at <= now)?;
-        Some(self.flying.swap_remove(place))
+        Some(self.flying.remove(place))
     }
 }

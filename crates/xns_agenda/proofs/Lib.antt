@@ -6,6 +6,7 @@ mod Measures
 mod Putting
 mod Repeats
 mod Silent
+mod Thirds
 mod Tree
 mod Turning
 mod Wanting

@@ -1,6 +1,7 @@
 -- When a connection says something again, asks its peer for a word, and is given up. Times are in milliseconds.
-use Rattle.std.specs.Prelude.{◌≡◌, ℕ, ◌+◌, ◌-◌, ◌*◌, ◌^◌, ◌<◌, ◌≤◌, Bool, true, false, ◌&&◌, ◌==◌, nat_le, min, if◌then◌else◌, Option, Some, None, IfSome}
-use Rattle.xns_agenda.specs.Measuring.{IsBounded, begun_timing, borne, first_wait, is_late, learnt}
+use Rattle.std.specs.Prelude.{◌≡◌, ℕ, ◌+◌, ◌-◌, ◌*◌, ◌^◌, ◌<◌, ◌≤◌, Bool, true, false, not, ◌&&◌, ◌==◌, nat_le, min, if◌then◌else◌, Option, Some, None, IfSome}
+use Rattle.xns_agenda.specs.Measuring.{IsBounded, begun_timing, borne, first_wait, is_late, is_vain, learnt}
+use Rattle.xns_agenda.specs.Replying.{counted, is_third}
 use Rattle.xns_agenda.specs.declared.act.Act.{Act}
 use Rattle.xns_agenda.specs.declared.act.Act.TheVariants.{Nothing, Again, Ask, GiveUp, Forget}
 use Rattle.xns_agenda.specs.declared.due.Due.{Due}
@@ -8,6 +9,8 @@ use Rattle.xns_agenda.specs.declared.due.Due.TheVariants.{Never, AgainAt, AskAt,
 use Rattle.xns_agenda.specs.declared.measure.Measure.{Measure}
 use Rattle.xns_agenda.specs.declared.measure.TheConstants.Measure.{NONE}
 use Rattle.xns_agenda.specs.declared.pace.Pace.{Pace}
+use Rattle.xns_agenda.specs.declared.replies.Replies.{Replies}
+use Rattle.xns_agenda.specs.declared.replies.TheConstants.Replies as none
 use Rattle.xns_agenda.specs.declared.timing.Timing.{Timing}
 use Rattle.xns_agenda.specs.declared.timing.Timing.TheVariants.{Ready, Resent, Over}
 
@@ -20,6 +23,8 @@ pub record Waiting : Type 0 where
   pub measure : Measure
   -- what is timed
   pub timing : Timing
+  -- how often the peer said that it lacks the same item
+  pub replies : Replies
   -- how many packets went out again or asked since the last word of the peer
   pub misses : ℕ
   -- when the last word of the peer came
@@ -44,7 +49,7 @@ abbrev pub next_length : Pace → ℕ → ℕ
 next_length pace length = min (length * 2) pace.longest
 
 abbrev pub new_waiting : Pace → ℕ → Waiting
-new_waiting pace now = record { pace = pace; due = Never; length = pace.first; measure = NONE; timing = Ready; misses = 0; heard_at = now }
+new_waiting pace now = record { pace = pace; due = Never; length = pace.first; measure = NONE; timing = Ready; replies = none.NONE; misses = 0; heard_at = now }
 
 -- nothing is waited for, and the next wait is the first
 abbrev pub rested : Waiting → Waiting
@@ -105,22 +110,47 @@ is_overdue w now = overdue_by w w.due now
 abbrev pub resent : Waiting → ℕ → Waiting
 resent w now = record (begun AgainAt (rested w) now) { timing = Resent now }
 
--- how long the peer took is learnt
+-- how long the peer took is learnt, and what it lacks then is another item
 abbrev pub taught : Waiting → ℕ → Waiting
-taught w now = record w { measure = learnt w.measure w.pace w.timing now; timing = Over }
+taught w now = record w { measure = learnt w.measure w.pace w.timing now; timing = Over; replies = none.NONE }
 
-abbrev pub after_heard : Waiting → Due → (more again : Bool) → ℕ → Waiting
-after_heard w Never more again now = rested w
-after_heard w (AgainAt t) true again now = rested (taught w now)
-after_heard w (AgainAt t) false true now = resent w now
-after_heard w (AgainAt t) false false now = w
-after_heard w (AskAt t) more again now = rested w
-after_heard w (ForgetAt t) more again now = w
+-- the peer says by a reply with this allocation number that it lacks the first item that is out
+abbrev pub counting : Waiting → (allocation : ℕ) → Waiting
+counting w allocation = record w { replies = counted w.replies allocation }
 
--- `more`: the peer acknowledges more, or opens the connection; `again`: where it does not, what waits for the peer goes
--- out again
-abbrev pub after_word : Waiting → (more again : Bool) → ℕ → Waiting
-after_word w more again now = after_heard (record w { misses = 0; heard_at = now }) w.due more again now
+-- the item goes out again for that: the first wait begins anew, and how long the peer takes is not measured
+abbrev pub replaced : Waiting → (allocation : ℕ) → ℕ → Waiting
+replaced w allocation now = record (begun AgainAt (rested (counting w allocation)) now) { timing = Over }
+
+-- while something waits for the peer, where no wait was in vain, the reply is the third in a row that says the same
+abbrev pub third_by : Waiting → Due → Option ℕ → Bool
+third_by w Never reply = false
+third_by w (AgainAt t) None = false
+third_by w (AgainAt t) (Some allocation) = not (is_vain w.timing) && is_third w.replies allocation
+third_by w (AskAt t) reply = false
+third_by w (ForgetAt t) reply = false
+
+abbrev pub is_third_reply : Waiting → (reply : Option ℕ) → Bool
+is_third_reply w reply = third_by w w.due reply
+
+-- where the peer acknowledges no more; the allocation number is that of a reply by which it lacks an item that is out
+abbrev pub unmoved : Waiting → (reply : Option ℕ) → (again : Bool) → ℕ → Waiting
+unmoved w None true now = resent w now
+unmoved w None false now = w
+unmoved w (Some allocation) true now = replaced w allocation now
+unmoved w (Some allocation) false now = counting w allocation
+
+abbrev pub after_heard : Waiting → Due → (more : Bool) (reply : Option ℕ) (again : Bool) → ℕ → Waiting
+after_heard w Never more reply again now = rested w
+after_heard w (AgainAt t) true reply again now = rested (taught w now)
+after_heard w (AgainAt t) false reply again now = unmoved w reply again now
+after_heard w (AskAt t) more reply again now = rested w
+after_heard w (ForgetAt t) more reply again now = w
+
+-- `more`: the peer acknowledges more, or opens the connection; `reply`: the allocation number of a reply by which the peer lacks an item
+-- that is out; `again`: where it acknowledges no more, what waits for the peer goes out again
+abbrev pub after_word : Waiting → (more : Bool) (reply : Option ℕ) (again : Bool) → ℕ → Waiting
+after_word w more reply again now = after_heard (record w { misses = 0; heard_at = now }) w.due more reply again now
 
 -- ---- when a wait is over
 
@@ -175,7 +205,7 @@ pub data StepsAt (now : ℕ) (w : Waiting) : Waiting → Type 0 where
 -- steps of this moment lead from the first wait to the second, and a word of the peer may have come before them
 pub data HearsAt (now : ℕ) (w v : Waiting) : Type 0 where
   no_word : StepsAt now w v → HearsAt now w v
-  word : (more again : Bool) → StepsAt now (after_word w more again now) v → HearsAt now w v
+  word : (more : Bool) (reply : Option ℕ) (again : Bool) → StepsAt now (after_word w more reply again now) v → HearsAt now w v
 
 -- ---- a silent peer
 
@@ -193,7 +223,16 @@ pub data Silence (w : Waiting) : ℕ → Waiting → Type 0 where
   steps : {n : ℕ} {v : Waiting} → Silence w n v → (waits wants : Bool) (now : ℕ) → Silence w n (after_step v waits wants now)
   sends : {n : ℕ} {v : Waiting} → Silence w n v → (now : ℕ) → is_sent (act_at v now) ≡ true → Silence w (n + 1) (after_act v now)
 
--- ---- two peers that repeat what they said
+-- ---- what a peer says that acknowledges no more
+
+-- from one moment to another the peer acknowledges no more, and says by so many replies that it lacks an item that is out
+pub data Lacks (w : Waiting) : ℕ → Waiting → Type 0 where
+  here : Lacks w 0 w
+  steps : {n : ℕ} {v : Waiting} → Lacks w n v → (waits wants : Bool) (now : ℕ) → Lacks w n (after_step v waits wants now)
+  acts : {n : ℕ} {v : Waiting} → Lacks w n v → (now : ℕ) → Lacks w n (after_act v now)
+  hears : {n : ℕ} {v : Waiting} → Lacks w n v → (again : Bool) (now : ℕ) → Lacks w n (after_word v false None again now)
+  replies : {n : ℕ} {v : Waiting} → Lacks w n v → (allocation : ℕ) (again : Bool) (now : ℕ)
+      → Lacks w (n + 1) (after_word v false (Some allocation) again now)
 
 -- from one moment to another something waits for the peer, which acknowledges no more; so often something goes out
 -- again when a word of the peer comes
@@ -201,5 +240,7 @@ pub data Unheard (w : Waiting) : ℕ → Waiting → Type 0 where
   here : Unheard w 0 w
   steps : {n : ℕ} {v : Waiting} → Unheard w n v → (wants : Bool) (now : ℕ) → Unheard w n (after_step v true wants now)
   acts : {n : ℕ} {v : Waiting} → Unheard w n v → (now : ℕ) → Unheard w n (after_act v now)
-  hears : {n : ℕ} {v : Waiting} → Unheard w n v → (now : ℕ) → Unheard w n (after_word v false false now)
-  resends : {n : ℕ} {v : Waiting} → Unheard w n v → (now : ℕ) → is_overdue v now ≡ true → Unheard w (n + 1) (after_word v false true now)
+  hears : {n : ℕ} {v : Waiting} → Unheard w n v → (reply : Option ℕ) (now : ℕ) → Unheard w n (after_word v false reply false now)
+  resends : {n : ℕ} {v : Waiting} → Unheard w n v → (now : ℕ) → is_overdue v now ≡ true → Unheard w (n + 1) (after_word v false None true now)
+  replaces : {n : ℕ} {v : Waiting} → Unheard w n v → (reply : Option ℕ) (now : ℕ) → is_third_reply v reply ≡ true
+      → Unheard w (n + 1) (after_word v false reply true now)

@@ -1,6 +1,6 @@
 //! What the definitions imply, each as the contract of a function that does nothing.
 
-ghost use Rattle.std.specs.Prelude.{◌≡◌, ◌≤◌, ◌<◌, ◌+◌, ◌-◌, ◌*◌, ◌^◌, ℕ, Bool, true};
+ghost use Rattle.std.specs.Prelude.{◌≡◌, ◌≤◌, ◌<◌, ◌+◌, ◌-◌, ◌*◌, ◌^◌, ℕ, Bool, Option, true};
 ghost use Rattle.std.specs.Option.{is_some};
 ghost use Rattle.xns_agenda.specs.Clock.{by_told, day, time_at, told_at};
 ghost use Rattle.xns_agenda.specs.Measuring.{borne, first_wait, shorter_waits, smoothed_on};
@@ -8,7 +8,7 @@ ghost use Rattle.xns_agenda.specs.declared.measure.TheConstants.Measure.{NONE};
 ghost use Rattle.xns_agenda.specs.declared.pace.Pace.{Pace};
 ghost use Rattle.xns_agenda.specs.declared.smoothed.Smoothed.{Smoothed};
 ghost use Rattle.xns_agenda.specs.declared.clock.Clock.{Clock};
-ghost use Rattle.xns_agenda.specs.Waiting.{Unheard, Waiting, Silence, last_time, act_at, after_act, after_step, due_time, later, next_length};
+ghost use Rattle.xns_agenda.specs.Waiting.{Lacks, Unheard, Waiting, Silence, last_time, act_at, after_act, after_step, due_time, is_third_reply, later, next_length};
 ghost use Rattle.xns_agenda.specs.declared.act.Act.TheVariants.{Again};
 ghost use Rattle.xns_agenda.specs.declared.due.Due.TheVariants.{AgainAt};
 
@@ -19,10 +19,16 @@ pub fn a_silent_peer_is_given_up()
         → (w.misses + n ≡ v.misses) × (w.misses + n ≤ borne w.measure w.pace) }
 {}
 
-/// By its waits a connection repeats nothing for ever because its peer does: while something waits for the peer, and the peer acknowledges no
-/// more, at most one packet goes out again for a word of the peer.
+/// By its waits a connection repeats nothing for ever because of what its peer says: while something waits for the peer, and the peer
+/// acknowledges no more, at most one packet goes out again for its words, be they repeats or replies that say the same.
 pub fn a_repeat_is_answered_once()
     ensures { (w v : Waiting) (n : ℕ) → Unheard w n v → n ≤ 1 }
+{}
+
+/// A reply is the third that says the same only where the peer said by two others, since it acknowledged more, that it lacks an item. So where
+/// fewer than three such replies come, nothing goes out again for them.
+pub fn a_third_reply_comes_after_two()
+    ensures { (w v : Waiting) (n : ℕ) (reply : Option ℕ) → w.replies.count ≡ 0 → Lacks w n v → is_third_reply v reply ≡ true → 2 ≤ n }
 {}
 
 /// While a call wants its answer the connection never waits for ever: something is due at a time.

@@ -10,6 +10,7 @@ use crate::act::Act;
 use crate::due::Due;
 use crate::measure::Measure;
 use crate::pace::Pace;
+use crate::replies::Replies;
 use crate::timing::Timing;
 use std::marker::Model;
 
@@ -27,6 +28,8 @@ pub struct Wait {
     measure: Measure,
     /// What is timed of it.
     timing: Timing,
+    /// How often the peer said that it lacks the same item.
+    replies: Replies,
     /// How many packets went out again or asked since the last word of the peer.
     misses: u16,
     /// When the last word of the peer came.
@@ -38,7 +41,7 @@ impl Model for Wait {
 
     ghost Value = { Waiting };
 
-    ghost view = { λ w. record { pace = w.pace; due = w.due; length = w.length; measure = w.measure; timing = w.timing; misses = w.misses; heard_at = w.heard_at } };
+    ghost view = { λ w. record { pace = w.pace; due = w.due; length = w.length; measure = w.measure; timing = w.timing; replies = w.replies; misses = w.misses; heard_at = w.heard_at } };
 
     ghost invariant = { λ w. IsWaiting w.pace w.length w.misses w.measure };
 }
@@ -88,7 +91,7 @@ fn idle_due(pace: &Pace, heard_at: u64, wants: bool) -> Due
 }
 
 impl Wait {
-    ghost use Rattle.xns_agenda.specs.Waiting.{new_waiting, act_at, after_act, after_by, after_step, after_word, begun, is_overdue, missed, rested, resent, lingering, taught};
+    ghost use Rattle.xns_agenda.specs.Waiting.{new_waiting, act_at, after_act, after_by, after_step, after_word, begun, counting, is_overdue, is_third_reply, missed, replaced, rested, resent, lingering, taught, unmoved};
     ghost use Rattle.xns_agenda.specs.Waiting.{IsDueAfter, last_time, waiting_on, idling};
 
     /// The waits of a connection that is made at this time.
@@ -101,6 +104,7 @@ impl Wait {
             length: pace.first,
             measure: Measure::NONE,
             timing: Timing::Ready,
+            replies: Replies::NONE,
             misses: 0,
             heard_at: now,
         }
@@ -130,6 +134,18 @@ impl Wait {
                 .timing
                 .is_late(self.measure.first_wait(&self.pace), now),
             Due::Never | Due::AskAt(_) | Due::ForgetAt(_) => false,
+        }
+    }
+
+    /// Whether a reply is the third in a row that says the same, while something waits for the peer and no wait was in vain. `reply` is the
+    /// allocation number of a reply by which the peer lacks the first item that is out; `None` of another packet.
+    pub fn is_third_reply(&self, reply: Option<u16>) -> bool
+        ensures { result ≡ is_third_reply self.now reply }
+    {
+        match (self.due, reply) {
+            (Due::AgainAt(_), Some(allocation)) => !self.timing.is_vain()
+                && self.replies.is_third(allocation),
+            _ => false,
         }
     }
 
@@ -205,6 +221,7 @@ impl Wait {
     {
         self.measure = self.measure.learnt(&self.pace, self.timing, now);
         self.timing = Timing::Over;
+        self.replies = Replies::NONE;
     }
 
     /// What waits for the peer goes out again before its time, and the first wait begins anew.
@@ -216,10 +233,35 @@ impl Wait {
         self.timing = Timing::Resent(now);
     }
 
+    /// Takes in that the peer says, by a reply with this allocation number, that it lacks the first item that is out, and whether the item
+    /// goes out again for that.
+    fn take_reply(&mut self, allocation: u16, again: bool, now: u64)
+        ensures { self.new ≡ unmoved self.old (Some allocation) again now }
+    {
+        self.replies = self.replies.counted(allocation);
+        if again {
+            self.rest();
+            self.begin(now);
+            self.timing = Timing::Over;
+        }
+    }
+
+    /// Takes in a word of the peer that acknowledges no more, while something waits for the peer.
+    fn stay(&mut self, reply: Option<u16>, again: bool, now: u64)
+        ensures { self.new ≡ unmoved self.old reply again now }
+    {
+        match reply {
+            Some(allocation) => self.take_reply(allocation, again, now),
+            None if again => self.resend(now),
+            None => {}
+        }
+    }
+
     /// Takes in a word of the peer, where `more` says whether it acknowledges more, or opens the connection, and `again` whether something
-    /// goes out again for it.
-    pub fn hear(&mut self, more: bool, again: bool, now: u64)
-        ensures { self.new ≡ after_word self.old more again now }
+    /// goes out again for it. `reply` is the allocation number of a reply by which the peer lacks the first item that is out; `None` of
+    /// another packet.
+    pub fn hear(&mut self, more: bool, reply: Option<u16>, again: bool, now: u64)
+        ensures { self.new ≡ after_word self.old more reply again now }
     {
         self.heard_at = now;
         self.misses = 0;
@@ -229,8 +271,7 @@ impl Wait {
                 self.learn(now);
                 self.rest();
             }
-            Due::AgainAt(_) if again => self.resend(now),
-            Due::AgainAt(_) => {}
+            Due::AgainAt(_) => self.stay(reply, again, now),
             Due::Never | Due::AskAt(_) => self.rest(),
         }
     }

@@ -3,7 +3,7 @@ use Rattle.std.proofs.Common.{◌≡◌, ◌≢◌, ◌∙◌, ap, refl, ℕ, Bo
 use Rattle.std.specs.Prelude.{◌==◌, if◌then◌else◌}
 use Rattle.std.specs.Option.{is_some}
 use Rattle.xns_connection.specs.Connecting.{FitsClosed, is_again, is_open_due, is_closed_due}
-use Rattle.xns_agenda.specs.Waiting.{Waiting, after_step, after_word, after_heard, idle_span, later, waiting_on, idling}
+use Rattle.xns_agenda.specs.Waiting.{Waiting, after_step, after_word, after_heard, idle_span, later, unmoved, waiting_on, idling}
 use Rattle.xns_connection.specs.Closing.{drains}
 use Rattle.xns_connection.specs.declared.conversation.Conversation.{Conversation}
 use Rattle.xns_connection.specs.declared.why.Why.{Why}
@@ -45,25 +45,36 @@ step_open w v false wants now free is = ap (λ (u : Waiting). is_open_due u.due)
 
 -- ---- a word of the peer
 
-heard_by : (w : Waiting) (d : Due) (more again : Bool) (now : ℕ) → w.due ≡ d → is_open_due d ≡ true → is_open_due (after_heard w d more again now).due ≡ true
-heard_by w Never more again now is free = refl
-heard_by w (AgainAt t) true again now is free = refl
-heard_by w (AgainAt t) false true now is free = refl
-heard_by w (AgainAt t) false false now is free = ap is_open_due is
-heard_by w (AskAt t) more again now is free = refl
-heard_by w (ForgetAt t) more again now is free = absurd (cc)
+unmoved_open : (w : Waiting) (reply : Option ℕ) (again : Bool) (now : ℕ) → is_open_due w.due ≡ true → is_open_due (unmoved w reply again now).due ≡ true
+unmoved_open w None true now free = refl
+unmoved_open w None false now free = free
+unmoved_open w (Some allocation) true now free = refl
+unmoved_open w (Some allocation) false now free = free
 
-pub word_open : (w v : Waiting) (more again : Bool) (now : ℕ) → v ≡ after_word w more again now → is_open_due w.due ≡ true → is_open_due v.due ≡ true
-word_open w v more again now is free = ap (λ (u : Waiting). is_open_due u.due) is ∙ heard_by (record w { misses = 0; heard_at = now }) w.due more again now refl free
+heard_by : (w : Waiting) (d : Due) (more : Bool) (reply : Option ℕ) (again : Bool) (now : ℕ) → w.due ≡ d → is_open_due d ≡ true
+    → is_open_due (after_heard w d more reply again now).due ≡ true
+heard_by w Never more reply again now is free = refl
+heard_by w (AgainAt t) true reply again now is free = refl
+heard_by w (AgainAt t) false reply again now is free = unmoved_open w reply again now (ap is_open_due is)
+heard_by w (AskAt t) more reply again now is free = refl
+heard_by w (ForgetAt t) more reply again now is free = absurd (cc)
 
-heard_shut : (w : Waiting) (d : Due) (more again : Bool) (now : ℕ) → w.due ≡ d → is_closed_due d ≡ true → is_closed_due (after_heard w d more again now).due ≡ true
-heard_shut w Never more again now is shut = refl
-heard_shut w (AgainAt t) more again now is shut = absurd (cc)
-heard_shut w (AskAt t) more again now is shut = absurd (cc)
-heard_shut w (ForgetAt t) more again now is shut = ap is_closed_due is
+pub word_open : (w v : Waiting) (more : Bool) (reply : Option ℕ) (again : Bool) (now : ℕ) → v ≡ after_word w more reply again now → is_open_due w.due ≡ true
+    → is_open_due v.due ≡ true
+word_open w v more reply again now is free =
+    ap (λ (u : Waiting). is_open_due u.due) is ∙ heard_by (record w { misses = 0; heard_at = now }) w.due more reply again now refl free
 
-pub word_shut : (w v : Waiting) (more again : Bool) (now : ℕ) → v ≡ after_word w more again now → is_closed_due w.due ≡ true → is_closed_due v.due ≡ true
-word_shut w v more again now is shut = ap (λ (u : Waiting). is_closed_due u.due) is ∙ heard_shut (record w { misses = 0; heard_at = now }) w.due more again now refl shut
+heard_shut : (w : Waiting) (d : Due) (more : Bool) (reply : Option ℕ) (again : Bool) (now : ℕ) → w.due ≡ d → is_closed_due d ≡ true
+    → is_closed_due (after_heard w d more reply again now).due ≡ true
+heard_shut w Never more reply again now is shut = refl
+heard_shut w (AgainAt t) more reply again now is shut = absurd (cc)
+heard_shut w (AskAt t) more reply again now is shut = absurd (cc)
+heard_shut w (ForgetAt t) more reply again now is shut = ap is_closed_due is
+
+pub word_shut : (w v : Waiting) (more : Bool) (reply : Option ℕ) (again : Bool) (now : ℕ) → v ≡ after_word w more reply again now → is_closed_due w.due ≡ true
+    → is_closed_due v.due ≡ true
+word_shut w v more reply again now is shut =
+    ap (λ (u : Waiting). is_closed_due u.due) is ∙ heard_shut (record w { misses = 0; heard_at = now }) w.due more reply again now refl shut
 
 -- ---- whether it is closed
 

@@ -16,6 +16,7 @@ use Rattle.xns_spp.specs.declared.input.Input.{Input}
 use Rattle.xns_spp.specs.State.{State}
 use Rattle.xns_connection.specs.Connecting.{FitsClosed, again_for, goes_again, is_again, is_foreign, owed_after, owed_heard, wait_heard, why_after}
 use Rattle.xns_connection.specs.Moving.{HasHistory, IsAt, Scene, Settles, is_calm, scene}
+use Rattle.xns_connection.specs.Replying.{reply_by}
 use Rattle.xns_connection.specs.Step.{May, MovesOwed, Step, WaitsBy, is_calm_then, parts_of}
 use Rattle.xns_connection.specs.Deeds.{Deed, Parts, acted, acted_by, given_up, heard, Moved, ClosesThen, GoesOnBy, closed_moved, done, given_up_by, is_starved, owed_by, owed_moved, shut, took, wait_by, wait_moved}
 use Rattle.xns_connection.specs.Story.{wants_answer}
@@ -189,32 +190,36 @@ owed_both false o m n same next = next refl
 abbrev owed_so : Owed → (word again : Bool) → Owed
 owed_so o word again = record o { word = word; again = again }
 
-pub owed_is_heard : (o m : Owed) (w : Waiting) (s : State) (b : List ℕ) (i : Input) (more left : Bool) (now : ℕ) → i ≡ input_answer s b
-    → more ≡ is_progress s (after_receive s b) → left ≡ nat_lt 0 (unacknowledged_count (after_receive s b)) → (is_foreign i.dropped ≡ true → m ≡ o)
-    → (is_foreign i.dropped ≡ false → m ≡ record o { word = o.word || i.owes_reply; again = o.again || again_for i.dropped more left w now })
+pub owed_is_heard : (o m : Owed) (w : Waiting) (s : State) (b : List ℕ) (i : Input) (more left : Bool) (reply : Option ℕ) (now : ℕ) → i ≡ input_answer s b
+    → more ≡ is_progress s (after_receive s b) → left ≡ nat_lt 0 (unacknowledged_count (after_receive s b))
+    → reply ≡ reply_by (after_receive s b) b → (is_foreign i.dropped ≡ true → m ≡ o)
+    → (is_foreign i.dropped ≡ false → m ≡ record o { word = o.word || i.owes_reply; again = o.again || again_for i.dropped more left reply w now })
     → m ≡ owed_heard o w s b now
-owed_is_heard o m w s b i more left now is progress some same next =
+owed_is_heard o m w s b i more left reply now is progress some says same next =
     let drops : is_foreign i.dropped ≡ is_foreign (input_answer s b).dropped = ap (λ (x : Input). is_foreign x.dropped) is in
     owed_both (is_foreign (input_answer s b).dropped) o m (owed_so o (o.word || (input_answer s b).owes_reply) (o.again || goes_again w s b now))
     (λ yes. same (drops ∙ yes))
-    (λ z. next (drops ∙ z) ∙ ap (λ (x : Input). owed_so o (o.word || x.owes_reply) (o.again || again_for x.dropped more left w now)) is
-    ∙ ap (λ (x : Bool). owed_so o (o.word || (input_answer s b).owes_reply) (o.again || again_for (input_answer s b).dropped x left w now)) progress
-    ∙ ap (λ (x : Bool). owed_so o (o.word || (input_answer s b).owes_reply) (o.again || again_for (input_answer s b).dropped (is_progress s (after_receive s b)) x w now)) some)
+    (λ z. next (drops ∙ z) ∙ ap (λ (x : Input). owed_so o (o.word || x.owes_reply) (o.again || again_for x.dropped more left reply w now)) is
+    ∙ ap (λ (x : Bool). owed_so o (o.word || (input_answer s b).owes_reply) (o.again || again_for (input_answer s b).dropped x left reply w now)) progress
+    ∙ ap (λ (x : Bool). owed_so o (o.word || (input_answer s b).owes_reply) (o.again || again_for (input_answer s b).dropped (is_progress s (after_receive s b)) x reply w now)) some
+    ∙ ap (λ (x : Option ℕ). owed_so o (o.word || (input_answer s b).owes_reply) (o.again || again_for (input_answer s b).dropped (is_progress s (after_receive s b)) (nat_lt 0 (unacknowledged_count (after_receive s b))) x w now)) says)
 
 wait_both : (foreign : Bool) (w v x : Waiting) → (foreign ≡ true → v ≡ w) → (foreign ≡ false → v ≡ x) → v ≡ (if foreign then w else x)
 wait_both true w v x same after = same refl
 wait_both false w v x same after = after refl
 
-pub wait_is_heard : (w v : Waiting) (s : State) (b : List ℕ) (i : Input) (more left : Bool) (now : ℕ) → i ≡ input_answer s b
-    → more ≡ is_progress s (after_receive s b) → left ≡ nat_lt 0 (unacknowledged_count (after_receive s b)) → (is_foreign i.dropped ≡ true → v ≡ w)
-    → (is_foreign i.dropped ≡ false → v ≡ after_word w more (again_for i.dropped more left w now) now) → v ≡ wait_heard w s b now
-wait_is_heard w v s b i more left now is progress some same after =
+pub wait_is_heard : (w v : Waiting) (s : State) (b : List ℕ) (i : Input) (more left : Bool) (reply : Option ℕ) (now : ℕ) → i ≡ input_answer s b
+    → more ≡ is_progress s (after_receive s b) → left ≡ nat_lt 0 (unacknowledged_count (after_receive s b))
+    → reply ≡ reply_by (after_receive s b) b → (is_foreign i.dropped ≡ true → v ≡ w)
+    → (is_foreign i.dropped ≡ false → v ≡ after_word w more reply (again_for i.dropped more left reply w now) now) → v ≡ wait_heard w s b now
+wait_is_heard w v s b i more left reply now is progress some says same after =
     let drops : is_foreign i.dropped ≡ is_foreign (input_answer s b).dropped = ap (λ (x : Input). is_foreign x.dropped) is in
-    wait_both (is_foreign (input_answer s b).dropped) w v (after_word w (is_progress s (after_receive s b)) (goes_again w s b now) now)
+    wait_both (is_foreign (input_answer s b).dropped) w v (after_word w (is_progress s (after_receive s b)) (reply_by (after_receive s b) b) (goes_again w s b now) now)
     (λ yes. same (drops ∙ yes))
-    (λ z. after (drops ∙ z) ∙ ap (λ (x : Input). after_word w more (again_for x.dropped more left w now) now) is
-    ∙ ap (λ (x : Bool). after_word w x (again_for (input_answer s b).dropped x left w now) now) progress
-    ∙ ap (λ (x : Bool). after_word w (is_progress s (after_receive s b)) (again_for (input_answer s b).dropped (is_progress s (after_receive s b)) x w now) now) some)
+    (λ z. after (drops ∙ z) ∙ ap (λ (x : Input). after_word w more reply (again_for x.dropped more left reply w now) now) is
+    ∙ ap (λ (x : Bool). after_word w x reply (again_for (input_answer s b).dropped x left reply w now) now) progress
+    ∙ ap (λ (x : Bool). after_word w (is_progress s (after_receive s b)) reply (again_for (input_answer s b).dropped (is_progress s (after_receive s b)) x reply w now) now) some
+    ∙ ap (λ (x : Option ℕ). after_word w (is_progress s (after_receive s b)) x (again_for (input_answer s b).dropped (is_progress s (after_receive s b)) (nat_lt 0 (unacknowledged_count (after_receive s b))) x w now) now) says)
 
 -- ---- what is due
 

@@ -10,6 +10,7 @@ pub mod Living
 pub mod Moving
 pub mod Reasons
 pub mod Refusing
+pub mod Replying
 pub mod Step
 pub mod Story
 pub mod Telling

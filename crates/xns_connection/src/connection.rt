@@ -28,6 +28,7 @@ use crate::call::Call;
 use crate::conversation::Conversation;
 use crate::owed::Owed;
 use crate::refusal::Refusal;
+use crate::replying::reply_of;
 use crate::settling::{is_of_another, is_progress, note, owed_after, settled, wait_unless};
 use crate::why::Why;
 use crate::why_closed::{is_dead, why_given_up};
@@ -96,7 +97,16 @@ impl Connection {
         }
         let more = is_progress(&self.conversation, before, was_open);
         let left = self.conversation.endpoint.unacknowledged() > 0;
-        note(input, more, left, &mut self.owed, &mut self.wait, now);
+        let reply = reply_of(&self.conversation.endpoint, packet);
+        note(
+            input,
+            more,
+            left,
+            reply,
+            &mut self.owed,
+            &mut self.wait,
+            now,
+        );
         settled(
             &mut self.conversation,
             alloc,

@@ -8,6 +8,7 @@ mod conversation;
 pub mod laws;
 mod owed;
 mod refusal;
+mod replying;
 mod settling;
 mod side;
 mod terms;

@@ -132,28 +132,44 @@ fn is_repeat(dropped: Option<Dropped>) -> bool
     matches!(dropped, Some(Dropped::Repeat))
 }
 
-/// Whether a packet that came makes the first item go out again: after a wait that was in vain, or for a repeat, where something is overdue.
-/// `more` says whether the packet acknowledged more, or opened the connection, and `left` whether an item is still not acknowledged.
-fn goes_again(dropped: Option<Dropped>, more: bool, left: bool, wait: &Wait, now: u64) -> bool
-    ensures { result ≡ again_for dropped more left wait.now now }
+/// Whether the first item goes out again for a packet, where `more` says whether the packet has more acknowledged, or opens the connection,
+/// and `left` whether an item is still not acknowledged: after a wait that was in vain; for a repeat, where something is overdue; or for a
+/// reply, by its allocation number, that is the third in a row by which the peer lacks the item.
+fn goes_again(
+    dropped: Option<Dropped>,
+    more: bool,
+    left: bool,
+    reply: Option<u16>,
+    wait: &Wait,
+    now: u64,
+) -> bool
+    ensures { result ≡ again_for dropped more left reply wait.now now }
 {
     let may = if more {
         wait.was_vain()
     } else {
-        is_repeat(dropped) && wait.is_overdue(now)
+        wait.is_third_reply(reply) || (is_repeat(dropped) && wait.is_overdue(now))
     };
     left && may
 }
 
-/// Records in the timer and in what the connection owes that a packet came. `more` says whether the packet acknowledged more, or opened the
-/// connection, and `left` whether an item is still not acknowledged.
-pub fn note(input: Input, more: bool, left: bool, owed: &mut Owed, wait: &mut Wait, now: u64)
+/// Records in the timer and in what the connection owes that a packet came. `more` says whether the packet acknowledges more, or opens the
+/// connection, and `left` whether an item is still not acknowledged. `reply` is the allocation number of a reply by which the peer lacks an item that is out; `None` of another packet.
+pub fn note(
+    input: Input,
+    more: bool,
+    left: bool,
+    reply: Option<u16>,
+    owed: &mut Owed,
+    wait: &mut Wait,
+    now: u64,
+)
     ensures foreign { is_foreign input.dropped ≡ true → (wait.new ≡ wait.old) × (owed.new ≡ owed.old) }
     ensures wait { is_foreign input.dropped ≡ false
-        → wait.new ≡ after_word wait.old more (again_for input.dropped more left wait.old now) now }
+        → wait.new ≡ after_word wait.old more reply (again_for input.dropped more left reply wait.old now) now }
     ensures owed { is_foreign input.dropped ≡ false → owed.new ≡ record owed.old {
       word = owed.old.word || input.owes_reply;
-      again = owed.old.again || again_for input.dropped more left wait.old now;
+      again = owed.old.again || again_for input.dropped more left reply wait.old now;
     } }
     ensures open_due { is_open_due wait.old.due ≡ true → is_open_due wait.new.due ≡ true }
     ensures closed_due { is_closed_due wait.old.due ≡ true → is_closed_due wait.new.due ≡ true }
@@ -161,10 +177,10 @@ pub fn note(input: Input, more: bool, left: bool, owed: &mut Owed, wait: &mut Wa
     if is_foreign(input.dropped) {
         return;
     }
-    let again = goes_again(input.dropped, more, left, wait, now);
+    let again = goes_again(input.dropped, more, left, reply, wait, now);
     owed.word = owed.word || input.owes_reply;
     owed.again = owed.again || again;
-    wait.hear(more, again, now);
+    wait.hear(more, reply, again, now);
 }
 
 /// What a connection owes after an act.

@@ -46,18 +46,20 @@ lingers_on now w at still = at
 lingers_on now w at (step {v = u} next b wants) = linger_step u b wants now (lingers_on now w at next)
 lingers_on now w at (close next) = refl
 
-linger_heard : (w : Waiting) (d : Due) (more again : Bool) (now : ℕ) → is_lingering d ≡ true → is_lingering w.due ≡ true → is_lingering (after_heard w d more again now).due ≡ true
-linger_heard w Never more again now is at = absurd (cc)
-linger_heard w (AgainAt t) more again now is at = absurd (cc)
-linger_heard w (AskAt t) more again now is at = absurd (cc)
-linger_heard w (ForgetAt t) more again now is at = at
+linger_heard : (w : Waiting) (d : Due) (more : Bool) (reply : Option ℕ) (again : Bool) (now : ℕ) → is_lingering d ≡ true → is_lingering w.due ≡ true
+    → is_lingering (after_heard w d more reply again now).due ≡ true
+linger_heard w Never more reply again now is at = absurd (cc)
+linger_heard w (AgainAt t) more reply again now is at = absurd (cc)
+linger_heard w (AskAt t) more reply again now is at = absurd (cc)
+linger_heard w (ForgetAt t) more reply again now is at = at
 
-linger_word : (w : Waiting) (more again : Bool) (now : ℕ) → is_lingering w.due ≡ true → is_lingering (after_word w more again now).due ≡ true
-linger_word w more again now at = linger_heard (record w { misses = 0; heard_at = now }) w.due more again now at at
+linger_word : (w : Waiting) (more : Bool) (reply : Option ℕ) (again : Bool) (now : ℕ) → is_lingering w.due ≡ true
+    → is_lingering (after_word w more reply again now).due ≡ true
+linger_word w more reply again now at = linger_heard (record w { misses = 0; heard_at = now }) w.due more reply again now at at
 
 hears_on : (now : ℕ) (w v : Waiting) → is_lingering w.due ≡ true → HearsAt now w v → is_lingering v.due ≡ true
 hears_on now w v at (no_word steps) = lingers_on now w at steps
-hears_on now w v at (word more again steps) = lingers_on now (after_word w more again now) (linger_word w more again now at) steps
+hears_on now w v at (word more reply again steps) = lingers_on now (after_word w more reply again now) (linger_word w more reply again now at) steps
 
 -- whatever was done
 pub waits_on : (now : ℕ) (deed : Deed) (w v : Waiting) → is_lingering w.due ≡ true → WaitsBy deed now w v → is_lingering v.due ≡ true

@@ -1,0 +1,88 @@
+-- A reply is the third that says the same only behind two others.
+use Rattle.std.proofs.Common.{◌≡◌, ap, refl, ℕ, ◌+◌, ◌≤◌, Bool, true, false, Option, Some, None, arith}
+use Rattle.std.specs.Prelude.{◌==◌, not}
+use Rattle.xns_agenda.specs.Measuring.{is_vain}
+use Rattle.xns_agenda.specs.Replying.{counted, is_third}
+use Rattle.xns_agenda.specs.Waiting.{Lacks, here, steps, acts, hears, replies, Waiting, act_at, after_act, after_by, after_heard, after_step, after_word, idling, is_third_reply, third_by, waiting_on}
+use Rattle.xns_agenda.specs.declared.act.Act.{Act}
+use Rattle.xns_agenda.specs.declared.act.Act.TheVariants.{Nothing, Again, Ask, GiveUp, Forget}
+use Rattle.xns_agenda.specs.declared.due.Due.{Due}
+use Rattle.xns_agenda.specs.declared.due.Due.TheVariants.{Never, AgainAt, AskAt, ForgetAt}
+use Rattle.xns_agenda.specs.declared.replies.Replies.{Replies}
+use Rattle.xns_agenda.proofs.Repeats.{first_of, second_of}
+
+-- ---- how many are counted
+
+waits_same : (v : Waiting) (d : Due) (now : ℕ) → (waiting_on v d now).replies ≡ v.replies
+waits_same v Never now = refl
+waits_same v (AgainAt t) now = refl
+waits_same v (AskAt t) now = refl
+waits_same v (ForgetAt t) now = refl
+
+idles_same : (v : Waiting) (d : Due) (wants : Bool) → (idling v d wants).replies ≡ v.replies
+idles_same v Never wants = refl
+idles_same v (AgainAt t) wants = refl
+idles_same v (AskAt t) wants = refl
+idles_same v (ForgetAt t) wants = refl
+
+step_same : (v : Waiting) (waits wants : Bool) (now : ℕ) → (after_step v waits wants now).replies ≡ v.replies
+step_same v true wants now = waits_same v v.due now
+step_same v false wants now = idles_same v v.due wants
+
+act_same : (v : Waiting) (a : Act) (now : ℕ) → (after_by v a now).replies ≡ v.replies
+act_same v Nothing now = refl
+act_same v Again now = refl
+act_same v Ask now = refl
+act_same v GiveUp now = refl
+act_same v Forget now = refl
+
+heard_same : (v : Waiting) (d : Due) (again : Bool) (now : ℕ) → (after_heard v d false None again now).replies ≡ v.replies
+heard_same v Never again now = refl
+heard_same v (AgainAt t) true now = refl
+heard_same v (AgainAt t) false now = refl
+heard_same v (AskAt t) again now = refl
+heard_same v (ForgetAt t) again now = refl
+
+one_more : (r : Replies) (allocation : ℕ) → (counted r allocation).count ≤ r.count + 1
+one_more r allocation = grind arith
+
+at_most : (v : Waiting) (d : Due) (allocation : ℕ) (again : Bool) (now : ℕ)
+    → (after_heard v d false (Some allocation) again now).replies.count ≤ v.replies.count + 1
+at_most v Never allocation again now = omega arith
+at_most v (AgainAt t) allocation true now = one_more v.replies allocation
+at_most v (AgainAt t) allocation false now = one_more v.replies allocation
+at_most v (AskAt t) allocation again now = omega arith
+at_most v (ForgetAt t) allocation again now = omega arith
+
+-- ---- from one moment to another
+
+still : (u v : Waiting) (n : ℕ) → u.replies ≡ v.replies → v.replies.count ≤ n → u.replies.count ≤ n
+still u v n same most = let is : u.replies.count ≡ v.replies.count = ap (λ (r : Replies). r.count) same in omega (arith, is, most)
+
+counts : (w : Waiting) {n : ℕ} {v : Waiting} → w.replies.count ≡ 0 → Lacks w n v → v.replies.count ≤ n
+counts w none here = omega (arith, none)
+counts w none (steps {n = n} {v = v} before waits wants now) = still (after_step v waits wants now) v n (step_same v waits wants now) (counts w none before)
+counts w none (acts {n = n} {v = v} before now) = still (after_act v now) v n (act_same v (act_at v now) now) (counts w none before)
+counts w none (hears {n = n} {v = v} before again now) =
+    still (after_word v false None again now) v n (heard_same (record v { misses = 0; heard_at = now }) v.due again now) (counts w none before)
+counts w none (replies {n = n} {v = v} before allocation again now) =
+    let more = at_most (record v { misses = 0; heard_at = now }) v.due allocation again now in
+    let most = counts w none before in
+    omega (arith, more, most)
+
+two_are : (n : ℕ) → (n == 2) ≡ true → 2 ≤ n
+two_are n two = grind arith
+
+third_has_two : (v : Waiting) (d : Due) (reply : Option ℕ) → third_by v d reply ≡ true → 2 ≤ v.replies.count
+third_has_two v Never reply third = absurd (cc)
+third_has_two v (AgainAt t) None third = absurd (cc)
+third_has_two v (AgainAt t) (Some allocation) third =
+    two_are v.replies.count (first_of (v.replies.count == 2) (v.replies.allocation == allocation) (second_of (not (is_vain v.timing)) (is_third v.replies allocation) third))
+third_has_two v (AskAt t) reply third = absurd (cc)
+third_has_two v (ForgetAt t) reply third = absurd (cc)
+
+pub third_after_two : (w v : Waiting) (n : ℕ) (reply : Option ℕ) → w.replies.count ≡ 0 → Lacks w n v → is_third_reply v reply ≡ true → 2 ≤ n
+third_after_two w v n reply none lacks third =
+    let most = counts w none lacks in
+    let two = third_has_two v v.due reply third in
+    omega (arith, most, two)
