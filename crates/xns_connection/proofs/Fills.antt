@@ -101,10 +101,10 @@ caller_hears below x xs s v r t n h free fills p =
     let first : CallerDone h.made h.handed h.given s.accepted (t, s) = record {
       done = subst (λ (fed : List Item). HasDone h.made fed h.given h.handed t) fills.fed (gone h t fills.has free);
       out = fills.behind;
-      accepted = refl;
+      has = refl;
     } in
     let after = quiet_leads below.next below.caller_feeds h.made h.handed h.given s.accepted p.leads first in
-    let given : h.given ++ x ∷ xs ≡ v.accepted = fills.given ∙ sym after.accepted in
+    let given : h.given ++ x ∷ xs ≡ v.accepted = fills.given ∙ sym after.has in
     record {
       last = Calls p.last;
       story = m;

@@ -135,7 +135,7 @@ module _ (next : TheNextItemIsHandedUp) (gives : CallerGives) (feeds_one : Calle
 pub record CallerDone (made : List RawCall) (handed : List Message) (given accepted : List Item) (y : Talk × State) : Type 0 where
   pub done : HasDone made (take y.1.handed y.1.taken) given handed y.0
   pub out : y.0.out ≡ []
-  pub accepted : y.1.accepted ≡ accepted
+  pub has : y.1.accepted ≡ accepted
 
 -- what is out stays
 same_out : (t n : Talk) (o : Option SessionFault) (m : Message) → talk.answered_unless o t m ≡ Ok n → n.out ≡ t.out
@@ -168,7 +168,7 @@ module _ (next : TheNextItemIsHandedUp) (feeds_one : CallerFeeds) (made : List R
       let there : CallerDone made handed given accepted (n, after_take s) = record {
         done = subst (λ (v : State). HasDone made (take v.handed v.taken) given handed n) (sym more) fed_more;
         out = item_out t n x after ∙ h.out;
-        accepted = ap (λ (v : State). v.accepted) more ∙ h.accepted;
+        has = ap (λ (v : State). v.accepted) more ∙ h.has;
       } in
       subst (λ (y : Talk × State). CallerDone made handed given accepted y) same there
   quiet_hears t s x (Err f) z is after h e = absurd (cc)

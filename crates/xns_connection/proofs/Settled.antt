@@ -42,7 +42,7 @@ none_left s h fed = ap (λ (xs : List Item). drop (length h.fed) xs) (sym fed) �
 
 -- of a side that is fed on, End is the last
 ends_last : (next : Side) (c : Closing) → c.wanted ≡ true → Behind (closing_items c) next → EndsLast next c
-ends_last next c wanted f sent = (
+ends_last next c wanted f = λ sent. (
   wanted,
   by next (subst (λ (b : Bool). Behind (put_if b end_stream ++ put_if c.reply_sent end_reply_stream) next) sent f),
 ) where
@@ -92,15 +92,15 @@ pumps_called (Answers a) (Answers b) s v r p = refl
 rejects_called : {side next : Side} → Rejects side next → is_called next ≡ is_called side
 rejects_called (rejects a m u call unlisted) = refl
 
-rounds_called : {side next : Side} {s v : State} → Rounds side s next v → is_called next ≡ is_called side
-rounds_called {side} {next} {s} {v} (once p) = pumps_called side next s v (Ok tt) p
+rounds_called : {side : Side} {s : State} {next : Side} {v : State} → Rounds side s next v → is_called next ≡ is_called side
+rounds_called {side} {s} {next} {v} (once p) = pumps_called side next s v (Ok tt) p
 rounds_called (again {free = other} {next = next} {v = v} {w = w} r still rejected p) =
     pumps_called other next v w (Ok tt) p ∙ rejects_called rejected ∙ rounds_called r
 
-conversed_called : {side next : Side} {s v : State} {r : Result (Unit {0}) FeedRefusal} → Converses side s r next v → is_called next ≡ is_called side
+conversed_called : {side : Side} {s : State} {next : Side} {v : State} {r : Result (Unit {0}) FeedRefusal} → Converses side s r next v → is_called next ≡ is_called side
 conversed_called (calms rounds listed) = rounds_called rounds
 conversed_called (starves rounds unlisted) = rounds_called rounds
-conversed_called {side} {next} {s} {v} (refuses e p) = pumps_called side next s v (Err e) p
+conversed_called {side} {s} {next} {v} (refuses e p) = pumps_called side next s v (Err e) p
 conversed_called (refuses_on {free = other} {next = next} {v = v} {w = w} e rounds still rejected p) =
     pumps_called other next v w (Err e) p ∙ rejects_called rejected ∙ rounds_called rounds
 
@@ -187,10 +187,8 @@ pub record HasSettled (x : Scene) (r : Result (Unit {0}) FeedRefusal) (to : Scen
   pub until : IfErr r (λ e. Refusal x h e)
   pub reads : IsUnrefused r → drains x.side x.closing ≡ false → closing_items to.closing ≡ [] → drains to.side to.closing ≡ false
 
-pub goes_follow : {y z : Scene} (s : State) (h m : Story) → Runs y.state z.state → GoesOn (at_end s h) (at_end y.state m)
-    → GoesOn (at_end s h) (at_end z.state m)
-goes_follow {y} {z} s h m runs g =
-    goes_on (at_end s h) (at_end y.state m) (at_end z.state m) g (same_messages (at_end y.state m) (at_end z.state m) runs refl refl refl refl refl)
+pub goes_follow : {v w : State} (s : State) (h m : Story) → Runs v w → GoesOn (at_end s h) (at_end v m) → GoesOn (at_end s h) (at_end w m)
+goes_follow {v} {w} s h m runs g = goes_on (at_end s h) (at_end v m) (at_end w m) g (same_messages (at_end v m) (at_end w m) runs refl refl refl refl refl)
 
 -- what was read is read on, where nothing was put out
 reads_closed : (side : Side) (c d : Closing) → drains side c ≡ false → d.deaf ≡ c.deaf → closing_items d ≡ [] → drains side d ≡ false

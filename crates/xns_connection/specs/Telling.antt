@@ -17,6 +17,7 @@ use Rattle.xns_connection.specs.Story.{Story, SideHas, GoesOn, made_on, out_of, 
 use Rattle.xns_connection.specs.declared.closing.Closing.{Closing}
 use Rattle.xns_connection.specs.declared.conversation.Conversation.{Conversation}
 use Rattle.xns_connection.specs.declared.owed.Owed.{Owed}
+use Rattle.xns_connection.specs.declared.side.Side.{Side}
 
 -- End is to be put out, once: behind all that is out, and behind the answer that is owed
 abbrev pub owes_end : Conversation → Bool

@@ -122,6 +122,7 @@ impl Side {
         ensures answer { Answers (side_call_fault self.old (call_model call.now)) result }
         ensures is { result ≡ Ok tt → self.new ≡ side_called self.old (call_model call.now) }
         ensures stopped { is_stopped self.new ≡ is_stopped self.old }
+        ensures called { is_called self.new ≡ is_called self.old }
         ensures unchanged { OnErr result (self.new ≡ self.old) }
     {
         match self {
@@ -141,6 +142,7 @@ impl Side {
         ensures answer { Answers (side_answer_fault self.old answer words.now) result }
         ensures is { result ≡ Ok tt → self.new ≡ side_answered self.old answer words.now }
         ensures stopped { is_stopped self.new ≡ is_stopped self.old }
+        ensures called { is_called self.new ≡ is_called self.old }
         ensures unchanged { OnErr result (self.new ≡ self.old) }
     {
         match self {
@@ -154,6 +156,7 @@ impl Side {
         ensures message { result ≡ waiting_message self.old }
         ensures is { self.new ≡ side_taken self.old }
         ensures stopped { is_stopped self.new ≡ is_stopped self.old }
+        ensures called { is_called self.new ≡ is_called self.old }
         ensures none { result ≡ None → self.new ≡ self.old }
     {
         match self {
