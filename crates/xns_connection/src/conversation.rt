@@ -88,12 +88,13 @@ impl Conversation {
         }
     }
 
-    /// Whether the conversation reads only items of the closing exchange.
+    /// Whether the conversation reads only items of the closing exchange: a side that is called does so behind our End, and a side that
+    /// calls, whose last answer may still come, does so behind our EndReply.
     fn drains(&self) -> bool
         ensures { result ≡ drains self.now.side self.now.closing }
     {
         self.side.is_stopped()
-            || self.closing.end_sent
+            || (self.closing.end_sent && self.side.is_called())
             || self.closing.reply_sent
             || self.closing.deaf
     }
@@ -146,7 +147,11 @@ impl Conversation {
     fn owes_end(&self) -> bool
         ensures { result ≡ owes_end self.now }
     {
-        self.closing.wanted && !self.drains() && !self.side.has_call() && !self.side.has_out()
+        self.closing.wanted
+            && !self.drains()
+            && !self.closing.end_sent
+            && !self.side.owes_answer()
+            && !self.side.has_out()
     }
 
     /// Puts out an item of the closing exchange, if there is room; whether there was.
@@ -173,7 +178,7 @@ impl Conversation {
         }
     }
 
-    /// Puts out End, once, where the program wants it: behind all items that are out, and after the answer to a call that waits.
+    /// Puts out End, once, where the program wants it: behind all items that are out, and after the answer that the peer is owed.
     fn say_end(&mut self, alloc: Global)
         ensures packets { self.new.packets ≡ self.old.packets }
         ensures at { (s : State) → StandsFor self.old.endpoint s → IsAt self.new (ended (scene self.old s)) }
