@@ -6,14 +6,16 @@ use Rattle.std.proofs.lemmas.List.{get_or-replicate, get_or-set_other, get_or-se
 use Rattle.std.proofs.lemmas.Option.{get_or_from_slice_get, slice_get-get_or, slice_get_read, slice_get_within}
 use Rattle.courier_messages.specs.declared.message.Message.{Message}
 use Rattle.xns_agenda.specs.Agenda.{Plan, HasNobody, IsFor, IsNoted, noted, released}
-use Rattle.xns_host.specs.Events.{event_by, event_for, event_in}
-use Rattle.xns_host.specs.Hosting.{IsAllNoted, IsNotedBut, IsNotedIn, facts_in}
+use Rattle.xns_host.specs.Events.{event_by, event_in, is_newly_open, later_event}
+use Rattle.xns_host.specs.Hosting.{IsAllNoted, IsNotedBut, IsNotedIn, facts_in, tells}
 use Rattle.xns_host.specs.Knowing.{known_in}
 use Rattle.xns_agenda.specs.Turns.{Line, has_turn, with_last, with_turn}
 use Rattle.xns_connection.specs.Story.{has_message, waiting_message, listed_call}
 use Rattle.xns_connection.specs.declared.connection.Connection.{Connection}
 use Rattle.xns_agenda.specs.declared.facts.Facts.{Facts}
 use Rattle.xns_agenda.specs.declared.facts.TheConstants.Facts.{NONE}
+use Rattle.xns_host.specs.declared.event.Event.{Event}
+use Rattle.xns_host.specs.declared.event.Event.TheVariants.{Opened}
 use Rattle.xns_host.specs.declared.guest.Guest.{Guest}
 use Rattle.xns_connection.specs.declared.side.Side.{Side}
 use Rattle.xns_connection.specs.declared.side.Side.TheVariants.{Calls, Answers}
@@ -119,10 +121,15 @@ either_quiet number tag c false d message why none =
     ap (λ (o : Option Message). event_by number tag o (if c.told then None else c.closed)) (side_quiet c.conversation.side message)
     ∙ why_quiet number tag c.told c.closed (why ∙ none)
 
+unless_open : (newly news : Bool) (first later : Option Event) → (newly || news) ≡ false → (news ≡ false → later ≡ None) → (if newly then first else later) ≡ None
+unless_open true news first later none quiet = absurd (cc)
+unless_open false news first later none quiet = quiet none
+
 quiet_in : (number : ℕ) (p : Option Guest) → (facts_in p).has_event ≡ false → event_in number p ≡ None
 quiet_in number None none = refl
 quiet_in number (Some g) none =
-    either_quiet number g.tag g.connection (has_message g.connection.conversation.side) (is_some g.connection.closed && not g.connection.told) refl refl none
+    unless_open (is_newly_open g) (tells g.connection) (Some (Opened number g.tag)) (later_event number g) none
+    (either_quiet number g.tag g.connection (has_message g.connection.conversation.side) (is_some g.connection.closed && not g.connection.told) refl refl)
 
 note_quiet : (a : Plan) (n most : ℕ) (p : Option Guest) → IsFor a most → n < most → has_turn (noted a n (facts_in p)).events n ≡ false → event_in n p ≡ None
 note_quiet a n most p is less none =

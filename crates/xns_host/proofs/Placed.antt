@@ -14,7 +14,7 @@ use Rattle.xns_host.specs.Events.{event_in}
 use Rattle.xns_host.specs.Hosting.{IsAllNoted, IsApart, facts_in, facts_of, may_go}
 use Rattle.xns_host.specs.Places.{ActsAll, ActsAt, AsksEvent, AsksInVain, AsksPacket, GivesNone, NextPacket, Places, Turns, became, nobody, resting, starves, taken_by, vacated, event_passed, places_with, vacated_if, quiet, tells}
 use Rattle.xns_host.specs.Strays.{StrayQueue}
-use Rattle.xns_host.specs.Went.{GuestActs, GuestTells, given_by}
+use Rattle.xns_host.specs.Went.{GuestActs, GuestReports, given_by}
 use Rattle.xns_host.specs.declared.event.Event.{Event}
 use Rattle.xns_host.specs.declared.guest.Guest.{Guest}
 use Rattle.xns_host.specs.declared.host_fault.HostFault.{HostFault}
@@ -64,7 +64,7 @@ became_by p n h x d ks done noting is settled =
     ∙ ap (λ (y : Plan). vacated_if (may_go h.connection) (places_with (slice_set p.guests n (Some h)) y) n) noting)
 
 pub asked_tells : (now n : ℕ) (gs ks : Row) (a b x d : Plan) (g h : Guest) (event : Event) (done : Bool) → slice_get gs n ≡ Some (Some g)
-    → event_in n (Some g) ≡ Some event → GuestTells now g h → b ≡ record a { events = with_turn a.events n false } → x ≡ noted b n (facts_of h)
+    → event_in n (Some g) ≡ Some event → GuestReports now g h → b ≡ record a { events = with_turn a.events n false } → x ≡ noted b n (facts_of h)
     → done ≡ may_go h.connection → places_with ks d ≡ vacated_if done (places_with (slice_set gs n (Some h)) x) n
     → AsksEvent now n (places_with gs a) (Some event) (places_with ks d)
 asked_tells now n gs ks a b x d g h event done here some turn passed noting is settled =

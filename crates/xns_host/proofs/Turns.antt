@@ -9,7 +9,7 @@ use Rattle.courier_sessions.specs.declared.answer.Answer.{Answer}
 use Rattle.xns_agenda.specs.Agenda.{Plan}
 use Rattle.xns_agenda.specs.Waiting.{act_at}
 use Rattle.xns_connection.specs.Deeds.{Deed, gave, heard, told_by, with_answer}
-use Rattle.xns_host.specs.Events.{event_by, event_for}
+use Rattle.xns_host.specs.Events.{event_by, event_for, is_newly_open, later_event}
 use Rattle.xns_host.specs.Hosting.{HasNoneDone, IsAllNoted, IsApart, IsNotDone, IsNotDoneIn, IsNotedBut, has_guest, may_go}
 use Rattle.xns_host.specs.Knowing.{known_in, known_of}
 use Rattle.xns_host.specs.Places.{places_with, vacated_if}
@@ -17,9 +17,10 @@ use Rattle.xns_host.specs.Registered.{FitsEnd, IsAllRegistered}
 use Rattle.xns_connection.specs.Step.{AConnectionGivesWhatItMade, AMessageIsHandedAsByAStep, AStepKeepsItsPromises, Step}
 use Rattle.xns_connection.specs.Story.{Story, asked_of, waiting_message, with_handed}
 use Rattle.xns_connection.specs.Telling.{Goes}
-use Rattle.xns_host.specs.Went.{GuestActs, GuestGives, GuestHears, GuestStep, GuestTagged, GuestTells, GuestUnserved, Went, hears, lost}
+use Rattle.xns_host.specs.Went.{GuestActs, GuestGives, GuestHears, GuestReports, GuestStep, GuestTagged, GuestTells, GuestUnserved, Went, hears, lost}
 use Rattle.xns_connection.specs.declared.connection.Connection.{Connection}
 use Rattle.xns_host.specs.declared.event.Event.{Event}
+use Rattle.xns_host.specs.declared.event.Event.TheVariants.{Opened}
 use Rattle.xns_host.specs.declared.guest.Guest.{Guest}
 use Rattle.xns_host.specs.declared.host_fault.HostFault.{HostFault}
 use Rattle.xns_host.specs.declared.outgoing.Outgoing.{Outgoing}
@@ -109,10 +110,18 @@ told_fits law now g h (Some m) waits t known =
     (handed_story law now g.connection h.connection m waits (t.handed (λ none. cc)))
 told_fits law now g h None waits t known = still_fits g h known (ap (λ (c : Connection). c.conversation) (t.closed waits))
 
-pub told_stays : AMessageIsHandedAsByAStep → (now : ℕ) (g h : Guest) → GuestTells now g h → Stays g h
-told_stays law now g h t =
+later_stays : AMessageIsHandedAsByAStep → (now : ℕ) (g h : Guest) → GuestTells now g h → Stays g h
+later_stays law now g h t =
     let known : known_of h ≡ known_of g = ap known_of t.same in
     record { known = known; fits = told_fits law now g h (waiting_message g.connection.conversation.side) refl t known }
+
+pub told_stays : AMessageIsHandedAsByAStep → (now : ℕ) (g h : Guest) → GuestReports now g h → Stays g h
+told_stays law now g h t = by (is_newly_open g) refl where
+  by : (newly : Bool) → is_newly_open g ≡ newly → Stays g h
+  by true is =
+      let known : known_of h ≡ known_of g = ap known_of (t.opened is) in
+      record { known = known; fits = still_fits g h known (ap (λ (k : Guest). k.connection.conversation) (t.opened is)) }
+  by false is = later_stays law now g h (t.later is)
 
 has_why : (number tag : ℕ) (told : Bool) (why : Option Why) (e : Event) → event_by number tag None (if told then None else why) ≡ Some e → (told || is_some why) ≡ true
 has_why number tag true why e some = refl
@@ -120,7 +129,7 @@ has_why number tag false None e some = absurd (cc)
 has_why number tag false (Some w) e some = refl
 
 undone_by : AMessageIsHandedAsByAStep → (now number : ℕ) (g h : Guest) (e : Event) (o : Option Message) → waiting_message g.connection.conversation.side ≡ o
-    → event_for number g ≡ Some e → GuestTells now g h → may_go h.connection ≡ false → IsNotDone g.connection → IsNotDone h.connection
+    → later_event number g ≡ Some e → GuestTells now g h → may_go h.connection ≡ false → IsNotDone g.connection → IsNotDone h.connection
 undone_by law now number g h e (Some m) waits some t left was =
     let hands = t.handed (λ none. cc) in
     let k = handing now g.connection h.connection hands in
@@ -132,9 +141,15 @@ undone_by law now number g h e None waits some t left was =
     = has_why number g.tag c.told c.closed e (ap (λ (o : Option Message). event_by number g.tag o (if c.told then None else c.closed)) (sym waits) ∙ some) in
     not_done_told c h.connection (t.closed waits ∙ ap (λ (b : Bool). let d : Connection = record c { told = b } in d) (sym now_told)) (now_told ∙ sym why) left was
 
-pub told_undone : AMessageIsHandedAsByAStep → (now number : ℕ) (g h : Guest) (e : Event) → event_for number g ≡ Some e → GuestTells now g h
+pub told_undone : AMessageIsHandedAsByAStep → (now number : ℕ) (g h : Guest) (e : Event) → event_for number g ≡ Some e → GuestReports now g h
     → may_go h.connection ≡ false → IsNotDone g.connection → IsNotDone h.connection
-told_undone law now number g h e some t = undone_by law now number g h e (waiting_message g.connection.conversation.side) refl some t
+told_undone law now number g h e some t left was = by (is_newly_open g) refl where
+  by : (newly : Bool) → is_newly_open g ≡ newly → IsNotDone h.connection
+  by true is = subst IsNotDone (sym (ap (λ (k : Guest). k.connection) (t.opened is))) was
+  by false is =
+      let later : later_event number g ≡ Some e
+      = ap (λ (newly : Bool). if newly then Some (Opened number g.tag) else later_event number g) (sym is) ∙ some in
+      undone_by law now number g h e (waiting_message g.connection.conversation.side) refl later (t.later is) left was
 
 -- ---- one that has a tag
 

@@ -1,11 +1,11 @@
 -- What a host tells its program of a connection.
-use Rattle.std.specs.Prelude.{ℕ, if◌then◌else◌, Option, Some, None}
+use Rattle.std.specs.Prelude.{ℕ, Bool, ◌&&◌, if◌then◌else◌, Option, Some, None}
 use Rattle.courier_messages.specs.declared.message.Message.{Message}
 use Rattle.courier_messages.specs.declared.message.Message.TheVariants as messages
 use Rattle.courier_sessions.specs.declared.answer.Answer.TheVariants.{Return, Abort, Reject}
 use Rattle.xns_connection.specs.Story.{waiting_message}
 use Rattle.xns_host.specs.declared.event.Event.{Event}
-use Rattle.xns_host.specs.declared.event.Event.TheVariants.{Call, Answer, Closed}
+use Rattle.xns_host.specs.declared.event.Event.TheVariants.{Opened, Call, Answer, Closed}
 use Rattle.xns_host.specs.declared.guest.Guest.{Guest}
 use Rattle.xns_connection.specs.declared.why.Why.{Why}
 
@@ -23,10 +23,18 @@ event_by number tag (Some m) why = Some (event_of number tag m)
 event_by number tag None (Some why) = Some (Closed number tag why)
 event_by number tag None None = None
 
--- what the connection with this number has to tell: the message that waits, or why it is closed, if that was not told
-abbrev pub event_for : ℕ → Guest → Option Event
-event_for number g =
+-- that it is open is to be told: its peer has confirmed it, and nothing of it was told yet
+abbrev pub is_newly_open : Guest → Bool
+is_newly_open g = g.opening_untold && g.confirmed
+
+-- the message that waits, or why the connection with this number is closed, if that was not told
+abbrev pub later_event : ℕ → Guest → Option Event
+later_event number g =
     event_by number g.tag (waiting_message g.connection.conversation.side) (if g.connection.told then None else g.connection.closed)
+
+-- what the connection with this number has to tell: that it is open, before all else
+abbrev pub event_for : ℕ → Guest → Option Event
+event_for number g = if is_newly_open g then Some (Opened number g.tag) else later_event number g
 
 -- what the one in this place has to tell, if there is one
 abbrev pub event_in : ℕ → Option Guest → Option Event

@@ -13,7 +13,7 @@ use Rattle.xns_spp.specs.State.{State, initiator_state, responder_state}
 use Rattle.xns_agenda.specs.Agenda.{Plan, IsNoted, asked_at}
 use Rattle.xns_connection.specs.Connecting.{is_dead}
 use Rattle.xns_connection.specs.Deeds.{acted}
-use Rattle.xns_host.specs.Events.{event_in}
+use Rattle.xns_host.specs.Events.{event_in, is_newly_open}
 use Rattle.xns_host.specs.Identifiers.{Ids, IsNext, is_free}
 use Rattle.xns_host.specs.Quotes.{is_sent_by, quoted_packet}
 use Rattle.xns_host.specs.Register.{peer_at}
@@ -39,6 +39,10 @@ use Rattle.xns_host.specs.declared.settings.Settings.{Settings}
 abbrev pub tells : Connection → Bool
 tells c = has_message c.conversation.side || (is_some c.closed && not c.told)
 
+-- the program may be told something of it
+abbrev pub may_tell : Guest → Bool
+may_tell g = is_newly_open g || tells g.connection
+
 -- since when it lingers, if it is closed and the program was told
 abbrev pub lingers_since : Connection → Option ℕ
 lingers_since c = if is_some c.closed && c.told then due_time c.wait.due else None
@@ -53,7 +57,7 @@ abbrev pub facts_of : Guest → Facts
 facts_of g = record {
   due = due_time g.connection.wait.due;
   has_packet = g.connection.owed.fresh;
-  has_event = tells g.connection;
+  has_event = may_tell g;
   lingers_since = lingers_since g.connection;
   stranger_since = stranger_since g;
 }
@@ -168,11 +172,11 @@ pub data Wants (strays : List Outgoing) (guests : List (Option Guest)) (short : 
   for_event : (k : ℕ) (g : Guest) → slice_get guests k ≡ Some (Some g) → event_in k (Some g) ≢ None → Wants strays guests short 0
   for_due : (k t : ℕ) (g : Guest) → slice_get guests k ≡ Some (Some g) → due_time g.connection.wait.due ≡ Some t → Wants strays guests short t
 
--- a connection may have something to tell: a message is there, which may be a call that is to be rejected, or the program was not told why
--- it is closed
+-- a connection may have something to tell: a message is there, which may be a call that is to be rejected, or the program was not told that
+-- it is open or why it is closed
 pub record MayTell (guests : List (Option Guest)) : Type 0 where
   pub number : ℕ
-  pub there : IsThere (λ g. tells g.connection ≡ true) (slice_get guests number)
+  pub there : IsThere (λ g. may_tell g ≡ true) (slice_get guests number)
 
 -- the time that is told is the earliest of these, or 0 where a connection may have something to tell; where there is none, none is told
 pub record IsFirstWant (strays : List Outgoing) (guests : List (Option Guest)) (short time : Option ℕ) : Type 0 where
@@ -217,8 +221,8 @@ abbrev pub address_in : ℕ → List ℕ → ℕ → Address
 address_in network host socket = record { network = network; host = host; socket = socket }
 
 -- with this number there is a connection of ours to the peer, which was made at this time and has done nothing yet: it has the identifier
--- that came next of these, and its packets go out by this way; it owes its opening packet, the program was told nothing of it, and it has no
--- tag
+-- that came next of these, and its packets go out by this way; it owes its opening packet, the program was told nothing of it, and is to be
+-- told that it is open where the settings say so, and it has no tag
 pub record IsConnected (guests : List (Option Guest)) (number : ℕ) (settings : Settings) (ids : Ids) (own to : Address) (way now : ℕ)
     : Type 0 where
   pub guest : Guest
@@ -231,6 +235,7 @@ pub record IsConnected (guests : List (Option Guest)) (number : ℕ) (settings :
   pub opener : guest.opener ≡ None
   pub confirmed : guest.confirmed ≡ false
   pub heard_of : guest.heard_of ≡ false
+  pub opening : guest.opening_untold ≡ settings.tells_opened
   pub tag : guest.tag ≡ 0
 
 -- each identifier is some connection's
@@ -264,7 +269,8 @@ abbrev pub confirms : SppPacketModel → Bool
 confirms p = not (p.header.target_id == 0)
 
 -- a peer, with this identifier, opened this connection at an address of ours at this time, and nothing was said in it: it has the
--- identifier that came next of these, and its packets go out by this way; one may be to go out, the program was told nothing of it, and it has no tag
+-- identifier that came next of these, and its packets go out by this way; one may be to go out, the program was told nothing of it, nor is it
+-- to be told that it is open, and it has no tag
 pub record IsAnswering (settings : Settings) (ids : Ids) (own opener : Address) (id way now : ℕ) (programs : List Program) (guest : Guest)
     : Type 0 where
   pub next : IsNext ids guest.id
@@ -276,4 +282,5 @@ pub record IsAnswering (settings : Settings) (ids : Ids) (own opener : Address) 
   pub known_by : guest.opener ≡ Some (peer_at opener id own.socket)
   pub confirmed : guest.confirmed ≡ false
   pub heard_of : guest.heard_of ≡ false
+  pub opening : guest.opening_untold ≡ false
   pub tag : guest.tag ≡ 0

@@ -6,7 +6,7 @@ use Rattle.xns_agenda.specs.Turns.{HasNoTurn, IsFirst, with_turn}
 use Rattle.xns_agenda.specs.Waiting.{last_time, later}
 use Rattle.xns_host.specs.Events.{event_in}
 use Rattle.xns_host.specs.Hosting.{EachActs, facts_of, may_go}
-use Rattle.xns_host.specs.Went.{GuestActs, GuestGives, GuestTells}
+use Rattle.xns_host.specs.Went.{GuestActs, GuestGives, GuestReports}
 use Rattle.xns_host.specs.declared.event.Event.{Event}
 use Rattle.xns_host.specs.declared.guest.Guest.{Guest}
 use Rattle.xns_host.specs.declared.host_fault.HostFault.{HostFault}
@@ -61,7 +61,7 @@ event_passed p number = record p { agenda = record p.agenda { events = with_turn
 pub data AsksEvent (now number : ℕ) (p : Places) : Option Event → Places → Type 0 where
   quiet : (place : Option Guest) → slice_get p.guests number ≡ Some place → event_in number place ≡ None
       → AsksEvent now number p None (event_passed p number)
-  tells : (g h : Guest) (event : Event) → slice_get p.guests number ≡ Some (Some g) → event_in number (Some g) ≡ Some event → GuestTells now g h
+  tells : (g h : Guest) (event : Event) → slice_get p.guests number ≡ Some (Some g) → event_in number (Some g) ≡ Some event → GuestReports now g h
       → AsksEvent now number p (Some event) (became (event_passed p number) number h)
 
 -- as often as it had nothing to tell, the one whose turn it was was asked

@@ -1,5 +1,5 @@
 -- What a host is made with.
-use Rattle.std.specs.Prelude.{◌≡◌, ℕ, ◌≤◌, Bool, not, ◌&&◌, ◌==◌, nat_lt, nat_le, if◌then◌else◌, true, Option, Some, None, min, Result, Ok, Err}
+use Rattle.std.specs.Prelude.{◌≡◌, ℕ, ◌≤◌, Bool, not, ◌&&◌, ◌==◌, nat_lt, nat_le, if◌then◌else◌, true, false, Option, Some, None, min, Result, Ok, Err}
 use Rattle.xns_spp.specs.Ends.{IsCapacity, most_pending}
 use Rattle.xns_connection.specs.Step.{IsMade}
 use Rattle.xns_connection.specs.declared.connection.Connection.{Connection}
@@ -24,6 +24,7 @@ usual_settings = record {
   tries = 8;
   strays = 16;
   answers_echo = true;
+  tells_opened = false;
 }
 
 -- numbers of connections have 16 bits

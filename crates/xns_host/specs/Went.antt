@@ -8,6 +8,7 @@ use Rattle.xns_spp.specs.State.{State}
 use Rattle.xns_connection.specs.Deeds.{Deed, acted, heard, unserved}
 use Rattle.xns_connection.specs.Step.{GivesNext, Hands, Step, parts_of}
 use Rattle.xns_connection.specs.Story.{waiting_message}
+use Rattle.xns_host.specs.Events.{is_newly_open}
 use Rattle.xns_host.specs.declared.guest.Guest.{Guest}
 use Rattle.xns_host.specs.declared.host_fault.HostFault.{HostFault}
 use Rattle.xns_host.specs.declared.host_fault.HostFault.TheVariants.{NoMemory}
@@ -51,12 +52,25 @@ pub record GuestUnserved (now error : ℕ) (g h : Guest) : Type 0 where
 
 -- ---- what the program is told
 
+-- the program was told that the connection is open, and nothing else of it changed
+abbrev pub GuestAnnounced : (g h : Guest) → Type 0
+GuestAnnounced g h = h ≡ record g { opening_untold = false }
+
 -- the message that waits was handed, and the program was told of a call of the connection from then on; where none waits, the program was
--- told why the connection is closed
+-- told why the connection is closed. That it is open is not told any longer
 pub record GuestTells (now : ℕ) (g h : Guest) : Type 0 where
-  pub same : h ≡ record g { connection = h.connection; heard_of = is_some (waiting_message g.connection.conversation.side) || g.heard_of }
+  pub same : h ≡ record g {
+    connection = h.connection;
+    heard_of = is_some (waiting_message g.connection.conversation.side) || g.heard_of;
+    opening_untold = false;
+  }
   pub handed : waiting_message g.connection.conversation.side ≢ None → Hands now g.connection h.connection
   pub closed : waiting_message g.connection.conversation.side ≡ None → h.connection ≡ record g.connection { told = true }
+
+-- the first of all that there is to tell was told: that the connection is open, or the rest
+pub record GuestReports (now : ℕ) (g h : Guest) : Type 0 where
+  pub opened : is_newly_open g ≡ true → GuestAnnounced g h
+  pub later : is_newly_open g ≡ false → GuestTells now g h
 
 -- ---- what is due, and what goes out
 

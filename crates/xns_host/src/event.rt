@@ -10,10 +10,16 @@ use xns_connection::Why;
 /// What a host tells its program of the connection with this number. Those of one connection come in the order in which they came to be.
 #[derive(Debug, Drop)]
 pub enum Event {
+    /// The peer has confirmed a connection that the program opened: a packet with the identifiers of both came. Told once, before all else of
+    /// the connection, where [`Settings::tells_opened`](crate::Settings::tells_opened) says so.
+    Opened {
+        number: usize,
+        /// The program's own number of the connection, by [`Host::set_tag`](crate::Host::set_tag).
+        tag: u64,
+    },
     /// The peer calls: the program and version are listed at the socket. The next call comes when this one is answered.
     Call {
         number: usize,
-        /// The program's own number of the connection, by [`Host::set_tag`](crate::Host::set_tag).
         tag: u64,
         program: u32,
         version: u16,

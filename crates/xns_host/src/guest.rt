@@ -2,7 +2,7 @@
 
 ghost use Rattle.std.specs.Prelude.{◌≡◌, ◌≢◌, ◌<◌, ℕ, List, OnErr, OnOk, Ok, None, Some};
 ghost use Rattle.xns_agenda.specs.Waiting.{IsDueAfter, last_time};
-ghost use Rattle.xns_host.specs.Events.{event_for};
+ghost use Rattle.xns_host.specs.Events.{event_for, is_newly_open};
 ghost use Rattle.xns_host.specs.Hosting.{IsNotDone, facts_of, lingers_since, may_go, stranger_since};
 ghost use Rattle.xns_spp.specs.Ends.{is_ours_at};
 ghost use Rattle.xns_spp.specs.Held.{StandsFor};
@@ -14,7 +14,7 @@ ghost use Rattle.xns_host.specs.Quotes.{is_sent_by};
 ghost use Rattle.xns_connection.specs.Reasons.{call_fault_of, answer_fault_of};
 ghost use Rattle.xns_host.specs.Refusing.{TellsRefusal};
 ghost use Rattle.xns_connection.specs.Telling.{Goes};
-ghost use Rattle.xns_host.specs.Went.{GuestActs, GuestGives, GuestHears, GuestStep, GuestTagged, GuestTells, GuestUnserved};
+ghost use Rattle.xns_host.specs.Went.{GuestActs, GuestGives, GuestHears, GuestReports, GuestStep, GuestTagged, GuestUnserved};
 
 use crate::event::{Event, event_of};
 use crate::host_fault::{HostFault, told};
@@ -44,6 +44,8 @@ pub struct Guest {
     pub confirmed: bool,
     /// Whether the program was told of a call of it.
     pub heard_of: bool,
+    /// Whether it is still to be told that the connection is open, once that is confirmed: nothing of it was told yet.
+    pub opening_untold: bool,
     /// The program's own number of it, which its events have. 0: none was set.
     pub tag: u64,
 }
@@ -116,17 +118,34 @@ impl Guest {
         self.connection.act(now);
     }
 
+    /// Whether it is to be told that the connection is open.
+    #[inline(always)]
+    fn is_newly_open(&self) -> bool
+        ensures { result ≡ is_newly_open self.now }
+    {
+        self.opening_untold && self.confirmed
+    }
+
     /// What the program is told of the connection, which has this number, once. `None`: nothing.
     pub fn tell(&mut self, alloc: Global, now: u64, number: usize) -> Option<Event>
         ensures event { result ≡ event_for number self.old }
-        ensures tells { result ≢ None → GuestTells now self.old self.new }
+        ensures tells { result ≢ None → GuestReports now self.old self.new }
         ensures none { result ≡ None → self.new ≡ self.old }
     {
+        if self.is_newly_open() {
+            self.opening_untold = false;
+            return Some(Event::Opened {
+                number,
+                tag: self.tag,
+            });
+        }
         if let Some(message) = self.connection.take_message(alloc, now) {
             self.heard_of = true;
+            self.opening_untold = false;
             return Some(event_of(number, self.tag, message));
         }
         let why = self.connection.take_why()?;
+        self.opening_untold = false;
         Some(Event::Closed {
             number,
             tag: self.tag,
@@ -207,7 +226,7 @@ impl Guest {
         Facts {
             due: self.connection.due().time(),
             has_packet: self.connection.has_packet(),
-            has_event: self.connection.has_event(),
+            has_event: self.is_newly_open() || self.connection.has_event(),
             lingers_since: self.lingers_since(),
             stranger_since: self.stranger_since(),
         }

@@ -193,6 +193,7 @@ impl Host {
             opener: None,
             confirmed: false,
             heard_of: false,
+            opening_untold: self.settings.tells_opened,
             tag: 0,
         };
         put_in(

@@ -33,6 +33,8 @@ pub struct Settings {
     pub strays: usize,
     /// Whether Echo requests are answered: of the programs at one station one should.
     pub answers_echo: bool,
+    /// Whether the program is told, by an [`Event::Opened`](crate::Event::Opened), when the peer of a connection that it opened is there.
+    pub tells_opened: bool,
 }
 
 impl Default for Settings {
@@ -49,6 +51,7 @@ impl Default for Settings {
             tries: 8,
             strays: 16,
             answers_echo: true,
+            tells_opened: false,
         }
     }
 }

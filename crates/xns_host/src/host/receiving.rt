@@ -342,6 +342,7 @@ impl Host {
             opener: Some(opener),
             confirmed: false,
             heard_of: false,
+            opening_untold: false,
             tag: 0,
         };
         put_in(

@@ -67,6 +67,7 @@ returns-clause-connects c = record {
       opener = None;
       confirmed = false;
       heard_of = false;
+      opening_untold = c.args.self.now.settings.tells_opened;
       tag = 0;
     };
     there = taken_there c.args.self.now.guests.items c.put_in.new.guests.items c.args.self.now.agenda c.put_in.new.agenda c.in-Some-place.number _ c.put_in.ensures.places (omega (arith, c.in-Some-place.ensures.within, c.args.self.now.sized));
@@ -83,6 +84,7 @@ returns-clause-connects c = record {
     opener = refl;
     confirmed = refl;
     heard_of = refl;
+    opening = refl;
     tag = refl;
   };
   place = gets_place c.args.self.now.agenda c.args.self.now.guests.items c.args.self.now.noted c.place.ensures.room c.args.self.now.sized

@@ -81,6 +81,7 @@ returns-clause-opened c = λ n made.
         opener = Some c.args.opener;
         confirmed = false;
         heard_of = false;
+        opening_untold = false;
         tag = 0;
       };
       place = gets_place c.args.self.now.agenda c.args.self.now.guests.items c.args.self.now.noted c.place.ensures.room c.args.self.now.sized
@@ -99,6 +100,7 @@ returns-clause-opened c = λ n made.
         known_by = ap Some c.requires.opener;
         confirmed = refl;
         heard_of = refl;
+        opening = refl;
         tag = refl;
       };
       there = taken_there c.args.self.now.guests.items c.put_in.new.guests.items c.args.self.now.agenda c.put_in.new.agenda c.in-Some.number _ c.put_in.ensures.places (omega (arith, c.in-Some.ensures.within, c.args.self.now.sized));
