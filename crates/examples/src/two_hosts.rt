@@ -75,7 +75,7 @@ fn answer(rt: &HostRuntime, now: u64, service: &mut Host) -> Result<(), anyhow::
             let words = message.words(rt.alloc())?;
             service.answer(now, number, Answer::Return, words.as_slice())?;
         }
-        Event::Answer { .. } => {}
+        Event::Opened { .. } | Event::Answer { .. } => {}
         Event::Closed { why, .. } => println!(rt; "the service: closed, {why:?}")?,
     }
     Ok(())
@@ -87,7 +87,7 @@ fn hear(rt: &HostRuntime, now: u64, client: &mut Host) -> Result<(), anyhow::Err
         return Ok(());
     };
     match event {
-        Event::Call { .. } => {}
+        Event::Opened { .. } | Event::Call { .. } => {}
         Event::Answer {
             number,
             message,

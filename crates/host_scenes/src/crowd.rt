@@ -113,6 +113,7 @@ impl Crowd {
                 message,
                 ..
             } => self.take_answer(*number, message),
+            Event::Opened { .. } => Ok(()),
             Event::Closed { why, .. } => {
                 self.outcome.closed(*why);
                 Ok(())

@@ -174,6 +174,7 @@ impl Player {
                 ..
             } => self.hear_call(now, *number, message),
             Event::Answer { message, .. } => self.hear_answer(now, message),
+            Event::Opened { .. } => Ok(()),
             Event::Closed { why, .. } => {
                 self.outcome.closed(*why);
                 Ok(())

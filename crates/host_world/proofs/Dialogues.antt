@@ -9,9 +9,9 @@ use Rattle.courier_sessions.specs.Answering.{answer_message, transaction_in}
 use Rattle.courier_sessions.specs.declared.answer.Answer.{Answer}
 use Rattle.courier_sessions.specs.declared.answer.Answer.TheVariants as kinds
 use Rattle.xns_connection.specs.declared.why.Why.{Why}
-use Rattle.host_world.specs.Dialogue.{Dialogue, new_dialogue, View, free, held, IsEven, IsOpen, MayGo, Happening, tells, opens, closes, goes}
-use Rattle.host_world.specs.Dialogue.{Move, connecting, opening, calling, handing_answer, handing_call, answering, asking, closing, telling, freeing, abandoning, Course}
-use Rattle.host_world.specs.Dialogue.{IsInOrder, IsOpening, is_news, is_going, Happened, WasTold, IsUnheard}
+use Rattle.host_world.specs.Dialogue.{Dialogue, new_dialogue, View, free, held, IsEven, IsOpen, IsUntold, MayGo, Happening, announces, connects, tells, opens, closes, goes}
+use Rattle.host_world.specs.Dialogue.{Move, connecting, opening, announcing, calling, handing_answer, handing_call, answering, asking, closing, telling, freeing, abandoning, Course}
+use Rattle.host_world.specs.Dialogue.{IsInOrder, IsOpening, is_news, is_going, Happened, WasTold, IsUnheard, IsNewlyConnected}
 
 -- ---- lists
 
@@ -98,6 +98,7 @@ one_answer_more d call m unanswered number h =
 stays_in_order : {v w : View} {x : Happening} → Move v x w → InOrder v → InOrder w
 stays_in_order connecting h = new_in_order true
 stays_in_order opening h = new_in_order false
+stays_in_order (announcing d untold) h = record { each = h.each; few = h.few; most = h.most }
 stays_in_order (calling d c ours even unasked unanswered) h = one_call_more d (call_message (transaction_of (length d.calls + 1)) c) even h
 stays_in_order (handing_answer d call m ours unanswered number untold) h = one_answer_more d call m unanswered number h
 stays_in_order (handing_call d m theirs even untold) h = one_call_more d m even h
@@ -158,6 +159,7 @@ closed_by : (why : Why) {v : View} {x : Happening} {d : Dialogue} → Move v x (
     → (x ≡ closes why) ⊎ ((e : Dialogue) × (v ≡ held e) × (e.closed ≡ Some why) × (is_going x ≡ false))
 closed_by why connecting q = absurd (cc)
 closed_by why opening q = absurd (cc)
+closed_by why (announcing d untold) q = inr (d, refl, q, refl)
 closed_by why (calling d c ours even unasked unanswered) q = inr (d, refl, q, refl)
 closed_by why (handing_answer d call m ours unanswered number untold) q = inr (d, refl, q, refl)
 closed_by why (handing_call d m theirs even untold) q = inr (d, refl, q, refl)
@@ -170,6 +172,7 @@ told_by : {v : View} {x : Happening} {d : Dialogue} → Move v x (held d) → d.
     → ((why : Why) × (x ≡ tells why)) ⊎ ((e : Dialogue) × (v ≡ held e) × (e.told ≡ true) × (is_going x ≡ false))
 told_by connecting q = absurd (cc)
 told_by opening q = absurd (cc)
+told_by (announcing d untold) q = inr (d, refl, q, refl)
 told_by (calling d c ours even unasked unanswered) q = inr (d, refl, q, refl)
 told_by (handing_answer d call m ours unanswered number untold) q = inr (d, refl, q, refl)
 told_by (handing_call d m theirs even untold) q = inr (d, refl, q, refl)
@@ -182,6 +185,7 @@ opened_by : {v : View} {x : Happening} {d : Dialogue} → Move v x (held d) → 
     → (x ≡ opens) ⊎ ((e : Dialogue) × (v ≡ held e) × ((e.ours ≡ false) × (e.calls ≡ []) × (e.closed ≡ None)) × ((is_news x || is_going x) ≡ false))
 opened_by connecting q = let theirs = q.0 in absurd (cc)
 opened_by opening q = inl refl
+opened_by (announcing d untold) q = let theirs = q.0 in let ours = untold.0 in absurd (cc)
 opened_by (calling d c ours even unasked unanswered) q = inr (d, refl, absurd (not_empty d.calls (call_message (transaction_of (length d.calls + 1)) c) q.1), refl)
 opened_by (handing_answer d call m ours unanswered number untold) q = let theirs = q.0 in absurd (cc)
 opened_by (handing_call d m theirs even untold) q = absurd (not_empty d.calls m q.1)
@@ -190,7 +194,23 @@ opened_by (asking d) q = inr (d, refl, q, refl)
 opened_by (closing d other unanswered) q = let none = q.2 in absurd (cc)
 opened_by (telling d why is untold) q = let unanswered = q.2 in absurd (cc)
 
+connected_by : {v : View} {x : Happening} {d : Dialogue} → Move v x (held d) → IsUntold d
+    → (x ≡ connects) ⊎ ((e : Dialogue) × (v ≡ held e) × IsUntold e × ((is_news x || is_going x) ≡ false))
+connected_by connecting q = inl refl
+connected_by opening q = let ours = q.0 in absurd (cc)
+connected_by (announcing d untold) q = let unopened = q.1 in absurd (cc)
+connected_by (calling d c ours even unasked unanswered) q = inr (d, refl, q, refl)
+connected_by (handing_answer d call m ours unanswered number untold) q = absurd (not_empty d.answers m q.2)
+connected_by (handing_call d m theirs even untold) q = let ours = q.0 in absurd (cc)
+connected_by (answering d call kind words theirs unanswered unclosed) q = let ours = q.0 in absurd (cc)
+connected_by (asking d) q = inr (d, refl, q, refl)
+connected_by (closing d why unanswered) q = inr (d, refl, q, refl)
+connected_by (telling d why is untold) q = let unheard = q.3 in absurd (cc)
+
 -- ---- what the last step says
+
+is_announcing : {v w : View} → Move v announces w → (d : Dialogue) × (v ≡ held d) × IsUntold d
+is_announcing (announcing d untold) = (d, refl, untold)
 
 is_telling : {v w : View} {why : Why} → Move v (tells why) w → (d : Dialogue) × (v ≡ held d) × (d.closed ≡ Some why) × (w ≡ held (record d { told = true }))
 is_telling (telling d why is untold) = (d, refl, is, refl)
@@ -218,9 +238,17 @@ gone xs ys v p = by (is_freeing s.step) where
         inr (subst (λ (y : Happening). Happened y (λ z. is_news z || is_going z) xs) c.1 c.2))
   ]
 
+pub newly : (xs ys : List Happening) (v : View) → Course free (xs ++ announces ∷ ys) v → IsNewlyConnected xs
+newly xs ys v p =
+    let s = at free xs announces ys v p in
+    let t = is_announcing s.step in
+    let c = came_to_be IsUntold (λ y. is_news y || is_going y) (λ y. y ≡ connects) (λ v x d m q. connected_by m q) xs t.0 (subst (Course free xs) t.1 s.reaches) t.2 in
+    subst (λ (y : Happening). Happened y (λ z. is_news z || is_going z) xs) c.1 c.2
+
 -- ---- nothing is told behind the close
 
 told_on : {d : Dialogue} {x : Happening} {w : View} → Move (held d) x w → d.told ≡ true → (is_going x ≡ true) ⊎ ((e : Dialogue) × (w ≡ held e) × (e.told ≡ true))
+told_on (announcing d untold) t = let untold_yet = untold.3 in absurd (cc)
 told_on (calling d c ours even unasked unanswered) t = inr (record d { calls = d.calls ++ call_message (transaction_of (length d.calls + 1)) c ∷ [] }, refl, t)
 told_on (handing_answer d call m ours unanswered number untold) t = absurd (cc)
 told_on (handing_call d m theirs even untold) t = absurd (cc)
@@ -232,6 +260,7 @@ told_on (freeing d may) t = inl refl
 told_on (abandoning d) t = inl refl
 
 no_news : {d : Dialogue} {x : Happening} {w : View} → Move (held d) x w → d.told ≡ true → is_news x ≡ true → ⊥
+no_news (announcing d untold) t n = let untold_yet = untold.3 in cc
 no_news (calling d c ours even unasked unanswered) t n = cc
 no_news (handing_answer d call m ours unanswered number untold) t n = cc
 no_news (handing_call d m theirs even untold) t n = cc
@@ -285,6 +314,7 @@ freed (freeing d may) e = refl
 freed (abandoning d) e = refl
 freed connecting e = absurd (cc)
 freed opening e = absurd (cc)
+freed (announcing d untold) e = absurd (cc)
 freed (calling d c ours even unasked unanswered) e = absurd (cc)
 freed (handing_answer d call m ours unanswered number untold) e = absurd (cc)
 freed (handing_call d m theirs even untold) e = absurd (cc)

@@ -12,7 +12,7 @@ use Rattle.xns_spp.specs.Packet.{SppPacketModel}
 use Rattle.xns_host.specs.Coming.{Arrives, Comes, Opens}
 use Rattle.xns_host.specs.Coming as coming
 use Rattle.xns_connection.specs.Deeds as deeds
-use Rattle.xns_host.specs.Events.{event_by, event_of}
+use Rattle.xns_host.specs.Events.{event_by, event_in, event_of, is_newly_open}
 use Rattle.xns_host.specs.Hosting.{IsPlace, confirms, free_place, of_closed, of_stranger, may_go, tells as has_news}
 use Rattle.xns_connection.specs.Living.{Deeds}
 use Rattle.xns_host.specs.Places.{Acts, ActsAt, AsksEvent, AsksInVain, GivesNone, NextEvent, NextPacket, Places, Turns, became, event_passed, packet_passed, seated, taken_by, vacated, vacated_if}
@@ -20,7 +20,7 @@ use Rattle.xns_host.specs.Places as places
 use Rattle.xns_connection.specs.Step.{AStepKeepsItsPromises}
 use Rattle.xns_connection.specs.Story.{asked_of, waiting_message}
 use Rattle.xns_host.specs.Turn.{Abandons, ConnectsTo, GivesOut, TakesIn, Turn, places_of, whole_of}
-use Rattle.xns_host.specs.Went.{GuestGives, GuestHears, GuestStep, GuestTagged, GuestTells, GuestUnserved, Went}
+use Rattle.xns_host.specs.Went.{GuestGives, GuestHears, GuestStep, GuestReports, GuestTagged, GuestTells, GuestUnserved, Went}
 use Rattle.xns_host.specs.Whole.{Whole}
 use Rattle.xns_host.specs.declared.event.Event.{Event}
 use Rattle.xns_host.specs.declared.guest.Guest.{Guest}
@@ -38,9 +38,9 @@ use Rattle.host_world.specs.Guests.{LeadsOn, packets_in}
 use Rattle.host_world.specs.Meeting.{Meeting}
 use Rattle.host_world.specs.Pairing.{no_more, one_message_more}
 use Rattle.host_world.specs.Seen.{number_of}
-use Rattle.host_world.proofs.Guests.{answers, calls, closes, gives, hands, hears_it, not_served, tells}
+use Rattle.host_world.proofs.Guests.{announced, answers, calls, closes, gives, hands, hears_it, not_served, tells}
 use Rattle.host_world.proofs.Numbers.{at_place, beside, may_be_told, same_or_other, since_stranger, since_told}
-use Rattle.host_world.proofs.Shown.{event_number, why_by}
+use Rattle.host_world.proofs.Shown.{event_number, later_is, newly_event, why_by}
 use Rattle.host_world.proofs.Following.{Led, led, left, Goes, Still, at_once, same_goes, still, still_then, then_does, EachStill, each_then, still_if, turns_still, all_act, no_packet, gives_none, in_vain, follows, followed, did_same, did_other, one_guest, not_equal}
 
 -- ---- at one number, and at the others
@@ -102,6 +102,13 @@ event_goes law now number g h event None t is e =
     let w = why_by number g.tag g.connection.told g.connection.closed event e in
     subst (λ (x : Event). LeadsOn g h (deed_of x) []) w.3 (tells now g h t is)
 
+report_goes : (law : AStepKeepsItsPromises) (now number : ℕ) (g h : Guest) (event : Event) → GuestReports now g h → event_in number (Some g) ≡ Some event
+    → LeadsOn g h (deed_of event) []
+report_goes law now number g h event t e = by (is_newly_open g) refl where
+  by : (newly : Bool) → is_newly_open g ≡ newly → LeadsOn g h (deed_of event) []
+  by true is = subst (λ (x : Event). LeadsOn g h (deed_of x) []) (newly_event number g event is e) (announced g h (t.opened is))
+  by false is = event_goes law now number g h event (waiting_message g.connection.conversation.side) (t.later is) refl (later_is number g event is e)
+
 became_goes : (p : Places) (number : ℕ) (g h : Guest) (did : Deeds → Deeds) → slice_get p.guests number ≡ Some (Some g) → LeadsOn g h did [] → Goes did [] g (slice_get (became p number h).guests number)
 became_goes p number g h did was on a b programs m side meets here = by (may_go h.connection) refl where
   there : slice_get (seated p number h).guests number ≡ Some (Some h)
@@ -127,7 +134,7 @@ told_at law now number p q event s (places.tells g h e was is t) =
       λ k other. still_then (slice_get p.guests k) (slice_get q.guests k) (slice_get r.guests k) (s k)
           (subst (Still (slice_get q.guests k)) (sym (became_beside (event_passed q number) number k h other)) (still (slice_get q.guests k))),
       λ f at_it a b programs m side meets here z. follows (then_does (slice_get p.guests number) (slice_get q.guests number) (slice_get r.guests number) g (deed_of event) [] (s number) was
-          (became_goes (event_passed q number) number g h (deed_of event) was (event_goes law now number g h event (waiting_message g.connection.conversation.side) t refl is)) f at_it a b programs m side meets here),
+          (became_goes (event_passed q number) number g h (deed_of event) was (report_goes law now number g h event t is)) f at_it a b programs m side meets here),
     )
 
 events_followed : (law : AStepKeepsItsPromises) (now : ℕ) (h j : Host) (event : Event) (p r : Places) → p.guests ≡ h.guests.items → r.guests ≡ j.guests.items → NextEvent now p (Some event) r

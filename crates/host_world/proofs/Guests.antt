@@ -20,7 +20,7 @@ use Rattle.xns_connection.specs.Living.{Deeds}
 use Rattle.xns_connection.specs.Step.{AStepKeepsItsPromises, Hands, MovesOwed, calmly, moving_on, none_waits, parts_of}
 use Rattle.xns_connection.specs.Story.{GoesOn as StoryGoesOn, Story, asked_of, start, waiting_message, with_handed}
 use Rattle.xns_connection.specs.Telling.{Gives, Hears, Tells}
-use Rattle.xns_host.specs.Went.{GuestActs, GuestGives, GuestHears, GuestStep, GuestTells, GuestUnserved, given_by, hears, lost}
+use Rattle.xns_host.specs.Went.{GuestActs, GuestAnnounced, GuestGives, GuestHears, GuestStep, GuestTells, GuestUnserved, given_by, hears, lost}
 use Rattle.xns_connection.specs.declared.connection.Connection.{Connection}
 use Rattle.xns_connection.specs.declared.conversation.Conversation.{Conversation}
 use Rattle.xns_host.specs.declared.guest.Guest.{Guest}
@@ -110,6 +110,12 @@ hands now m g h law t is a b programs x side meets here =
 pub tells : (now : ℕ) (g h : Guest) → GuestTells now g h → waiting_message g.connection.conversation.side ≡ None → LeadsOn g h no_more []
 tells now g h t is a b programs m side meets here =
     let same : h.connection.conversation ≡ g.connection.conversation = ap (λ (k : Connection). k.conversation) (t.closed is) in
+    leads h (acts_so g.connection.conversation h.connection.conversation (λ k. k) no_more (ap (λ (k : Conversation). k.packets) same) (λ k l. idling)
+    (λ k told_it. (k, subst (λ (c : Conversation). Tells c k) (sym same) told_it, stays k)) a b programs m side meets here)
+
+pub announced : (g h : Guest) → GuestAnnounced g h → LeadsOn g h no_more []
+announced g h is a b programs m side meets here =
+    let same : h.connection.conversation ≡ g.connection.conversation = ap (λ (k : Guest). k.connection.conversation) is in
     leads h (acts_so g.connection.conversation h.connection.conversation (λ k. k) no_more (ap (λ (k : Conversation). k.packets) same) (λ k l. idling)
     (λ k told_it. (k, subst (λ (c : Conversation). Tells c k) (sym same) told_it, stays k)) a b programs m side meets here)
 

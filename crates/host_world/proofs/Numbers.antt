@@ -255,6 +255,7 @@ connected_shows c = record {
   told = c.made.made.untold;
   over = λ z. absurd (cc);
   unheard = λ z y. refl;
+  newly = λ z. (refl, refl, refl, refl);
 }
 
 pub opened_shows : {settings : Settings} {ids : Ids} {own opener : Address} {id way now : ℕ} {programs : List Program} (g : Guest)
@@ -269,6 +270,7 @@ opened_shows {programs = programs} g c = record {
   told = c.made.made.untold;
   over = λ z. absurd (cc);
   unheard = λ z y. refl;
+  newly = λ z. let off = c.opening in absurd (cc);
 }
 
 -- ---- its place

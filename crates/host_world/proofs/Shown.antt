@@ -1,6 +1,6 @@
 -- What a program sees of one connection, and by which steps what is done at it changes that.
 use Rattle.std.proofs.Common.{◌≡◌, ◌≢◌, ◌∙◌, ap, refl, sym, subst, ℕ, ◌+◌, Bool, true, false, List, [], ◌∷◌, ◌++◌, length, Option, Some, None, Result}
-use Rattle.std.specs.Prelude.{cond, ◌||◌, if◌then◌else◌}
+use Rattle.std.specs.Prelude.{cond, ◌&&◌, ◌||◌, if◌then◌else◌}
 use Rattle.std.specs.List.{filter}
 use Rattle.std.specs.Option.{is_some, is_none}
 use Rattle.courier_messages.specs.RawCalls.{RawCall, call_message, transaction_of}
@@ -13,11 +13,11 @@ use Rattle.xns_spp.specs.State.{State}
 use Rattle.xns_connection.specs.Closing.{drains}
 use Rattle.xns_connection.specs.Deeds as deeds
 use Rattle.xns_connection.specs.Deeds.{side_answered, side_called, side_taken}
-use Rattle.xns_host.specs.Events.{event_by, event_in, event_of}
+use Rattle.xns_host.specs.Events.{event_by, event_in, event_of, is_newly_open, later_event}
 use Rattle.xns_connection.specs.Refusing.{side_answer_fault, side_call_fault}
 use Rattle.xns_connection.specs.Step.{Hands, calmly, moving_on, none_waits}
 use Rattle.xns_connection.specs.Story.{waiting_message}
-use Rattle.xns_host.specs.Went.{GuestActs, GuestGives, GuestHears, GuestStep, GuestTagged, GuestTells, GuestUnserved, hears, lost}
+use Rattle.xns_host.specs.Went.{GuestActs, GuestAnnounced, GuestGives, GuestHears, GuestReports, GuestStep, GuestTagged, GuestTells, GuestUnserved, hears, lost}
 use Rattle.xns_connection.specs.declared.connection.Connection.{Connection}
 use Rattle.xns_host.specs.declared.event.Event.{Event}
 use Rattle.xns_host.specs.declared.event.Event.TheVariants as events
@@ -27,8 +27,8 @@ use Rattle.xns_connection.specs.declared.refusal.Refusal.TheVariants.{Closing}
 use Rattle.xns_host.specs.declared.host_fault.HostFault.{HostFault}
 use Rattle.xns_host.specs.declared.outgoing.Outgoing.{Outgoing}
 use Rattle.xns_connection.specs.declared.why.Why.{Why}
-use Rattle.host_world.specs.Dialogue.{Dialogue, View, free, held, Happening, calls, answers, asks, hands, tells, closes}
-use Rattle.host_world.specs.Dialogue.{Move, calling, handing_answer, handing_call, answering, asking, closing, telling, Course, is_said}
+use Rattle.host_world.specs.Dialogue.{Dialogue, IsUntold, View, free, held, Happening, announces, calls, answers, asks, hands, tells, closes}
+use Rattle.host_world.specs.Dialogue.{Move, announcing, calling, handing_answer, handing_call, answering, asking, closing, telling, Course, is_said}
 use Rattle.host_world.specs.Seen.{news_of, number_of}
 use Rattle.host_world.proofs.Deeds.{makes, gives, answer_handed, call_handed}
 use Rattle.host_world.proofs.Sides.{Has}
@@ -47,6 +47,7 @@ pub record Shows (d : Dialogue) (g : Guest) : Type 0 where
   -- once the program was told that it is closed, it is, and nothing waits for the program
   pub over : d.told ≡ true → (is_some d.closed ≡ true) × (waiting_message g.connection.conversation.side ≡ None)
   pub unheard : g.heard_of ≡ false → d.ours ≡ false → d.calls ≡ []
+  pub newly : g.opening_untold ≡ true → IsUntold d
 
 -- what a view shows of a place: nobody, or a connection
 abbrev pub ShowsIn : View → Option (Option Guest) → Type 0
@@ -106,6 +107,7 @@ pub record Nearly (d : Dialogue) (g : Guest) : Type 0 where
   pub told : g.connection.told ≡ d.told
   pub over : d.told ≡ true → (is_some d.closed ≡ true) × (waiting_message g.connection.conversation.side ≡ None)
   pub unheard : g.heard_of ≡ false → d.ours ≡ false → d.calls ≡ []
+  pub newly : g.opening_untold ≡ true → IsUntold d
 
 shown_so : (d : Dialogue) (g : Guest) → Nearly d g → g.connection.closed ≡ d.closed → Shows d g
 shown_so d g n same = record {
@@ -118,6 +120,7 @@ shown_so d g n same = record {
   told = n.told;
   over = n.over;
   unheard = n.unheard;
+  newly = n.newly;
 }
 
 settled_by : (d : Dialogue) (g : Guest) → Nearly d g → (o p : Option Why) → d.closed ≡ o → g.connection.closed ≡ p → Passes [] (held d) (Some (Some g))
@@ -135,6 +138,7 @@ settled_by d g n None (Some why) was is =
       told = n.told;
       over = λ t. (refl, (n.over t).1);
       unheard = n.unheard;
+      newly = n.newly;
     }))
 
 pub settled : (d : Dialogue) (g : Guest) → Nearly d g → Passes [] (held d) (Some (Some g))
@@ -147,9 +151,9 @@ some_not None e z = absurd (cc)
 some_not (Some x) e z = absurd (cc)
 
 -- a connection changed by itself, and whether closing was asked for was noted
-nearly_by : (d : Dialogue) (g h : Guest) (asked wanted : Bool) → Shows d g → h.opener ≡ g.opener → h.heard_of ≡ g.heard_of
+nearly_by : (d : Dialogue) (g h : Guest) (asked wanted : Bool) → Shows d g → h.opener ≡ g.opener → h.heard_of ≡ g.heard_of → h.opening_untold ≡ g.opening_untold
     → Changes g.connection.conversation.side wanted g.connection h.connection → (asked ≡ true → wanted ≡ true) → Nearly (record d { asked = asked }) h
-nearly_by d g h asked wanted s opener heard c noted = record {
+nearly_by d g h asked wanted s opener heard opening c noted = record {
   state = c.state;
   stands = c.stands;
   side = c.keeps d.ours d.calls d.answers s.side;
@@ -162,11 +166,12 @@ nearly_by d g h asked wanted s opener heard c noted = record {
       let reads_no_more = g.connection.deaf (λ none. some_not d.closed o.0 (sym s.closed ∙ none)) in
       (o.0, ap waiting_message (c.drained reads_no_more) ∙ o.1);
   unheard = λ z. s.unheard (sym heard ∙ z);
+  newly = λ z. s.newly (sym opening ∙ z);
 }
 
-pub by_itself : (d : Dialogue) (g h : Guest) → Shows d g → h.opener ≡ g.opener → h.heard_of ≡ g.heard_of
+pub by_itself : (d : Dialogue) (g h : Guest) → Shows d g → h.opener ≡ g.opener → h.heard_of ≡ g.heard_of → h.opening_untold ≡ g.opening_untold
     → Changes g.connection.conversation.side g.connection.conversation.closing.wanted g.connection h.connection → Passes [] (held d) (Some (Some h))
-by_itself d g h s opener heard c = settled d h (nearly_by d g h d.asked g.connection.conversation.closing.wanted s opener heard c s.asked)
+by_itself d g h s opener heard opening c = settled d h (nearly_by d g h d.asked g.connection.conversation.closing.wanted s opener heard opening c s.asked)
 
 -- ---- the program closes a connection
 
@@ -175,7 +180,7 @@ after_close now d g h s step =
     let e : Dialogue = record d { asked = true } in
     let c = steps now deeds.asked g.connection h.connection s.state g.connection.conversation.side true s.stands step.step refl refl refl in
     first_said (held d) (held e) asks [] (Some (Some h)) (asking d) refl
-    (settled e h (nearly_by d g h true true s (ap (λ (k : Guest). k.opener) step.same) (ap (λ (k : Guest). k.heard_of) step.same) c (λ z. refl)))
+    (settled e h (nearly_by d g h true true s (ap (λ (k : Guest). k.opener) step.same) (ap (λ (k : Guest). k.heard_of) step.same) (ap (λ (k : Guest). k.opening_untold) step.same) c (λ z. refl)))
 
 -- ---- the program makes a call, or answers one
 
@@ -218,6 +223,7 @@ after_call now d g h c s step =
       told = ch.told ∙ s.told;
       over = λ z. absurd (untold d g s none z);
       unheard = λ z theirs. let our = k.is_ours in absurd (cc);
+      newly = λ z. s.newly (sym (ap (λ (x : Guest). x.opening_untold) step.same) ∙ z);
     } in
     first_said (held d) (held e) (calls c) [] (Some (Some h))
     (calling d c k.is_ours k.even (not_true d.asked (λ z. let wanted = s.asked z in let unwanted = both.1 in cc)) none) refl (settled e h near)
@@ -241,6 +247,9 @@ after_answer now d g h kind words s step =
       told = ch.told ∙ s.told;
       over = λ z. absurd (untold d g s none z);
       unheard = λ z. s.unheard (sym (ap (λ (x : Guest). x.heard_of) step.same) ∙ z);
+      newly = λ z.
+          let ours : d.ours ≡ true = (s.newly (sym (ap (λ (x : Guest). x.opening_untold) step.same) ∙ z)).0 in
+          let theirs = k.is_theirs in absurd (cc);
     } in
     first_said (held d) (held e) (answers kind words) [] (Some (Some h)) (answering d k.call kind words k.is_theirs k.is_open_call none) refl (settled e h near)
 
@@ -248,22 +257,22 @@ after_answer now d g h kind words s step =
 
 pub hearing : (now : ℕ) (bytes : List ℕ) (confirming : Bool) (d : Dialogue) (g h : Guest) → Shows d g → GuestHears now bytes confirming g h → Passes [] (held d) (Some (Some h))
 hearing now bytes confirming d g h s (hears step) =
-    by_itself d g h s (ap (λ (k : Guest). k.opener) step.same) (ap (λ (k : Guest). k.heard_of) step.same)
+    by_itself d g h s (ap (λ (k : Guest). k.opener) step.same) (ap (λ (k : Guest). k.heard_of) step.same) (ap (λ (k : Guest). k.opening_untold) step.same)
     (steps now (deeds.heard bytes) g.connection h.connection s.state g.connection.conversation.side g.connection.conversation.closing.wanted s.stands step.step refl refl refl)
 hearing now bytes confirming d g h s (lost stores) = stays (held d) (Some (Some g)) s
 
 pub unserving : (now error : ℕ) (d : Dialogue) (g h : Guest) → Shows d g → GuestUnserved now error g h → Passes [] (held d) (Some (Some h))
 unserving now error d g h s u =
-    by_itself d g h s (ap (λ (k : Guest). k.opener) u.same) (ap (λ (k : Guest). k.heard_of) u.same)
+    by_itself d g h s (ap (λ (k : Guest). k.opener) u.same) (ap (λ (k : Guest). k.heard_of) u.same) (ap (λ (k : Guest). k.opening_untold) u.same)
     (not_served now error g.connection h.connection s.state s.stands u.parts)
 
 pub acting : (now : ℕ) (d : Dialogue) (g h : Guest) → Shows d g → GuestActs now g h → Passes [] (held d) (Some (Some h))
 acting now d g h s a =
-    by_itself d g h s (ap (λ (k : Guest). k.opener) a.same) (ap (λ (k : Guest). k.heard_of) a.same) (acts now g.connection h.connection s.state s.stands a.parts)
+    by_itself d g h s (ap (λ (k : Guest). k.opener) a.same) (ap (λ (k : Guest). k.heard_of) a.same) (ap (λ (k : Guest). k.opening_untold) a.same) (acts now g.connection h.connection s.state s.stands a.parts)
 
 pub giving_out : (now : ℕ) (result : Result (Option Outgoing) HostFault) (d : Dialogue) (g h : Guest) → Shows d g → GuestGives now result g h → Passes [] (held d) (Some (Some h))
 giving_out now result d g h s a =
-    by_itself d g h s (ap (λ (k : Guest). k.opener) a.same) (ap (λ (k : Guest). k.heard_of) a.same) (gives_packet now a.answer g.connection h.connection s.state s.stands a.gave)
+    by_itself d g h s (ap (λ (k : Guest). k.opener) a.same) (ap (λ (k : Guest). k.heard_of) a.same) (ap (λ (k : Guest). k.opening_untold) a.same) (gives_packet now a.answer g.connection h.connection s.state s.stands a.gave)
 
 -- ---- the program is told
 
@@ -299,6 +308,7 @@ after_hand now d g h m s t is = by d.ours refl where
     told = change.told ∙ (s.told ∙ sym told);
     over = λ z. absurd (some (s.over (sym told ∙ z)).1);
     unheard = λ z. absurd (cc);
+    newly = λ z. let told_something : h.opening_untold ≡ false = ap (λ (k : Guest). k.opening_untold) t.same in absurd (cc);
   }
 
   by : (b : Bool) → d.ours ≡ b → Passes (hands m ∷ []) (held d) (Some (Some h))
@@ -328,6 +338,7 @@ after_tell now d g h why s t none untold closed =
       told = ap (λ (k : Connection). k.told) is;
       over = λ z. (ap is_some (sym s.closed ∙ closed), ap (λ (k : Connection). waiting_message k.conversation.side) is ∙ none);
       unheard = λ z. s.unheard (let was = ap (λ (k : Guest). k.heard_of) t.same in let still = ap (λ (o : Option Message). is_some o || g.heard_of) none in sym still ∙ (sym was ∙ z));
+      newly = λ z. let told_something : h.opening_untold ≡ false = ap (λ (k : Guest). k.opening_untold) t.same in absurd (cc);
     }))
 
 number_there : (number tag : ℕ) (m : Message) → number_of (event_of number tag m) ≡ number
@@ -352,8 +363,46 @@ number_by : (number tag : ℕ) (told : Bool) (closed : Option Why) (o : Option M
 number_by number tag told closed (Some m) event e = let same : event_of number tag m ≡ event = cc in ap number_of (sym same) ∙ number_there number tag m
 number_by number tag told closed None event e = ap number_of (sym (why_by number tag told closed event e).3)
 
+-- where it is to be told that the connection is open, that is the event; else the event is what else there is to tell
+pub newly_event : (number : ℕ) (g : Guest) (event : Event) → is_newly_open g ≡ true → event_in number (Some g) ≡ Some event → events.Opened number g.tag ≡ event
+newly_event number g event is e =
+    let some : Some (events.Opened number g.tag) ≡ Some event
+    = ap (λ (b : Bool). if b then Some (events.Opened number g.tag) else later_event number g) (sym is) ∙ e in cc
+
+pub later_is : (number : ℕ) (g : Guest) (event : Event) → is_newly_open g ≡ false → event_in number (Some g) ≡ Some event → later_event number g ≡ Some event
+later_is number g event is e = ap (λ (b : Bool). if b then Some (events.Opened number g.tag) else later_event number g) (sym is) ∙ e
+
 pub event_number : (number : ℕ) (g : Guest) (event : Event) → event_in number (Some g) ≡ Some event → number_of event ≡ number
-event_number number g event e = number_by number g.tag g.connection.told g.connection.closed (waiting_message g.connection.conversation.side) event e
+event_number number g event e = by (is_newly_open g) refl where
+  by : (newly : Bool) → is_newly_open g ≡ newly → number_of event ≡ number
+  by true is = ap number_of (sym (newly_event number g event is e))
+  by false is =
+      number_by number g.tag g.connection.told g.connection.closed (waiting_message g.connection.conversation.side) event (later_is number g event is e)
+
+first_of : (a b : Bool) → (a && b) ≡ true → a ≡ true
+first_of true b e = refl
+first_of false b e = absurd (cc)
+
+after_opening : (d : Dialogue) (g h : Guest) → Shows d g → is_newly_open g ≡ true → GuestAnnounced g h → Passes (announces ∷ []) (held d) (Some (Some h))
+after_opening d g h s is announced =
+    first_said (held d) (held e) announces [] (Some (Some h)) (announcing d (s.newly (first_of g.opening_untold g.confirmed is))) refl
+    (stays (held e) (Some (Some h)) (subst (Shows e) (sym announced) shown)) where
+      e : Dialogue
+      e = record d { opened = true }
+
+      shown : Shows e (record g { opening_untold = false })
+      shown = record {
+        state = s.state;
+        stands = s.stands;
+        side = s.side;
+        ours = s.ours;
+        asked = s.asked;
+        closed = s.closed;
+        told = s.told;
+        over = s.over;
+        unheard = s.unheard;
+        newly = λ z. absurd (cc);
+      }
 
 tells_by : (now number : ℕ) (d : Dialogue) (g h : Guest) (event : Event) (o : Option Message) → Shows d g → GuestTells now g h → waiting_message g.connection.conversation.side ≡ o
     → event_by number g.tag o (if g.connection.told then None else g.connection.closed) ≡ Some event → Passes (news_of event ∷ []) (held d) (Some (Some h))
@@ -365,9 +414,14 @@ tells_by now number d g h event None s t is e =
     subst (λ (x : Event). Passes (news_of x ∷ []) (held d) (Some (Some h))) w.3 (after_tell now d g h w.0 s t is w.1 w.2)
 
 -- the program is told what the connection with this number has to tell
-pub tells_it : (now number : ℕ) (d : Dialogue) (g h : Guest) (event : Event) → Shows d g → GuestTells now g h → event_in number (Some g) ≡ Some event
+pub tells_it : (now number : ℕ) (d : Dialogue) (g h : Guest) (event : Event) → Shows d g → GuestReports now g h → event_in number (Some g) ≡ Some event
     → Passes (news_of event ∷ []) (held d) (Some (Some h))
-tells_it now number d g h event s t e = tells_by now number d g h event (waiting_message g.connection.conversation.side) s t refl e
+tells_it now number d g h event s t e = by (is_newly_open g) refl where
+  by : (newly : Bool) → is_newly_open g ≡ newly → Passes (news_of event ∷ []) (held d) (Some (Some h))
+  by true is =
+      subst (λ (x : Event). Passes (news_of x ∷ []) (held d) (Some (Some h))) (newly_event number g event is e) (after_opening d g h s is (t.opened is))
+  by false is =
+      tells_by now number d g h event (waiting_message g.connection.conversation.side) s (t.later is) refl (later_is number g event is e)
 
 -- ---- the program gives it a tag
 
@@ -384,4 +438,5 @@ tagging tag d g h s is = stays (held d) (Some (Some h)) (subst (Shows d) (sym is
     told = s.told;
     over = s.over;
     unheard = s.unheard;
+    newly = s.newly;
   }

@@ -7,10 +7,11 @@ use Rattle.courier_sessions.specs.Answering.{answer_message, transaction_in}
 use Rattle.courier_sessions.specs.declared.answer.Answer.{Answer}
 use Rattle.xns_connection.specs.declared.why.Why.{Why}
 
--- a connection: whether we opened it; its calls and their answers, in order; whether the program asked to close it; why it is closed, if it
--- is; and whether the program was told that
+-- a connection: whether we opened it; whether the program was told that it is open; its calls and their answers, in order; whether the program
+-- asked to close it; why it is closed, if it is; and whether the program was told that
 pub record Dialogue : Type 0 where
   pub ours : Bool
+  pub opened : Bool
   pub calls : List Message
   pub answers : List Message
   pub asked : Bool
@@ -18,7 +19,7 @@ pub record Dialogue : Type 0 where
   pub told : Bool
 
 abbrev pub new_dialogue : (ours : Bool) → Dialogue
-new_dialogue ours = record { ours = ours; calls = []; answers = []; asked = false; closed = None; told = false }
+new_dialogue ours = record { ours = ours; opened = false; calls = []; answers = []; asked = false; closed = None; told = false }
 
 -- a number is free, or a connection has it
 pub data View : Type 0 where
@@ -33,19 +34,25 @@ IsEven d = length d.calls ≡ length d.answers
 abbrev pub IsOpen : Dialogue → Message → Type 0
 IsOpen d call = slice_get d.calls (length d.answers) ≡ Some call
 
+-- we opened it, and the program was told nothing of it
+abbrev pub IsUntold : Dialogue → Type 0
+IsUntold d = (d.ours ≡ true) × (d.opened ≡ false) × (d.answers ≡ []) × (d.told ≡ false)
+
 -- the number may become free: the program was told that the connection is closed; or a peer opened it, it is not closed, and no call of it
 -- was handed
 abbrev pub MayGo : Dialogue → Type 0
 MayGo d = (d.told ≡ true) ⊎ ((d.ours ≡ false) × (d.calls ≡ []) × (d.closed ≡ None))
 
--- what happens at a number. The program connects, makes a call, gives an answer, asks to close, or abandons the connection. The host hands the
--- program a message, or tells it why the connection is closed. Unseen by the program a peer opens a connection, the connection is closed, the number becomes free.
+-- what happens at a number. The program connects, makes a call, gives an answer, asks to close, or abandons the connection. The host announces
+-- to the program that the connection is open, hands it a message, or tells it why the connection is closed. Unseen by the program a peer opens a
+-- connection, the connection is closed, the number becomes free.
 pub data Happening : Type 0 where
   connects : Happening
   calls : RawCall → Happening
   answers : Answer → List ℕ → Happening
   asks : Happening
   abandons : Happening
+  announces : Happening
   hands : Message → Happening
   tells : Why → Happening
   opens : Happening
@@ -56,6 +63,8 @@ pub data Happening : Type 0 where
 pub data Move : View → Happening → View → Type 0 where
   connecting : Move free connects (held (new_dialogue true))
   opening : Move free opens (held (new_dialogue false))
+  -- that a connection of ours is open the program is told before all else of it, or never
+  announcing : (d : Dialogue) → IsUntold d → Move (held d) announces (held (record d { opened = true }))
   -- a call of ours is made once all others are answered, and then its answer is handed; the calls are numbered from 1 on
   calling : (d : Dialogue) (c : RawCall) → d.ours ≡ true → IsEven d → d.asked ≡ false → d.closed ≡ None
       → Move (held d) (calls c) (held (record d { calls = d.calls ++ call_message (transaction_of (length d.calls + 1)) c ∷ [] }))
@@ -94,6 +103,7 @@ IsOpening x = (x ≡ connects) ⊎ (x ≡ opens)
 
 -- the program is handed or told something
 abbrev pub is_news : Happening → Bool
+is_news announces = true
 is_news (hands m) = true
 is_news (tells why) = true
 is_news x = false
@@ -125,3 +135,7 @@ WasTold xs = (why : Why) × Happened (tells why) is_going xs
 -- a peer opened it, and nothing of it was told
 abbrev pub IsUnheard : List Happening → Type 0
 IsUnheard xs = Happened opens (λ x. is_news x || is_going x) xs
+
+-- the program connected, and nothing of that connection was told
+abbrev pub IsNewlyConnected : List Happening → Type 0
+IsNewlyConnected xs = Happened connects (λ x. is_news x || is_going x) xs

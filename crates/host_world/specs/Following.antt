@@ -65,6 +65,7 @@ gave_none k = []
 
 -- what the program does by an event that it is told
 abbrev pub deed_of : Event → Deeds → Deeds
+deed_of (events.Opened number tag) = no_more
 deed_of (events.Call number tag program version procedure m) = one_message_more m
 deed_of (events.Answer number tag answer m) = one_message_more m
 deed_of (events.Closed number tag why) = no_more

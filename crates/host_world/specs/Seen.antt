@@ -17,7 +17,7 @@ use Rattle.xns_host.specs.declared.host.Host.{Host}
 use Rattle.xns_host.specs.declared.host_fault.HostFault.{HostFault}
 use Rattle.xns_host.specs.declared.outgoing.Outgoing.{Outgoing}
 use Rattle.xns_host.specs.declared.settings.Settings.{Settings}
-use Rattle.host_world.specs.Dialogue.{Course, Dialogue, Happening, View, abandons, answers, asks, calls, connects, free, hands, held, is_said, tells}
+use Rattle.host_world.specs.Dialogue.{Course, Dialogue, Happening, View, abandons, announces, answers, asks, calls, connects, free, hands, held, is_said, tells}
 
 -- ---- the calls of a host
 
@@ -29,11 +29,13 @@ pub data IsSaid : Deed → Happening → Type 0 where
 
 -- what it is told by an event, and of which number
 abbrev pub number_of : Event → ℕ
+number_of (events.Opened number tag) = number
 number_of (events.Call number tag program version procedure m) = number
 number_of (events.Answer number tag answer m) = number
 number_of (events.Closed number tag why) = number
 
 abbrev pub news_of : Event → Happening
+news_of (events.Opened number tag) = announces
 news_of (events.Call number tag program version procedure m) = hands m
 news_of (events.Answer number tag answer m) = hands m
 news_of (events.Closed number tag why) = tells why

@@ -10,8 +10,8 @@ ghost use Rattle.item_world.specs.Side.{other};
 ghost use Rattle.item_world.specs.World.{lifetime};
 ghost use Rattle.item_world.specs.declared.side.Side.{Side};
 ghost use Rattle.item_world.specs.declared.side.Side.TheVariants.{A, B};
-ghost use Rattle.host_world.specs.Dialogue.{Course, Dialogue, Happened, Happening, IsInOrder, IsOpening, IsUnheard, View, WasTold};
-ghost use Rattle.host_world.specs.Dialogue.{closes, free, goes, held, is_going, is_news, tells};
+ghost use Rattle.host_world.specs.Dialogue.{Course, Dialogue, Happened, Happening, IsInOrder, IsNewlyConnected, IsOpening, IsUnheard, View, WasTold};
+ghost use Rattle.host_world.specs.Dialogue.{announces, closes, free, goes, held, is_going, is_news, tells};
 ghost use Rattle.host_world.specs.Following.{EachFollowed, ProgramHasDone, HasGiven, HostsStandFor, IsFollowed, MayTake, StandsOn, gave_none};
 ghost use Rattle.host_world.specs.Going.{CanFinish};
 ghost use Rattle.host_world.specs.Guests.{LeadsOn, HearsOn, packets_in};
@@ -25,7 +25,7 @@ ghost use Rattle.xns_connection.specs.Deeds as deeds;
 ghost use Rattle.xns_connection.specs.Living.{Deeds};
 ghost use Rattle.xns_connection.specs.Story.{asked_of, waiting_message};
 ghost use Rattle.xns_host.specs.Turn.{Abandons, GivesOut, TakesIn};
-ghost use Rattle.xns_host.specs.Went.{GuestActs, GuestGives, GuestHears, GuestStep, GuestTells, GuestUnserved};
+ghost use Rattle.xns_host.specs.Went.{GuestActs, GuestAnnounced, GuestGives, GuestHears, GuestStep, GuestTells, GuestUnserved};
 ghost use Rattle.xns_host.specs.declared.guest.Guest.{Guest};
 ghost use Rattle.xns_host.specs.declared.host.Host.{Host};
 ghost use Rattle.xns_host.specs.declared.host_fault.HostFault.{HostFault};
@@ -75,8 +75,8 @@ pub fn a_given_packet_may_come_while_it_lives()
 }
 
 /// Where the connection of a meeting is one that a host has in a place, what the host does at it is a step of the meeting, or are two: a call
-/// (`calls`), an answer (`answers`), a close, a message that is handed (`hands`) or the reason that is told (`tells`), what is due (`acts`), an
-/// Error packet about a packet of it (`not_served`), a packet that is given, or none (`gives`), and bytes that come to it and may come (`hears`).
+/// (`calls`), an answer (`answers`), a close, a message that is handed (`hands`), the reason that is told (`tells`) or that the connection is open
+/// (`announces`), what is due (`acts`), an Error packet about a packet of it (`not_served`), a packet that is given, or none (`gives`), and bytes that come to it and may come (`hears`).
 pub fn what_a_host_does_is_a_step_of_the_meeting()
     ensures calls { (now : ℕ) (c : RawCall) (g h : Guest) → GuestStep now (deeds.made c) g h → LeadsOn g h (one_call_more c) [] }
     ensures answers { (now : ℕ) (kind : Answer) (k : ℕ) (words : List ℕ) (g h : Guest) → GuestStep now (deeds.gave kind words) g h
@@ -86,6 +86,7 @@ pub fn what_a_host_does_is_a_step_of_the_meeting()
         → LeadsOn g h (one_message_more m) [] }
     ensures tells { (now : ℕ) (g h : Guest) → GuestTells now g h → waiting_message g.connection.conversation.side ≡ None
         → LeadsOn g h no_more [] }
+    ensures announces { (g h : Guest) → GuestAnnounced g h → LeadsOn g h no_more [] }
     ensures acts { (now : ℕ) (g h : Guest) → GuestActs now g h → LeadsOn g h no_more [] }
     ensures not_served { (now error : ℕ) (g h : Guest) → GuestUnserved now error g h → LeadsOn g h no_more [] }
     ensures gives { (now : ℕ) (result : Result (Option Outgoing) HostFault) (g h : Guest) → GuestGives now result g h
@@ -148,7 +149,8 @@ pub fn the_ends_of_a_meeting_are_not_stuck()
 
 /// What every history of one number of a host comes to. The k-th answer is to the k-th call, and at most one call is not answered
 /// (`order`). The reason that the program is told is the one for which the connection was closed (`reason`), and nothing more of that
-/// connection is told behind it (`last`). The number becomes free after that, or where a peer opened the connection and nothing of it was
+/// connection is told behind it (`last`). That a connection is open is told of one that the program opened, once, before all else that is told of
+/// it (`opening`). The number becomes free after that, or where a peer opened the connection and nothing of it was
 /// told (`gone`), or where the program abandons the connection. Nothing happens at a free number but that a connection gets it (`first`,
 /// `again`): so nothing more of one that was abandoned is told.
 pub fn a_number_keeps_its_order()
@@ -158,6 +160,7 @@ pub fn a_number_keeps_its_order()
     ensures last { (xs : List Happening) (why : Why) (ys : List Happening) (x : Happening) (zs : List Happening) (v : View)
         → Course free (xs ++ tells why ∷ (ys ++ x ∷ zs)) v → is_news x ≡ true
         → (g : Happening) × Contains ys g × (is_going g ≡ true) }
+    ensures opening { (xs ys : List Happening) (v : View) → Course free (xs ++ announces ∷ ys) v → IsNewlyConnected xs }
     ensures gone { (xs ys : List Happening) (v : View) → Course free (xs ++ goes ∷ ys) v → WasTold xs ⊎ IsUnheard xs }
     ensures first { (x : Happening) (xs : List Happening) (v : View) → Course free (x ∷ xs) v → IsOpening x }
     ensures again { (v : View) (xs : List Happening) (g x : Happening) (ys : List Happening) (w : View)

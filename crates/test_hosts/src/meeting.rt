@@ -248,7 +248,7 @@ impl Meeting {
                 message,
                 ..
             } => return self.answer(*number, message),
-            Event::Answer { .. } => {}
+            Event::Opened { .. } | Event::Answer { .. } => {}
             Event::Closed { why, .. } => self.closed = Some(*why),
         }
         Ok(())

@@ -151,7 +151,9 @@ impl Stubborn {
                 message,
                 ..
             } => return self.answer(*number, message),
-            Event::Answer { .. } => self.wrong = self.wrong.saturating_add(1),
+            Event::Opened { .. } | Event::Answer { .. } => {
+                self.wrong = self.wrong.saturating_add(1);
+            }
             Event::Closed { why, .. } => self.server_closed = Some(*why),
         }
         Ok(())
@@ -184,7 +186,9 @@ impl Stubborn {
 
     fn hear_event(&mut self, event: &Event) -> Result<(), anyhow::Error> {
         match event {
-            Event::Call { .. } => self.wrong = self.wrong.saturating_add(1),
+            Event::Opened { .. } | Event::Call { .. } => {
+                self.wrong = self.wrong.saturating_add(1);
+            }
             Event::Answer {
                 answer,
                 message,

@@ -1,4 +1,4 @@
-use Rattle.host_world.proofs.Guests.{acts, answers, calls, closes, gives, hands, hears_it, not_served, tells}
+use Rattle.host_world.proofs.Guests.{acts, announced, answers, calls, closes, gives, hands, hears_it, not_served, tells}
 use Rattle.host_world.proofs.laws.what_a_host_does_is_a_step_of_the_meeting.Goals as goal
 
 pub returns : goal.returns
@@ -10,6 +10,7 @@ returns c =
       closes = λ now g h s. closes now g h law s;
       hands = λ now m g h t is. hands now m g h law t is;
       tells = tells;
+      announces = announced;
       acts = acts;
       not_served = not_served;
       gives = λ now result g h s. gives now result g h law s;
