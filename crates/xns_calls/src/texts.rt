@@ -7,11 +7,13 @@ ghost use Rattle.xns_lines.specs.Report.{Adds};
 ghost use Rattle.xns_lines.specs.Text.{hex_word};
 ghost use Rattle.xns_dump.specs.Layers.Courier.{callee_text};
 ghost use Rattle.xns_calls.specs.Naming.{named_or, reason_name, shown_model, unread_text};
+ghost use Rattle.xns_calls.specs.Telling.{answer_line, call_line};
 ghost use Rattle.xns_calls.specs.Texts.{answer_end, answer_front, call_end, call_front, end_text, flow_line, heading_text, missing_line};
 ghost use Rattle.xns_calls.specs.Texts.{reason_text, refused_line, words_behind};
 
 use crate::heading::Heading;
 use crate::origin::ShownTime;
+use crate::plain_lines::{append_plain_call, append_plain_return, is_plain};
 use crate::shown::Shown;
 use crate::time_texts::{append_time, append_took};
 use crate::waiting::Waiting;
@@ -107,7 +109,7 @@ fn append_item_number(report: &mut Report, name: &[u8], number: u64) -> Result<(
 
 /// Appends what a call begins with.
 #[tactic(auto, unfolding(crate::specs::Texts::call_front))]
-pub fn append_call_front(
+fn append_call_front(
     report: &mut Report,
     heading: Heading<'_>,
     transaction: u16,
@@ -120,7 +122,7 @@ pub fn append_call_front(
 
 /// Appends why a call is not named, and ends its line.
 #[tactic(auto, unfolding(crate::specs::Texts::call_end))]
-pub fn append_call_end(report: &mut Report, shown: &Shown) -> Result<(), AllocError>
+fn append_call_end(report: &mut Report, shown: &Shown) -> Result<(), AllocError>
     ensures { Adds result report.old report.new (call_end (shown_model shown.now)) }
 {
     append_unread(report, shown)?;
@@ -128,7 +130,7 @@ pub fn append_call_end(report: &mut Report, shown: &Shown) -> Result<(), AllocEr
 }
 
 /// Appends what a call says: by name, or the numbers and the words.
-pub fn append_arguments(
+fn append_arguments(
     report: &mut Report,
     program: u32,
     version: u16,
@@ -146,8 +148,59 @@ pub fn append_arguments(
     append_words(report, b" args ", words)
 }
 
+/// Appends the line of a call.
+pub fn append_call(
+    report: &mut Report,
+    heading: &Heading<'_>,
+    transaction: u16,
+    program: u32,
+    version: u16,
+    procedure: u16,
+    words: &[u16],
+    shown: &Shown,
+) -> Result<(), AllocError>
+    ensures { Adds result report.old report.new (call_line heading.now transaction
+        (callee_text program version procedure ++ words_behind (codes " args ") words.now) (shown_model shown.now)) }
+{
+    if is_plain(heading.origin.time, words, shown) {
+        return append_plain_call(
+            report,
+            heading,
+            transaction,
+            program,
+            version,
+            procedure,
+            words,
+        );
+    }
+    append_call_front(report, *heading, transaction)?;
+    append_arguments(report, program, version, procedure, words, shown)?;
+    append_call_end(report, shown)
+}
+
+/// Appends the line of a return.
+pub fn append_return(
+    report: &mut Report,
+    heading: &Heading<'_>,
+    transaction: u16,
+    of: &Option<Waiting>,
+    words: &[u16],
+    shown: &Shown,
+) -> Result<(), AllocError>
+    ensures { Adds result report.old report.new (answer_line heading.now (codes " return ") transaction of.now
+        (words_behind (codes " results ") words.now) (shown_model shown.now)) }
+{
+    let time = heading.origin.time;
+    if is_plain(time, words, shown) {
+        return append_plain_return(report, heading, transaction, of, words);
+    }
+    append_answer_front(report, *heading, b" return ", transaction, *of)?;
+    append_results(report, words, shown)?;
+    append_answer_end(report, *of, time, shown)
+}
+
 /// Appends what a return says: by name, or the words.
-pub fn append_results(report: &mut Report, words: &[u16], shown: &Shown) -> Result<(), AllocError>
+fn append_results(report: &mut Report, words: &[u16], shown: &Shown) -> Result<(), AllocError>
     ensures { Adds result report.old report.new (named_or (words_behind (codes " results ") words.now) (shown_model shown.now)) }
 {
     if let Shown::Named(text) = shown {
