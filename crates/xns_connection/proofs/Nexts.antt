@@ -4,7 +4,7 @@ use Rattle.std.proofs.Math.Logic.{∥∥₁_map}
 use Rattle.std.specs.Option.{is_some}
 use Rattle.std.specs.declared.alloc.AllocError.{AllocError}
 use Rattle.xns_agenda.specs.Waiting.{Waiting, after_step}
-use Rattle.xns_spp.specs.Held.{Held, StandsFor}
+use Rattle.xns_spp.specs.Held.{StandsFor}
 use Rattle.xns_spp.specs.State.{State}
 use Rattle.xns_connection.specs.Deeds.{wait_moved}
 use Rattle.xns_connection.specs.Giving.{Giving, GivesAs, IsGiving, IsShort, at_flush, at_word, else_newer, flushed, giving, newer, next_of, next_unless, older}

@@ -6,7 +6,7 @@ use Rattle.std.proofs.lemmas.List.{get_or-replicate, get_or-set_other, get_or-se
 use Rattle.std.proofs.lemmas.Option.{get_or_from_slice_get, slice_get-get_or, slice_get_read, slice_get_within}
 use Rattle.courier_messages.specs.declared.message.Message.{Message}
 use Rattle.xns_agenda.specs.Agenda.{Plan, HasNobody, IsFor, IsNoted, noted, released}
-use Rattle.xns_host.specs.Events.{event_by, event_for, event_in}
+use Rattle.xns_host.specs.Events.{event_by, event_in}
 use Rattle.xns_host.specs.Hosting.{IsAllNoted, IsNotedBut, IsNotedIn, facts_in}
 use Rattle.xns_host.specs.Knowing.{known_in}
 use Rattle.xns_agenda.specs.Turns.{Line, has_turn, with_last, with_turn}
