@@ -15,7 +15,7 @@ use Rattle.xns_connection.specs.Deeds as deeds
 use Rattle.xns_host.specs.Events.{event_by, event_in, event_of, is_newly_open}
 use Rattle.xns_host.specs.Hosting.{IsPlace, confirms, free_place, of_closed, of_stranger, may_go, tells as has_news}
 use Rattle.xns_connection.specs.Living.{Deeds}
-use Rattle.xns_host.specs.Places.{Acts, ActsAt, AsksEvent, AsksInVain, GivesNone, NextEvent, NextPacket, Places, Turns, became, event_passed, packet_passed, seated, taken_by, vacated, vacated_if}
+use Rattle.xns_host.specs.Places.{AsksEvent, NextEvent, NextPacket, Places, Turns, became, event_passed, packet_passed, seated, taken_by, vacated, vacated_if}
 use Rattle.xns_host.specs.Places as places
 use Rattle.xns_connection.specs.Step.{AStepKeepsItsPromises}
 use Rattle.xns_connection.specs.Story.{asked_of, waiting_message}
@@ -32,7 +32,7 @@ use Rattle.xns_host.specs.Strays.{StrayQueue}
 use Rattle.xns_host.specs.declared.register.Register.{Register}
 use Rattle.xns_agenda.specs.Clock.{time_at}
 use Rattle.xns_agenda.specs.Waiting.{due_time}
-use Rattle.host_world.specs.Following.{MayTake, EachFollowed, IsFollowedTo, ProgramHasDone, HasGiven, IsFollowed, MayBeForgotten, deed_of, did_at, gave_at, gave_none}
+use Rattle.host_world.specs.Following.{MayTake, EachFollowed, ProgramHasDone, HasGiven, IsFollowed, MayBeForgotten, deed_of, did_at, gave_at, gave_none}
 use Rattle.host_world.specs.Following as following
 use Rattle.host_world.specs.Guests.{LeadsOn, packets_in}
 use Rattle.host_world.specs.Meeting.{Meeting}

@@ -7,14 +7,14 @@ use Rattle.courier_sessions.specs.declared.program.Program.{Program}
 use Rattle.item_world.specs.declared.side.Side.{Side}
 use Rattle.xns_host.specs.Hosting.{may_go}
 use Rattle.xns_connection.specs.Living.{Deeds}
-use Rattle.xns_host.specs.Places.{Acts, ActsAt, AsksEvent, AsksInVain, GivesNone, NextEvent, NextPacket, Places, Turns, became, event_passed, packet_passed, seated, taken_by, vacated, vacated_if}
+use Rattle.xns_host.specs.Places.{Acts, ActsAt, AsksEvent, AsksInVain, GivesNone, Places, Turns, became, packet_passed, seated, vacated_if}
 use Rattle.xns_host.specs.Places as places
 use Rattle.xns_connection.specs.Step.{AStepKeepsItsPromises}
 use Rattle.xns_host.specs.Went.{GuestGives}
 use Rattle.xns_host.specs.declared.guest.Guest.{Guest}
 use Rattle.xns_host.specs.declared.host_fault.HostFault.{HostFault}
 use Rattle.xns_host.specs.declared.outgoing.Outgoing.{Outgoing}
-use Rattle.host_world.specs.Following.{MayTake, EachFollowed, IsFollowedTo, ProgramHasDone, HasGiven, IsFollowed, MayBeForgotten, deed_of, did_at, gave_at, gave_none}
+use Rattle.host_world.specs.Following.{IsFollowedTo, IsFollowed, MayBeForgotten, did_at}
 use Rattle.host_world.specs.Following as following
 use Rattle.host_world.specs.Guests.{LeadsOn, LeadsTo, packets_in}
 use Rattle.host_world.specs.Meeting.{Meeting, at}

@@ -1,6 +1,6 @@
 -- What a host does at a connection of a meeting is a step of the meeting.
-use Rattle.std.proofs.Common.{◌≡◌, ◌≢◌, ◌∙◌, ap, refl, sym, subst, ℕ, Bool, true, false, List, [], ◌∷◌, ◌++◌, append-nil, Option, Some, None, Result, Ok, Err}
-use Rattle.std.specs.Prelude.{◌||◌, if◌then◌else◌}
+use Rattle.std.proofs.Common.{◌≡◌, ◌≢◌, ◌∙◌, ap, refl, sym, subst, ℕ, Bool, true, false, List, [], ◌∷◌, ◌++◌, Option, Some, None, Result, Ok, Err}
+use Rattle.std.specs.Prelude.{if◌then◌else◌}
 use Rattle.std.specs.Option.{is_some, option_to_list}
 use Rattle.std.specs.declared.alloc.AllocError.{AllocError}
 use Rattle.courier_messages.specs.RawCalls.{RawCall}
@@ -15,10 +15,10 @@ use Rattle.xns_agenda.specs.declared.act.Act.TheVariants.{Nothing, Again, Ask, G
 use Rattle.xns_connection.specs.Acting.{Acts, idling, calling, handing, answering}
 use Rattle.xns_connection.specs.Connecting.{is_dead}
 use Rattle.xns_connection.specs.Deeds as deeds
-use Rattle.xns_connection.specs.Deeds.{Deed, Parts, acted_by, done, given_up, side_taken, told_by, unserved, why_left, with_answer}
+use Rattle.xns_connection.specs.Deeds.{Parts, acted_by, given_up, side_taken, why_left, with_answer}
 use Rattle.xns_connection.specs.Living.{Deeds}
 use Rattle.xns_connection.specs.Step.{AStepKeepsItsPromises, Hands, MovesOwed, calmly, moving_on, none_waits, parts_of}
-use Rattle.xns_connection.specs.Story.{GoesOn as StoryGoesOn, Story, asked_of, start, waiting_message, with_handed}
+use Rattle.xns_connection.specs.Story.{GoesOn as StoryGoesOn, Story, asked_of, waiting_message, with_handed}
 use Rattle.xns_connection.specs.Telling.{Gives, Hears, Tells}
 use Rattle.xns_host.specs.Went.{GuestActs, GuestAnnounced, GuestGives, GuestHears, GuestStep, GuestTells, GuestUnserved, given_by, hears, lost}
 use Rattle.xns_connection.specs.declared.connection.Connection.{Connection}
@@ -33,7 +33,7 @@ use Rattle.host_world.specs.Meets.{Meets}
 use Rattle.host_world.specs.Pairing.{no_more, one_answer_more, one_call_more, one_message_more}
 use Rattle.host_world.specs.declared.station.Station.{Station}
 use Rattle.host_world.proofs.Gives.{gives_on_from, packet_of}
-use Rattle.host_world.proofs.Paired.{Onward, acts_on, gives_on, hears_on, then_on, told}
+use Rattle.host_world.proofs.Paired.{Onward, acts_on, gives_on, hears_on, stays, then_on, told}
 use Rattle.host_world.proofs.Telling.{tells_given_up, tells_handed}
 
 -- ---- acts
@@ -51,10 +51,6 @@ acts_so c d base did same act on a b programs m side meets here =
     let goes = on h (subst (λ (k : Conversation). Tells k h) here (told meets side)) in
     acts_on m meets side (base h) did d (subst (λ (k : Conversation). Acts k h (at m side).deeds (base h) (did (at m side).deeds)) (sym here) (act h (at m side).deeds))
     (same ∙ sym (ap (λ (k : Conversation). k.packets) here)) goes.0 goes.1 goes.2
-
--- from where a story is it goes on in place
-pub stays : (h : Story) → StoryGoesOn h h
-stays h = record { programs = refl; path = start; made = refl; handed = refl; taken = ([], append-nil h.taken); answers = ([], append-nil h.answers); even = refl }
 
 -- ---- the program's part
 

@@ -14,7 +14,7 @@ use Rattle.xns_idp.specs.declared.address.Address.{Address}
 use Rattle.xns_spp.specs.State.{State}
 use Rattle.xns_host.specs.Hosting.{IsConnected, IsAnswering, IsPlace, free_place, of_closed, of_stranger, is_past, may_go, tells as has_news}
 use Rattle.xns_agenda.specs.Waiting.{due_time}
-use Rattle.xns_host.specs.Places.{Acts, ActsAt, AsksEvent, AsksInVain, GivesNone, NextEvent, NextPacket, Places, Turns, became, event_passed, packet_passed, places_with, seated, taken_by, vacated, vacated_if}
+use Rattle.xns_host.specs.Places.{Acts, ActsAt, AsksEvent, AsksInVain, GivesNone, NextEvent, NextPacket, Places, Turns, became, event_passed, packet_passed, seated, taken_by, vacated, vacated_if}
 use Rattle.xns_host.specs.Places as places
 use Rattle.xns_connection.specs.Story.{SideHas, new_story}
 use Rattle.xns_host.specs.Went.{GuestGives}

@@ -11,7 +11,11 @@ use Rattle.item_world.specs.Landing.{answered}
 use Rattle.item_world.specs.Side.{other}
 use Rattle.item_world.specs.World.{World, end_of, marked}
 use Rattle.item_world.specs.declared.emitted.Emitted.{Emitted}
-use Rattle.xns_spp.specs.Receiving.{after_receive, receive_answer}
+use Rattle.xns_spp.specs.Ends.{is_ours_at}
+use Rattle.xns_spp.specs.Held.{StandsFor}
+use Rattle.xns_spp.specs.Laws.{ForeignBytesChangeNothing}
+use Rattle.xns_spp.specs.Receiving.{after_receive, is_ours_in, receive_answer}
+use Rattle.xns_spp.specs.State.{State}
 use Rattle.item_world.specs.declared.side.Side.{Side}
 use Rattle.item_world.specs.declared.side.Side.TheVariants.{A, B}
 use Rattle.xns_spp.specs.Packet.{SppPacketModel, spp_packet_of}
@@ -23,7 +27,7 @@ use Rattle.xns_connection.specs.Closing.{drains}
 use Rattle.xns_connection.specs.Living.{Deeds, GoesFrom}
 use Rattle.xns_connection.specs.Reasons.{answer_fault_of}
 use Rattle.xns_connection.specs.Refusing.{answer_fault, side_answer_fault, Answers as Refusals}
-use Rattle.xns_connection.specs.Story.{Story, GoesOn, asked_of, waiting_message, with_handed}
+use Rattle.xns_connection.specs.Story.{Story, GoesOn, asked_of, start, waiting_message, with_handed}
 use Rattle.xns_connection.specs.Telling.{Tells, Goes, Gives, MovesAndGives, Hears}
 use Rattle.xns_agenda.specs.Waiting.{StepsAt, still}
 use Rattle.xns_connection.specs.declared.connection.Connection.{Connection}
@@ -199,6 +203,10 @@ pair_hears p c d side bytes is same hears = record {
   beside = beside p side d;
 }
 
+-- from where a story is it goes on in place
+pub stays : (h : Story) → GoesOn h h
+stays h = record { programs = refl; path = start; made = refl; handed = refl; taken = ([], append-nil h.taken); answers = ([], append-nil h.answers); even = refl }
+
 -- where nothing is done, a meeting is as it was
 pub stays_so : (m : Meeting) (side : Side) → DoesAt m m side no_more []
 stays_so m side = record { deeds = refl; given = sym (append-nil (at m side).given); other = refl; kept = kept_itself m.world.bag }
@@ -311,21 +319,6 @@ pub heard_there : AStepKeepsItsPromises → (now : ℕ) (bytes : List ℕ) (c d 
     → Hears c.conversation d.conversation bytes
 heard_there law now bytes c d step = let k = law now (deeds.heard bytes) c d step in record { wanted = λ z. k.wanted ∙ z; on = k.story }
 
-pub pair_takes_in : {E : Type 0} → AStepKeepsItsPromises → (p : Pair) (c d : Connection) (side : Side) (now : ℕ) (bytes : List ℕ) (packet : SppPacketModel) (r : Result (Unit {0}) E)
-    → c ≡ connection_at p side → spp_packet_of bytes ≡ Ok packet → OnOk r ((b : List ℕ) → spp_packet_of b ≡ Ok packet → Step now (deeds.heard b) c d)
-    → OnOk r (StepsByBytes p (with_connection p side d) side bytes)
-pair_takes_in law p c d side now bytes packet (Ok u) is reads step =
-    pair_hears p c d side bytes is (step bytes reads).packets (heard_there law now bytes c d (step bytes reads))
-pair_takes_in law p c d side now bytes packet (Err e) is reads step = tt
-
--- where bytes that are a packet come to a side, what follows of the step of the connection there holds of the pair
-pub pair_heard : {E : Type 0} (P : Connection → Connection → Type 0) (p : Pair) (c d : Connection) (side : Side) (now : ℕ) (bytes : List ℕ) (packet : SppPacketModel)
-    (r : Result (Unit {0}) E) → c ≡ connection_at p side → spp_packet_of bytes ≡ Ok packet → (Step now (deeds.heard bytes) c d → P c d)
-    → OnOk r ((b : List ℕ) → spp_packet_of b ≡ Ok packet → Step now (deeds.heard b) c d)
-    → OnOk r ((q : SppPacketModel) → spp_packet_of bytes ≡ Ok q → P (connection_at p side) (connection_at (with_connection p side d) side))
-pair_heard P p c d side now bytes packet (Ok u) is reads next step = λ q read. at_side P p c d side is (next (step bytes reads))
-pair_heard P p c d side now bytes packet (Err e) is reads next step = tt
-
 pub pair_rests : (p : Pair) (c d : Connection) (side : Side) → c ≡ connection_at p side → d.conversation ≡ c.conversation → Steps p (with_connection p side d) side no_more []
 pair_rests p c d side is same = record {
   on = λ a b programs m stands.
@@ -333,3 +326,32 @@ pair_rests p c d side is same = record {
       (m, record { calls = stands.calls; called = stands.called; meets = stands.meets; same = same_after p d side m m stands.same here refl }, stays_so m side);
   beside = beside p side d;
 }
+
+-- bytes that are no packet of the connection leave its conversation as it was
+pub hears_none : ForeignBytesChangeNothing → (c : Conversation) (bytes : List ℕ) (packet : SppPacketModel) → spp_packet_of bytes ≡ Ok packet
+    → ((s : State) → StandsFor c.endpoint s → is_ours_at s.ends packet ≡ false) → Hears c c bytes
+hears_none law c bytes packet reads other = record {
+  wanted = λ z. z;
+  on = λ h tells.
+      let same = law.after h.state bytes (ap (is_ours_in h.state) reads ∙ other h.state tells.stands) in
+      (h, tells, subst (λ (s : State). GoesOn (record h { state = s }) h) (sym same) (stays h));
+}
+
+pub pair_takes_in : {E : Type 0} → AStepKeepsItsPromises → (p : Pair) (c d : Connection) (side : Side) (now : ℕ) (bytes : List ℕ) (packet : SppPacketModel) (r : Result Bool E)
+    → c ≡ connection_at p side → spp_packet_of bytes ≡ Ok packet → (r ≡ Ok true → (b : List ℕ) → spp_packet_of b ≡ Ok packet → Step now (deeds.heard b) c d)
+    → (r ≡ Ok false → d ≡ c) → OnOk r (StepsByBytes p (with_connection p side d) side bytes)
+pair_takes_in law p c d side now bytes packet (Ok true) is reads step same =
+    pair_hears p c d side bytes is (step refl bytes reads).packets (heard_there law now bytes c d (step refl bytes reads))
+pair_takes_in law p c d side now bytes packet (Ok false) is reads step same =
+    let rests = pair_rests p c d side is (ap (λ (k : Connection). k.conversation) (same refl)) in
+    record { on = λ a b programs m stands comes. rests.on a b programs m stands; beside = rests.beside }
+pair_takes_in law p c d side now bytes packet (Err e) is reads step same = tt
+
+-- where bytes that are a packet come to a side, what follows of the step of the connection there, or of none, holds of the pair
+pub pair_heard : {E : Type 0} (P : Connection → Connection → Type 0) (p : Pair) (c d : Connection) (side : Side) (now : ℕ) (bytes : List ℕ) (packet : SppPacketModel)
+    (r : Result Bool E) → c ≡ connection_at p side → spp_packet_of bytes ≡ Ok packet → (Step now (deeds.heard bytes) c d → P c d)
+    → (r ≡ Ok true → (b : List ℕ) → spp_packet_of b ≡ Ok packet → Step now (deeds.heard b) c d) → (r ≡ Ok false → P c d)
+    → OnOk r ((q : SppPacketModel) → spp_packet_of bytes ≡ Ok q → P (connection_at p side) (connection_at (with_connection p side d) side))
+pair_heard P p c d side now bytes packet (Ok true) is reads next step none = λ q read. at_side P p c d side is (next (step refl bytes reads))
+pair_heard P p c d side now bytes packet (Ok false) is reads next step none = λ q read. at_side P p c d side is (none refl)
+pair_heard P p c d side now bytes packet (Err e) is reads next step none = tt

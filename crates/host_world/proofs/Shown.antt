@@ -163,7 +163,7 @@ nearly_by d g h asked wanted s opener heard opening c noted = record {
   told = c.told ∙ s.told;
   over = λ z.
       let o = s.over z in
-      let reads_no_more = g.connection.deaf (λ none. some_not d.closed o.0 (sym s.closed ∙ none)) in
+      let reads_no_more = g.connection.fits.deaf (λ none. some_not d.closed o.0 (sym s.closed ∙ none)) in
       (o.0, ap waiting_message (c.drained reads_no_more) ∙ o.1);
   unheard = λ z. s.unheard (sym heard ∙ z);
   newly = λ z. s.newly (sym opening ∙ z);
@@ -199,7 +199,7 @@ not_true false never = refl
 -- one that is read is not closed, and the program was not told that it is
 unclosed : (c : Connection) → drains c.conversation.side c.conversation.closing ≡ false → (o : Option Why) → c.closed ≡ o → o ≡ None
 unclosed c reads None is = refl
-unclosed c reads (Some why) is = let drained = c.deaf (λ none. absurd (cc)) in absurd (cc)
+unclosed c reads (Some why) is = let drained = c.fits.deaf (λ none. absurd (cc)) in absurd (cc)
 
 untold : (d : Dialogue) (g : Guest) → Shows d g → d.closed ≡ None → d.told ≡ true → ⊥
 untold d g s none z = some_not d.closed (s.over z).0 none

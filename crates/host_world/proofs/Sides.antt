@@ -13,10 +13,10 @@ use Rattle.courier_messages.specs.declared.fault.SessionFault.TheVariants as fau
 use Rattle.courier_messages.specs.declared.message.Message.{Message}
 use Rattle.courier_messages.specs.declared.message.Message.TheVariants as messages
 use Rattle.courier_sessions.specs.Answering as answering
-use Rattle.courier_sessions.specs.Answering.{Answering, is_busy, has_items, transaction_in, with_call, after_messages, after_reject}
+use Rattle.courier_sessions.specs.Answering.{Answering, is_busy, has_items, transaction_in, with_call}
 use Rattle.courier_sessions.specs.Feeding.{heard, most_item}
 use Rattle.courier_sessions.specs.Pumping as pumping
-use Rattle.courier_sessions.specs.Pumping.{caller_side, server_side, one_step, moving, sending, feeding, feeds, Leads, here, on, Settles, Refuses}
+use Rattle.courier_sessions.specs.Pumping.{caller_side, server_side, moving, sending, feeding, feeds, Leads, here, on, Settles, Refuses}
 use Rattle.courier_sessions.specs.Talk as talk
 use Rattle.courier_sessions.specs.Talk.{Talk, reply_fault, wrong_unless, answered_unless}
 use Rattle.courier_sessions.specs.declared.feed_refusal.FeedRefusal.{FeedRefusal}

@@ -1,6 +1,6 @@
 -- What a step of a connection keeps of it.
 use Rattle.std.proofs.Common.{◌≡◌, ◌≢◌, ◌∙◌, ap, refl, sym, subst, ℕ, zero, suc, Bool, true, false, List, Option, Some, None, Result, Ok, Err}
-use Rattle.std.specs.Prelude.{◌||◌, ◌==◌, if◌then◌else◌, nat_le, IfOk, OnErr}
+use Rattle.std.specs.Prelude.{◌==◌, if◌then◌else◌, nat_le, IfOk, OnErr}
 use Rattle.std.specs.Option.{is_some}
 use Rattle.courier_messages.specs.declared.message.Message.{Message}
 use Rattle.courier_sessions.specs.declared.feed_refusal.FeedRefusal.{FeedRefusal}
@@ -205,7 +205,7 @@ acts_by c e now Nothing s stands at is = by_parts c e _ s c.conversation.side st
 acts_by c e now Again s stands at is = by_parts c e _ s c.conversation.side stands is refl refl refl refl (λ k. refl)
 acts_by c e now Ask s stands at is = by_parts c e _ s c.conversation.side stands is refl refl refl refl (λ k. refl)
 acts_by c e now GiveUp s stands at is =
-    by_parts c e _ s c.conversation.side stands is refl refl refl refl (λ k. absurd (not_given_up c.wait c.wait.due now (c.closed_due k) at))
+    by_parts c e _ s c.conversation.side stands is refl refl refl refl (λ k. absurd (not_given_up c.wait c.wait.due now (c.fits.closed_due k) at))
 acts_by c e now Forget s stands at is = by_parts c e _ s c.conversation.side stands is refl refl refl refl (λ k. refl)
 
 pub acts : (now : ℕ) (c e : Connection) (s : State) → StandsFor c.conversation.endpoint s → parts_of e ≡ acted (parts_of c) now

@@ -1,14 +1,21 @@
 -- What a host does at a connection of a meeting is a step of the meeting.
-use Rattle.std.specs.Prelude.{◌≡◌, ℕ, List, [], ◌∷◌, Option, Some, None, Result, Ok, Err}
+use Rattle.std.specs.Prelude.{◌≡◌, ℕ, Bool, List, [], ◌∷◌, Option, Some, None, Result, Ok, Err}
+use Rattle.courier_messages.specs.RawCalls.{RawCall}
+use Rattle.courier_messages.specs.declared.message.Message.{Message}
+use Rattle.courier_sessions.specs.Answering.{answer_message}
+use Rattle.courier_sessions.specs.declared.answer.Answer.{Answer}
 use Rattle.courier_sessions.specs.declared.program.Program.{Program}
 use Rattle.item_world.specs.declared.side.Side.{Side}
+use Rattle.xns_connection.specs.Deeds as deeds
 use Rattle.xns_connection.specs.Living.{Deeds}
+use Rattle.xns_connection.specs.Story.{asked_of, waiting_message}
+use Rattle.xns_host.specs.Went.{GuestActs, GuestAnnounced, GuestGives, GuestHears, GuestStep, GuestTells, GuestUnserved}
 use Rattle.xns_host.specs.declared.guest.Guest.{Guest}
 use Rattle.xns_host.specs.declared.host_fault.HostFault.{HostFault}
 use Rattle.xns_host.specs.declared.outgoing.Outgoing.{Outgoing}
 use Rattle.host_world.specs.Meeting.{Meeting, at}
 use Rattle.host_world.specs.Meets.{Meets}
-use Rattle.host_world.specs.Pairing.{DoesAt, MayCome}
+use Rattle.host_world.specs.Pairing.{DoesAt, MayCome, no_more, one_answer_more, one_call_more, one_message_more}
 use Rattle.host_world.specs.declared.station.Station.{Station}
 
 -- steps led on from this meeting to one in which the connection at this side is this one; the program there did so meanwhile, and the
@@ -35,3 +42,21 @@ abbrev pub packets_in : Result (Option Outgoing) HostFault → List (List ℕ)
 packets_in (Ok (Some o)) = o.packet ∷ []
 packets_in (Ok None) = []
 packets_in (Err e) = []
+
+-- where the connection of a meeting is one that a host has in a place, what the host does at it leads on: a call, an answer, a close, a message
+-- that is handed, the reason that is told or that the connection is open, what is due, an Error packet about a packet of it, a packet that is given, or none, and bytes
+-- that come to it and may come
+pub record WhatAHostDoesIsAStepOfTheMeeting : Type 0 where
+  pub calls : (now : ℕ) (c : RawCall) (g h : Guest) → GuestStep now (deeds.made c) g h → LeadsOn g h (one_call_more c) []
+  pub answers : (now : ℕ) (kind : Answer) (k : ℕ) (words : List ℕ) (g h : Guest) → GuestStep now (deeds.gave kind words) g h
+      → asked_of g.connection.conversation.side ≡ Some k → LeadsOn g h (one_answer_more (answer_message kind k words)) []
+  pub closes : (now : ℕ) (g h : Guest) → GuestStep now deeds.asked g h → LeadsOn g h no_more []
+  pub hands : (now : ℕ) (m : Message) (g h : Guest) → GuestTells now g h → waiting_message g.connection.conversation.side ≡ Some m
+      → LeadsOn g h (one_message_more m) []
+  pub tells : (now : ℕ) (g h : Guest) → GuestTells now g h → waiting_message g.connection.conversation.side ≡ None → LeadsOn g h no_more []
+  pub announces : (g h : Guest) → GuestAnnounced g h → LeadsOn g h no_more []
+  pub acts : (now : ℕ) (g h : Guest) → GuestActs now g h → LeadsOn g h no_more []
+  pub not_served : (now error : ℕ) (g h : Guest) → GuestUnserved now error g h → LeadsOn g h no_more []
+  pub gives : (now : ℕ) (result : Result (Option Outgoing) HostFault) (g h : Guest) → GuestGives now result g h
+      → LeadsOn g h no_more (packets_in result)
+  pub hears : (now : ℕ) (bytes : List ℕ) (confirming : Bool) (g h : Guest) → GuestHears now bytes confirming g h → HearsOn g h no_more bytes

@@ -1,10 +1,6 @@
 //! What the definitions imply, each as the contract of a function that does nothing.
 
 ghost use Rattle.std.specs.Prelude.{◌≡◌, ◌≢◌, ◌⊎◌, ◌≤◌, ◌∷◌, ◌++◌, [], ℕ, Bool, List, Option, Result, Some, None, Ok, Contains, length, slice_get, true};
-ghost use Rattle.courier_messages.specs.RawCalls.{RawCall};
-ghost use Rattle.courier_messages.specs.declared.message.Message.{Message};
-ghost use Rattle.courier_sessions.specs.Answering.{answer_message};
-ghost use Rattle.courier_sessions.specs.declared.answer.Answer.{Answer};
 ghost use Rattle.courier_sessions.specs.declared.program.Program.{Program};
 ghost use Rattle.item_world.specs.Side.{other};
 ghost use Rattle.item_world.specs.World.{lifetime};
@@ -14,19 +10,15 @@ ghost use Rattle.host_world.specs.Dialogue.{Course, Dialogue, Happened, Happenin
 ghost use Rattle.host_world.specs.Dialogue.{announces, closes, free, goes, held, is_going, is_news, tells};
 ghost use Rattle.host_world.specs.Following.{EachFollowed, ProgramHasDone, HasGiven, HostsStandFor, IsFollowed, MayTake, StandsOn, gave_none};
 ghost use Rattle.host_world.specs.Going.{CanFinish};
-ghost use Rattle.host_world.specs.Guests.{LeadsOn, HearsOn, packets_in};
+ghost use Rattle.host_world.specs.Guests.{WhatAHostDoesIsAStepOfTheMeeting};
 ghost use Rattle.host_world.specs.Meeting.{Meeting, at};
 ghost use Rattle.host_world.specs.Meets.{Meets, IsMet};
-ghost use Rattle.host_world.specs.Pairing.{MayCome, WasMade, no_more, one_answer_more, one_call_more, one_message_more};
+ghost use Rattle.host_world.specs.Pairing.{MayCome, WasMade, no_more};
 ghost use Rattle.host_world.specs.Seen.{NumberHasHistory, HasLived};
 ghost use Rattle.host_world.specs.Station.{IsStation};
 ghost use Rattle.host_world.specs.declared.station.Station.{Station};
-ghost use Rattle.xns_connection.specs.Deeds as deeds;
 ghost use Rattle.xns_connection.specs.Living.{Deeds};
-ghost use Rattle.xns_connection.specs.Story.{asked_of, waiting_message};
 ghost use Rattle.xns_host.specs.Turn.{Abandons, GivesOut, TakesIn};
-ghost use Rattle.xns_host.specs.Went.{GuestActs, GuestAnnounced, GuestGives, GuestHears, GuestStep, GuestTells, GuestUnserved};
-ghost use Rattle.xns_host.specs.declared.guest.Guest.{Guest};
 ghost use Rattle.xns_host.specs.declared.host.Host.{Host};
 ghost use Rattle.xns_host.specs.declared.host_fault.HostFault.{HostFault};
 ghost use Rattle.xns_host.specs.declared.outgoing.Outgoing.{Outgoing};
@@ -78,21 +70,7 @@ pub fn a_given_packet_may_come_while_it_lives()
 /// (`calls`), an answer (`answers`), a close, a message that is handed (`hands`), the reason that is told (`tells`) or that the connection is open
 /// (`announces`), what is due (`acts`), an Error packet about a packet of it (`not_served`), a packet that is given, or none (`gives`), and bytes that come to it and may come (`hears`).
 pub fn what_a_host_does_is_a_step_of_the_meeting()
-    ensures calls { (now : ℕ) (c : RawCall) (g h : Guest) → GuestStep now (deeds.made c) g h → LeadsOn g h (one_call_more c) [] }
-    ensures answers { (now : ℕ) (kind : Answer) (k : ℕ) (words : List ℕ) (g h : Guest) → GuestStep now (deeds.gave kind words) g h
-        → asked_of g.connection.conversation.side ≡ Some k → LeadsOn g h (one_answer_more (answer_message kind k words)) [] }
-    ensures closes { (now : ℕ) (g h : Guest) → GuestStep now deeds.asked g h → LeadsOn g h no_more [] }
-    ensures hands { (now : ℕ) (m : Message) (g h : Guest) → GuestTells now g h → waiting_message g.connection.conversation.side ≡ Some m
-        → LeadsOn g h (one_message_more m) [] }
-    ensures tells { (now : ℕ) (g h : Guest) → GuestTells now g h → waiting_message g.connection.conversation.side ≡ None
-        → LeadsOn g h no_more [] }
-    ensures announces { (g h : Guest) → GuestAnnounced g h → LeadsOn g h no_more [] }
-    ensures acts { (now : ℕ) (g h : Guest) → GuestActs now g h → LeadsOn g h no_more [] }
-    ensures not_served { (now error : ℕ) (g h : Guest) → GuestUnserved now error g h → LeadsOn g h no_more [] }
-    ensures gives { (now : ℕ) (result : Result (Option Outgoing) HostFault) (g h : Guest) → GuestGives now result g h
-        → LeadsOn g h no_more (packets_in result) }
-    ensures hears { (now : ℕ) (bytes : List ℕ) (confirming : Bool) (g h : Guest) → GuestHears now bytes confirming g h
-        → HearsOn g h no_more bytes }
+    ensures { WhatAHostDoesIsAStepOfTheMeeting }
 {
     xns_connection::laws::a_step_keeps_its_promises();
 }

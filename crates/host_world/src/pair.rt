@@ -199,14 +199,15 @@ impl Pair {
         self.at(side).next_packet(alloc, now)
     }
 
-    /// Takes in bytes that came to this side. Where memory is refused it is as if they were lost.
+    /// Takes in bytes that came to this side; whether they are a packet of the connection there. Where memory is refused it is as if they were
+    /// lost.
     pub fn receive(
         &mut self,
         alloc: Global,
         now: u64,
         side: Side,
         bytes: &[u8],
-    ) -> Result<(), AllocError>
+    ) -> Result<bool, AllocError>
         ensures takes_in { OnOk result (StepsByBytes self.old self.new side bytes.now) }
         ensures hears { OnOk result ((p : SppPacketModel) → spp_packet_of bytes.now ≡ Ok p
             → Hears (connection_at self.old side).conversation (connection_at self.new side).conversation bytes.now) }
@@ -218,8 +219,9 @@ impl Pair {
             → StoresBytes s bytes.now) }
     {
         let Ok(packet) = read_packet(bytes) else {
-            return Ok(());
+            return Ok(false);
         };
+        xns_spp::laws::foreign_bytes_change_nothing();
         a_step_keeps_its_promises();
         self.at(side).receive(alloc, now, &packet)
     }

@@ -7,7 +7,7 @@ use Rattle.std.proofs.Props.{props}
 use Rattle.xns_idp.specs.Reading.{unless}
 use Rattle.xns_spp.specs.Arrival.{decided_on}
 use Rattle.xns_spp.specs.Ends.{is_ours_at}
-use Rattle.xns_spp.specs.FieldNumbers.{is_ahead, numbers_read}
+use Rattle.xns_spp.specs.FieldNumbers.{is_ahead}
 use Rattle.xns_spp.specs.Header.{brings_item}
 use Rattle.xns_spp.specs.Held.{Held, StandsFor, held}
 use Rattle.xns_spp.specs.Laws.{ForeignBytesChangeNothing}

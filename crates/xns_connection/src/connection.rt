@@ -15,7 +15,7 @@ ghost use Rattle.xns_connection.specs.Connecting.{FitsClosed, is_again, is_dead,
 ghost use Rattle.xns_connection.specs.Moving.{HasHistory};
 ghost use Rattle.xns_connection.specs.Reasons.{call_fault_of, answer_fault_of};
 ghost use Rattle.xns_connection.specs.Refusing.{Answers};
-ghost use Rattle.xns_connection.specs.Deeds.{acted, asked, gave, heard, made, nothing, unserved, why_left};
+ghost use Rattle.xns_connection.specs.Deeds.{acted, asked, gave, heard, made, nothing, unserved};
 ghost use Rattle.xns_connection.specs.Story.{waiting_message, has_message};
 ghost use Rattle.xns_connection.specs.Telling.{Goes};
 ghost use Rattle.xns_agenda.specs.Waiting.{IsDueAfter, StepsAt, act_at, last_time};

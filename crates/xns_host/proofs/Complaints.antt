@@ -1,7 +1,6 @@
 -- Of which packets a host complains.
-use Rattle.std.proofs.Common.{◌≡◌, ◌≢◌, ◌∙◌, sym, ℕ, Bool, true, false, Option, None}
+use Rattle.std.proofs.Common.{◌≡◌, ◌≢◌, Bool, true, false, None}
 use Rattle.std.specs.Prelude.{IsTrue, ◌↔◌}
-use Rattle.std.specs.Option.{is_some}
 use Rattle.xns_idp.specs.Packet.{PacketModel, broadcast}
 use Rattle.xns_host.specs.Ours.{IsToService}
 use Rattle.xns_host.specs.Services.{programs_at}

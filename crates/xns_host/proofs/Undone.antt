@@ -146,7 +146,7 @@ not_done_told c d is told left before = λ so_told.
     let closed : is_some c.closed ≡ true = told_closed c.told (is_some c.closed) (sym told ∙ so_told) (λ was. (before was).0) in
     let same : is_some d.closed ≡ true = ap (λ (x : Connection). is_some x.closed) is ∙ closed in
     let not = neither (is_some d.closed) d.told (is_dead d.closed) (is_none (due_time d.wait.due)) same so_told left in
-    (same, not.0, lingers_where d.wait.due (d.closed_due (some_not_none d.closed same)) not.1)
+    (same, not.0, lingers_where d.wait.due (d.fits.closed_due (some_not_none d.closed same)) not.1)
 
 -- a new one is not told of
 pub not_done_new : (c : Connection) → c.told ≡ false → IsNotDone c

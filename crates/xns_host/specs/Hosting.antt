@@ -39,15 +39,15 @@ use Rattle.xns_host.specs.declared.settings.Settings.{Settings}
 abbrev pub tells : Connection → Bool
 tells c = has_message c.conversation.side || (is_some c.closed && not c.told)
 
--- the program may be told something of it
+-- the program may be told something of the connection
 abbrev pub may_tell : Guest → Bool
 may_tell g = is_newly_open g || tells g.connection
 
--- since when it lingers, if it is closed and the program was told
+-- since when the connection lingers, if it is closed and the program was told
 abbrev pub lingers_since : Connection → Option ℕ
 lingers_since c = if is_some c.closed && c.told then due_time c.wait.due else None
 
--- since when its peer is silent, which opened it and said no more; nothing came of it yet
+-- when its peer was last heard, if that peer only opened the connection, and nothing came of the connection yet
 abbrev pub stranger_since : Guest → Option ℕ
 stranger_since g =
     if is_some g.opener && (not g.confirmed && (not g.heard_of &&
@@ -62,36 +62,36 @@ facts_of g = record {
   stranger_since = stranger_since g;
 }
 
--- one that is closed lingers no more, or is dead and did not linger
+-- a connection that is closed lingers no more, or is dead and did not linger
 abbrev pub is_past : Connection → Bool
 is_past c = is_dead c.closed || is_none (due_time c.wait.due)
 
--- it may be forgotten: it is closed, the program was told, and it lingers no more
+-- the connection may be forgotten: it is closed, the program was told, and it lingers no more
 abbrev pub may_go : Connection → Bool
 may_go c = is_some c.closed && (c.told && is_past c)
 
--- the one in this place may
+-- the connection in this place may be forgotten
 abbrev pub is_done : Option Guest → Bool
 is_done None = false
 is_done (Some g) = may_go g.connection
 
--- it waits to be forgotten
+-- the connection waits to be forgotten
 abbrev pub is_lingering : Due → Bool
 is_lingering Never = false
 is_lingering (AgainAt t) = false
 is_lingering (AskAt t) = false
 is_lingering (ForgetAt t) = true
 
--- where the program was told that it is closed, it is, is not dead, and lingers: so it may not be forgotten yet
+-- the connection may not be forgotten yet: where the program was told that it is closed, it is closed, is not dead, and lingers
 abbrev pub IsNotDone : Connection → Type 0
 IsNotDone c = c.told ≡ true → (is_some c.closed ≡ true) × (is_dead c.closed ≡ false) × (is_lingering c.wait.due ≡ true)
 
--- the one in this place
+-- the connection in this place may not be forgotten yet
 abbrev pub IsNotDoneIn : Option Guest → Type 0
 IsNotDoneIn None = Unit {0}
 IsNotDoneIn (Some g) = IsNotDone g.connection
 
--- so it is of each that is there
+-- no connection may be forgotten yet
 pub record HasNoneDone (guests : List (Option Guest)) : Type 0 where
   pub each : (k : ℕ) (g : Guest) → slice_get guests k ≡ Some (Some g) → IsNotDone g.connection
 
@@ -123,14 +123,14 @@ pub record HasActed (now : ℕ) (c next : Connection) : Type 0 where
   pub parts : parts_of next ≡ acted (parts_of c) now
   pub later : IsDueAfter now next.wait.due
 
--- and it is in this place or forgotten: one that may be forgotten now is
+-- what was due of the connection was done, and it is in this place, or it may be forgotten and is
 pub record ActsIn (now : ℕ) (c : Connection) (place : Option (Option Guest)) : Type 0 where
   pub next : Connection
   pub acts : HasActed now c next
   pub stays : StaysIn next place
   pub gone : may_go next ≡ true → place ≡ Some None
 
--- so it was of each connection
+-- what was due of each connection was done
 abbrev pub EachActs : ℕ → (old new : List (Option Guest)) → Type 0
 EachActs now old new = (k : ℕ) (g : Guest) → slice_get old k ≡ Some (Some g) → ActsIn now g.connection (slice_get new k)
 
@@ -145,20 +145,20 @@ abbrev pub facts_in : Option Guest → Facts
 facts_in None = NONE
 facts_in (Some g) = facts_of g
 
--- the agenda says of a place what the connection in it says, and whether there is one; one that has something to tell has a turn, and one
--- that has a turn may have something
+-- the agenda is right for this place: it says what the connection in the place says, and whether there is one. A connection that has
+-- something to tell has a turn, and one that has a turn may have something
 pub record IsNotedIn (a : Plan) (number : ℕ) (place : Option Guest) : Type 0 where
   pub facts : IsNoted a number (facts_in place)
   pub event : has_turn a.events number ≡ false → event_in number place ≡ None
   pub news : has_turn a.events number ≡ true → (facts_in place).has_event ≡ true
   pub free : has_turn a.free number ≡ is_none place
 
--- it does so of each place, but of the one with this number whether there is a connection in it alone
+-- the agenda is right for every place except `number`, where only the free flag is
 pub record IsNotedBut (a : Plan) (guests : List (Option Guest)) (number : ℕ) : Type 0 where
   pub others : (k : ℕ) (place : Option Guest) → k ≢ number → slice_get guests k ≡ Some place → IsNotedIn a k place
   pub free : (place : Option Guest) → slice_get guests number ≡ Some place → has_turn a.free number ≡ is_none place
 
--- it does so of each place: nothing that is to be done is forgotten, and nothing is kept of a connection that is gone
+-- the agenda is right for every place: nothing that is to be done is forgotten, and nothing is kept of a connection that is gone
 pub record IsAllNoted (a : Plan) (guests : List (Option Guest)) : Type 0 where
   pub each : (k : ℕ) (place : Option Guest) → slice_get guests k ≡ Some place → IsNotedIn a k place
 

@@ -7,7 +7,7 @@ use courier_messages::{Head, PiecedMessage};
 use courier_sessions::Answer;
 use xns_connection::Why;
 
-/// What a host tells its program of the connection with this number. Those of one connection come in the order in which they came to be.
+/// What a host tells its program of the connection with this number. The events of one connection come in the order in which they arose.
 #[derive(Debug, Drop)]
 pub enum Event {
     /// The peer has confirmed a connection that the program opened: a packet with the identifiers of both came. Told once, before all else of

@@ -1,6 +1,6 @@
 //! A connection in its place at a host.
 
-ghost use Rattle.std.specs.Prelude.{◌≡◌, ◌≢◌, ◌<◌, ℕ, List, OnErr, OnOk, Ok, None, Some};
+ghost use Rattle.std.specs.Prelude.{◌≡◌, ◌≢◌, ◌<◌, ℕ, List, OnErr, OnOk, Ok, None, Some, false, true};
 ghost use Rattle.xns_agenda.specs.Waiting.{IsDueAfter, last_time};
 ghost use Rattle.xns_host.specs.Events.{event_for, is_newly_open};
 ghost use Rattle.xns_host.specs.Hosting.{IsNotDone, facts_of, lingers_since, may_go, stranger_since};
@@ -32,34 +32,44 @@ use xns_spp::SppPacket;
 #[derive(Drop)]
 pub struct Guest {
     pub connection: Connection,
-    /// The program's number of the way by which its packets go out.
+    /// The program's number for the route of its packets.
     pub via: u64,
-    /// Our own identifier.
+    /// Our own identifier of the connection.
     pub id: u16,
-    /// Whom it was opened to, or who opened it.
+    /// Whom we opened the connection to, or who opened it.
     pub peer: Address,
-    /// Who opened it. `None`: we did.
+    /// Who opened the connection. `None`: we did.
     pub opener: Option<Peer>,
-    /// Whether a packet with our identifier came.
+    /// Whether a packet of the connection with our identifier came.
     pub confirmed: bool,
-    /// Whether the program was told of a call of it.
+    /// Whether the program was told of a call of the connection.
     pub heard_of: bool,
-    /// Whether it is still to be told that the connection is open, once that is confirmed: nothing of it was told yet.
+    /// Whether the program is still to be told that the connection is open, once that is confirmed: nothing of the connection was told yet.
     pub opening_untold: bool,
-    /// The program's own number of it, which its events have. 0: none was set.
+    /// The program's own number for the connection, which its events have. 0: none was set.
     pub tag: u64,
 }
 
 impl Guest {
-    /// Takes in a packet of the connection that was read from bytes, at this time; whether it confirms the connection is told. Where memory
-    /// is refused it is as if the packet were lost.
-    pub fn receive(&mut self, alloc: Global, now: u64, confirms: bool, packet: &SppPacket)
+    /// Takes in a packet that was read from bytes, at this time, if the packet belongs to the connection; whether it does. The caller says
+    /// whether the packet confirms the connection. Where memory is refused it is as if the packet were lost.
+    pub fn receive(&mut self, alloc: Global, now: u64, confirms: bool, packet: &SppPacket) -> bool
         requires { IsSppPacket packet.now }
-        ensures { (b : List ℕ) → spp_packet_of b ≡ Ok packet.now → GuestHears now b confirms self.old self.new }
+        ensures ours { (s : State) → StandsFor self.old.connection.conversation.endpoint s → result ≡ is_ours_at s.ends packet.now }
+        ensures hears { result ≡ true → (b : List ℕ) → spp_packet_of b ≡ Ok packet.now → GuestHears now b confirms self.old self.new }
+        ensures foreign { result ≡ false → self.new ≡ self.old }
     {
-        if let Ok(()) = self.connection.receive(alloc, now, packet) {
-            self.confirmed = confirms || self.confirmed;
+        let Ok(ours) = self.connection.receive(alloc, now, packet) else {
+            return true;
+        };
+        if !ours {
+            return false;
         }
+        if !confirms {
+            return true;
+        }
+        self.confirmed = true;
+        true
     }
 
     /// Puts out a call.
@@ -93,14 +103,14 @@ impl Guest {
         self.connection.close(alloc, now);
     }
 
-    /// Gives it a tag.
+    /// Gives the connection a tag.
     pub fn set_tag(&mut self, tag: u64)
         ensures { GuestTagged tag self.old self.new }
     {
         self.tag = tag;
     }
 
-    /// Nobody hears the packets of the connection, as an Error packet of this number says: it is closed, unless it is closed already.
+    /// Closes the connection, unless it is closed: an Error packet of this number says that nobody hears its packets.
     pub fn not_served(&mut self, now: u64, error: u16)
         ensures unserved { GuestUnserved now error self.old self.new }
         ensures goes { Goes self.old.connection.conversation self.new.connection.conversation }
@@ -109,7 +119,7 @@ impl Guest {
         self.connection.not_served(now, error);
     }
 
-    /// Does what is due.
+    /// Does what is due of the connection.
     pub fn act(&mut self, now: u64)
         ensures acts { GuestActs now self.old self.new }
         ensures goes { Goes self.old.connection.conversation self.new.connection.conversation }
@@ -118,7 +128,7 @@ impl Guest {
         self.connection.act(now);
     }
 
-    /// Whether it is to be told that the connection is open.
+    /// Whether the program is to be told that the connection is open.
     #[inline(always)]
     fn is_newly_open(&self) -> bool
         ensures { result ≡ is_newly_open self.now }
@@ -126,7 +136,7 @@ impl Guest {
         self.opening_untold && self.confirmed
     }
 
-    /// What the program is told of the connection, which has this number, once. `None`: nothing.
+    /// Takes the next event of this connection, which has this number. `None`: there is none.
     pub fn tell(&mut self, alloc: Global, now: u64, number: usize) -> Option<Event>
         ensures event { result ≡ event_for number self.old }
         ensures tells { result ≢ None → GuestReports now self.old self.new }
@@ -153,7 +163,7 @@ impl Guest {
         })
     }
 
-    /// The next packet that is to go out. `None`: there is none, until something is done again. The only error is
+    /// The next packet of the connection that is to go out. `None`: there is none, until something is done again. The only error is
     /// [`HostFault::NoMemory`]: what is to go out stays so.
     pub fn next_packet(&mut self, alloc: Global, now: u64) -> Result<Option<Outgoing>, HostFault>
         ensures { GuestGives now result self.old self.new }
@@ -170,14 +180,7 @@ impl Guest {
         }
     }
 
-    /// Whether a packet is one of the connection.
-    pub fn is_ours(&self, packet: &SppPacket) -> bool
-        ensures { (s : State) → StandsFor self.now.connection.conversation.endpoint s → result ≡ is_ours_at s.ends packet.now }
-    {
-        self.connection.is_ours(packet)
-    }
-
-    /// Whether a quoted packet went from the connection to its peer, lately.
+    /// Whether a quoted packet went lately from the connection to its peer.
     pub fn is_sent_by(&self, quote: &Quote) -> bool
         ensures { (s : State) → StandsFor self.now.connection.conversation.endpoint s → result ≡ is_sent_by self.now s quote.now }
     {
@@ -189,7 +192,7 @@ impl Guest {
             && self.connection.is_out(quote.sequence)
     }
 
-    /// Since when it lingers, if it is closed and the program was told.
+    /// Since when the connection lingers. `None`: it is open, or the program was not told that it is closed.
     #[inline(always)]
     fn lingers_since(&self) -> Option<u64>
         ensures { result ≡ lingers_since self.now.connection }
@@ -201,7 +204,7 @@ impl Guest {
         }
     }
 
-    /// Since when its peer is silent, which opened it and said no more.
+    /// When its peer was last heard, if that peer only opened the connection.
     #[inline(always)]
     fn stranger_since(&self) -> Option<u64>
         ensures { result ≡ stranger_since self.now }
@@ -218,7 +221,7 @@ impl Guest {
         }
     }
 
-    /// What a host has to know of it.
+    /// What a host has to know of the connection.
     #[inline(always)]
     pub fn facts(&self) -> Facts
         ensures { result ≡ facts_of self.now }
@@ -232,7 +235,7 @@ impl Guest {
         }
     }
 
-    /// Whether it may be forgotten: it is closed, the program was told, and it lingers no more.
+    /// Whether the connection may be forgotten: it is closed, the program was told, and it lingers no more.
     pub fn is_done(&self) -> bool
         ensures { result ≡ may_go self.now.connection }
     {

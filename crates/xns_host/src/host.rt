@@ -56,11 +56,11 @@ pub struct Host {
     ghost sized: { length guests.items ≡ length agenda.dues },
     ghost few: { length guests.items ≤ most_connections },
     ghost settled: { length guests.items ≡ settings.connections },
-    // What is to be done of each connection is noted, and of nothing else.
+    // The agenda says what is to be done of each connection, and of nothing else.
     ghost noted: { IsAllNoted agenda guests.items },
-    // The register leads to each connection what names it, and nothing else anywhere.
+    // The register leads each name of a connection to that connection, and nothing else anywhere.
     ghost registered: { IsAllRegistered register guests.items },
-    // One that may be forgotten is.
+    // Each connection that may be forgotten is forgotten.
     ghost not_done: { HasNoneDone guests.items },
 }
 
@@ -311,7 +311,7 @@ impl Host {
         Ok(())
     }
 
-    /// When the first of what it wants is, by its own time; 0 is at once.
+    /// When the host wants to be asked at the latest, by its own time; 0 is at once. `None`: never, until something is done.
     fn first_want(&self) -> Option<u64>
         ensures { IsFirstWant self.now.strays.waiting self.now.guests.items self.now.agenda.short result }
     {

@@ -1,9 +1,9 @@
 use xns_spp::Bytes;
 
-/// A packet that is to go out, and by which way.
+/// A packet that is to go out, and its route.
 #[derive(Drop)]
 pub struct Outgoing {
-    /// The program's number of the way by which it goes out: that of its connection, or that of the packet that it answers.
+    /// The program's number for the route of the packet: that of its connection, or that of the packet that it answers.
     pub via: u64,
     pub packet: Bytes,
 }

@@ -1,6 +1,6 @@
 //! Which connection a packet names.
 
-ghost use Rattle.std.specs.Prelude.{◌≡◌, ◌≢◌, ◌<◌, ℕ, true, false, IfOk, IfSome, OnOk, OnErr, Some, None, position, slice_get, slice_set};
+ghost use Rattle.std.specs.Prelude.{◌≡◌, ◌≢◌, ◌<◌, ℕ, true, IfOk, IfSome, OnOk, OnErr, Some, None, position, slice_get, slice_set};
 ghost use Rattle.std.specs.BTreeMap.{IsEmpty, IsUnchanged, Updates};
 ghost use Rattle.xns_host.specs.Identifiers.{Gives, IsNext, is_free, most_id, numbers, order_of};
 ghost use Rattle.xns_host.specs.Register.{number_by, owner_in, peer_cmp};

@@ -1,4 +1,4 @@
-ghost use Rattle.std.specs.Prelude.{◌≡◌, Ok, IfOk, OnOk};
+ghost use Rattle.std.specs.Prelude.{◌≡◌, Ok, OnOk};
 ghost use Rattle.xns_host.specs.Settings.{usual_settings, settings_answer, wrong_setting, is_within, AreTermsOf, IsFit, IsPaceOf};
 
 use crate::host_fault::HostFault;

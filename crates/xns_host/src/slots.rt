@@ -1,14 +1,15 @@
-//! What is done of one of a host's connections, in its place.
+//! What a host does to one of its connections, in its place.
 
-ghost use Rattle.std.specs.Prelude.{◌≡◌, ◌<◌, List, Option, length, false, IfOk, Some, None};
+ghost use Rattle.std.specs.Prelude.{◌≡◌, ◌<◌, Option, length, false, IfOk, Some, None};
 ghost use Rattle.std.specs.Prelude.{count_by, replicate, slice_get, slice_set};
 ghost use Rattle.std.specs.Option.{is_some};
 ghost use Rattle.xns_agenda.specs.Agenda.{noted, released};
 ghost use Rattle.xns_agenda.specs.Turns.{with_turn};
 ghost use Rattle.xns_host.specs.Hosting.{IsAllNoted, IsNotedBut, facts_in};
 ghost use Rattle.xns_host.specs.Identifiers.{StaysInOrder};
-ghost use Rattle.xns_host.specs.Places.{places_with, taken_by, vacated, vacated_if};
+ghost use Rattle.xns_host.specs.Places.{places_with, vacated_if};
 ghost use Rattle.xns_host.specs.Registered.{HasLeft, HasRegistered, IsAllRegistered};
+ghost use Rattle.xns_host.specs.Seating.{GetsPlace};
 ghost use Rattle.xns_host.specs.declared.guest.Guest.{Guest};
 
 use crate::guest::Guest;
@@ -16,7 +17,7 @@ use crate::register::Register;
 use std::alloc::{AllocError, Global};
 use xns_agenda::{Agenda, Facts};
 
-/// Places for so many connections.
+/// Places for so many connections, all of them empty.
 pub fn no_guests(alloc: Global, most: usize) -> Result<Vec<Option<Guest>>, AllocError>
     ensures { IfOk result (λ v. v.items ≡ replicate most None) }
 {
@@ -27,7 +28,7 @@ pub fn no_guests(alloc: Global, most: usize) -> Result<Vec<Option<Guest>>, Alloc
     Ok(guests)
 }
 
-/// What a host has to know of the connection of a place.
+/// What a host has to know of the connection in a place.
 #[inline(always)]
 pub fn facts_in(place: &Option<Guest>) -> Facts
     ensures { result ≡ facts_in place.now }
@@ -38,21 +39,21 @@ pub fn facts_in(place: &Option<Guest>) -> Facts
     }
 }
 
-/// Whether there is something in a place.
+/// Whether a place is taken.
 fn is_taken<T>(place: &Option<T>) -> bool
     ensures { result ≡ is_some place.now }
 {
     place.is_some()
 }
 
-/// In how many places there is something.
+/// How many places are taken.
 pub fn count<T>(places: &[Option<T>]) -> usize
     ensures { result ≡ count_by is_some places.now }
 {
     places.iter().filter(|place| is_taken(place)).count()
 }
 
-/// Notes what is to be done of the connection with this number.
+/// Notes in the agenda what is to be done of the connection with this number.
 #[inline(always)]
 #[tactic(auto, using(crate::proofs::Noting::noted_all))]
 pub fn note(guests: &[Option<Guest>], agenda: &mut Agenda, number: usize)
@@ -152,7 +153,7 @@ pub fn settle_in(
     }
 }
 
-/// Puts a new connection, which the register knows, into its place, whose old one gives way.
+/// Puts a new connection into a place. The register knows the new connection already; the one that was in the place gives way.
 pub fn put_in(
     register: &mut Register,
     guests: &mut Vec<Option<Guest>>,
@@ -164,12 +165,7 @@ pub fn put_in(
     requires sized { length guests.old.items ≡ length agenda.old.dues }
     requires noted { IsAllNoted agenda.old guests.old.items }
     requires registered { HasRegistered register.old guests.old.items number guest }
-    ensures noted { IsAllNoted agenda.new guests.new.items }
-    ensures sized { length agenda.new.dues ≡ length agenda.old.dues }
-    ensures room { length guests.new.items ≡ length guests.old.items }
-    ensures registered { IsAllRegistered register.new guests.new.items }
-    ensures order { StaysInOrder register.old.identifiers register.new.identifiers }
-    ensures places { places_with guests.new.items agenda.new ≡ taken_by (vacated (places_with guests.old.items agenda.old) number) number guest }
+    ensures { GetsPlace number guest register.old register.new (places_with guests.old.items agenda.old) (places_with guests.new.items agenda.new) }
 {
     forget_in(register, guests, agenda, number);
     fill(guests, agenda, number, guest);

@@ -20,7 +20,7 @@ impl Host {
     ghost use Rattle.xns_host.specs.declared.guest.Guest.{Guest};
     ghost use Rattle.xns_host.specs.declared.host_fault.HostFault.TheVariants.{NoMemory};
 
-    /// What the connection with this number has to tell the program, if it has anything: it has had its turn.
+    /// Takes the next event of connection `number`, and moves it to the back of the queue. `None`: it has no event, and leaves the queue.
     #[tactic(auto, using(crate::proofs::Turns::put_registered, crate::proofs::Turns::put_undone))]
     fn event(&mut self, number: usize) -> Option<Event>
         requires { number < length self.old.guests.items }
@@ -62,7 +62,7 @@ impl Host {
         None
     }
 
-    /// Does what is due of the connection with this number.
+    /// Does what is due of connection `number`.
     #[tactic(auto, using(crate::proofs::Noting::put_back, crate::proofs::Turns::put_registered, crate::proofs::Turns::put_undone))]
     fn act(&mut self, now: u64, number: usize)
         ensures turn { (g : Guest) → slice_get self.old.guests.items number ≡ Some (Some g)
@@ -92,7 +92,7 @@ impl Host {
         );
     }
 
-    /// Does what is due, of each connection.
+    /// Does all that is due, of each connection.
     fn act_all(&mut self, now: u64)
         ensures one_by_one { Acts now (places_of self.old) (places_of self.new) }
         ensures acts { now < last_time → EachActs now self.old.guests.items self.new.guests.items }
@@ -108,7 +108,7 @@ impl Host {
         }
     }
 
-    /// The next packet of the connection with this number, which has had its turn.
+    /// Takes the next packet of connection `number`, and moves it to the back of the queue. `None`: it has no packet, and leaves the queue.
     #[tactic(auto, using(crate::proofs::Noting::put_back, crate::proofs::Turns::put_registered, crate::proofs::Turns::put_undone))]
     fn packet(&mut self, now: u64, number: usize) -> Result<Option<Outgoing>, HostFault>
         requires within { number < length self.old.guests.items }
@@ -131,7 +131,7 @@ impl Host {
         made
     }
 
-    /// Memory was refused for a packet: packets of connections are asked for again the first wait later.
+    /// Notes that memory was refused for a packet: connections are asked for packets again when the first wait is over.
     #[tactic(auto, using(crate::proofs::Noting::rested_all))]
     fn rest(&mut self, now: u64)
         ensures rests { places_of self.new ≡ resting (places_of self.old) (later now self.old.settings.first_wait) }

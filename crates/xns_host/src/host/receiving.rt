@@ -57,7 +57,8 @@ impl Host {
         self.complain(via, &packet, bytes)
     }
 
-    /// Takes a packet in that is of a connection, an Echo request, or opens a connection, or an Error packet about one; whether it is such.
+    /// Takes in a packet that is for the host: one that belongs to a connection or opens one, an Echo request, or an Error packet about a
+    /// packet of a connection; whether it is for the host.
     fn take(&mut self, now: u64, via: u64, packet: &Packet<'_>, bytes: &[u8]) -> bool
         requires fits { IsPacket (packet_model packet.now) }
         requires size { length packet.now.body.now ≤ most_data }
@@ -73,7 +74,7 @@ impl Host {
         }
     }
 
-    /// Whether a packet is a sequenced one of one host, to a socket of this host that is served.
+    /// Whether a packet is a sequenced one, from one host, to a socket of this host that is served.
     #[tactic(auto, using(crate::proofs::Complaints::to_service, crate::proofs::Complaints::of_every_host))]
     fn is_to_service(&self, packet: &Packet<'_>) -> bool
         ensures yes { result ≡ true → IsToService (whole_of self.now) (packet_model packet.now) }
@@ -94,7 +95,7 @@ impl Host {
         true
     }
 
-    /// Complains of a packet which nobody hears, by an Error packet, if it is a sequenced one to a socket that is served; whether it is.
+    /// Answers a sequenced packet to a socket that is served by an Error packet: nobody hears it there. Whether the packet is such a one.
     fn complain(&mut self, via: u64, packet: &Packet<'_>, bytes: &[u8]) -> bool
         ensures served { result ≡ true → IsToService (whole_of self.old) (packet_model packet.now) }
         ensures unserved { result ≡ false → IsToService (whole_of self.old) (packet_model packet.now) → ⊥ }
@@ -113,8 +114,8 @@ impl Host {
         true
     }
 
-    /// Answers an Echo request, if the settings say so; whether it did. One from the broadcast host is not answered. Where there is no room
-    /// or no memory it is as if lost.
+    /// Answers an Echo request, if the settings say so; whether the packet is one that is answered. A request from the broadcast host is
+    /// not. Where there is no room or no memory for the answer, it is as if lost.
     #[tactic(auto, using(crate::proofs::Echoes::asks_echo, crate::proofs::Echoes::quiet, crate::proofs::Echoes::every_host, crate::proofs::Echoes::no_request))]
     fn echo(&mut self, via: u64, packet: &Packet<'_>) -> bool
         requires { length packet.now.body.now ≤ most_data }
@@ -139,7 +140,7 @@ impl Host {
         }
     }
 
-    /// Closes the connection of which an Error packet quotes a packet that went out lately; whether there is one.
+    /// Closes the connection of which an Error packet quotes a packet that went out lately; whether there is such a connection.
     fn refused(&mut self, now: u64, packet: &Packet<'_>) -> bool
         ensures refuses { packet.now.kind ≡ ERROR → result ≡ true → (quotes : QuotesOurs (whole_of self.old) (packet_model packet.now))
             × Turns (GuestUnserved now quotes.quote.error) quotes.number (places_of self.old) (places_of self.new) }
@@ -187,7 +188,7 @@ impl Host {
         true
     }
 
-    /// Takes a sequenced packet in; whether it was for the host. One from the broadcast host opens no connection.
+    /// Takes in a sequenced packet; whether it is for the host. A packet from the broadcast host opens no connection.
     fn sequenced(&mut self, now: u64, via: u64, carrier: &Packet<'_>, bytes: &[u8]) -> bool
         requires fits { IsPacket (packet_model carrier.now) }
         requires size { length carrier.now.body.now ≤ most_data }
@@ -217,7 +218,7 @@ impl Host {
         self.opening(now, via, peer, &packet, bytes)
     }
 
-    /// Takes a packet in that names the connection with this number; whether it is one of it.
+    /// Takes in a packet that names connection `number`, if the packet belongs to that connection; whether it does.
     #[tactic(auto, using(crate::proofs::Noting::put_back, crate::proofs::Turns::put_registered, crate::proofs::Turns::put_undone))]
     fn hear(&mut self, now: u64, number: usize, confirms: bool, packet: &SppPacket) -> bool
         requires { IsSppPacket packet.now }
@@ -239,16 +240,15 @@ impl Host {
         let Some(guest) = &mut self.guests[number] else {
             return false;
         };
-        if !guest.is_ours(packet) {
+        if !guest.receive(self.alloc, now, confirms, packet) {
             return false;
         }
-        guest.receive(self.alloc, now, confirms, packet);
         note(self.guests.as_slice(), &mut self.agenda, number);
         true
     }
 
-    /// Takes a packet in that names no connection; whether it opens one at a socket that is served. Where there is no room, the host
-    /// complains; where memory is refused, that is noted, and the packet is as if lost.
+    /// Takes in a packet that names no connection, if it opens one at a socket that is served; whether it does. Where there is no room, the
+    /// host complains; where memory is refused, that is noted, and the packet is as if lost.
     fn opening(
         &mut self,
         now: u64,

@@ -1,4 +1,4 @@
-use Rattle.std.proofs.Common.{◌∙◌, ap, refl}
+use Rattle.std.proofs.Common.{ap, refl}
 use Rattle.xns_connection.specs.Deeds.{gave}
 use Rattle.xns_connection.specs.Moving.{scene}
 use Rattle.xns_connection.specs.declared.conversation.Conversation.{Conversation}

@@ -1,4 +1,4 @@
-use Rattle.std.proofs.Common.{◌∙◌, ap, refl}
+use Rattle.std.proofs.Common.{ap, refl}
 use Rattle.xns_connection.specs.Calls.{call_model}
 use Rattle.xns_connection.specs.Deeds.{made}
 use Rattle.xns_connection.specs.Moving.{scene}

@@ -1,8 +1,7 @@
-use Rattle.std.proofs.Common.{◌≡◌, ◌∙◌, ◌<◌, refl, rules, arith, subst, sym, length, slice_get, ℕ, List, Option, Some}
+use Rattle.std.proofs.Common.{◌<◌, refl, rules, arith, subst, sym, length, slice_get, ℕ, List, Option, Some}
 use Rattle.std.specs.Prelude.{slice_set}
 use Rattle.std.proofs.lemmas.List.{length-set}
 use Rattle.xns_host.specs.Hosting.{ActsIn}
-use Rattle.xns_host.specs.Places.{ActsAt, places_with}
 use Rattle.xns_host.specs.declared.guest.Guest.{Guest}
 use Rattle.xns_host.proofs.Apart.{apart_then, set_there}
 use Rattle.xns_host.proofs.Done.{act_settled}

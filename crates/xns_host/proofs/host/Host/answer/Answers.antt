@@ -1,4 +1,4 @@
-use Rattle.std.proofs.Common.{subst, ◌≡◌, ◌∙◌, refl, rules, arith, Some, Ok}
+use Rattle.std.proofs.Common.{subst, ◌≡◌, refl, rules, arith, Some, Ok}
 use Rattle.xns_connection.specs.Deeds.{gave}
 use Rattle.xns_connection.specs.Reasons.{answer_fault_of}
 use Rattle.xns_host.specs.Refusing.{TellsRefusal}

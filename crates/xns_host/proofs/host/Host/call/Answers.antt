@@ -1,4 +1,4 @@
-use Rattle.std.proofs.Common.{subst, ◌≡◌, ◌∙◌, refl, rules, arith, Some, Ok}
+use Rattle.std.proofs.Common.{subst, ◌≡◌, refl, rules, arith, Some, Ok}
 use Rattle.xns_connection.specs.Calls.{call_model}
 use Rattle.xns_connection.specs.Deeds.{made}
 use Rattle.xns_connection.specs.Reasons.{call_fault_of}

@@ -1,4 +1,4 @@
-use Rattle.std.proofs.Common.{◌∙◌, refl, rules, arith, Some}
+use Rattle.std.proofs.Common.{refl, rules, arith, Some}
 use Rattle.xns_connection.specs.Deeds.{asked}
 use Rattle.xns_host.proofs.Turns.{is_there, not_none, set_apart, stays_noted, stays_registered, stays_undone, step_stays, step_undone, went_set}
 use Rattle.xns_host.proofs.host.Host.close.Goals as goal

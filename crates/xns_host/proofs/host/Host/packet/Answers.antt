@@ -1,4 +1,4 @@
-use Rattle.std.proofs.Common.{◌≡◌, ◌∙◌, ap, refl, rules, arith, sym, false, Bool, None, Ok, Some, Result, Option}
+use Rattle.std.proofs.Common.{◌≡◌, ◌∙◌, ap, rules, sym, false, Bool, Some}
 use Rattle.xns_agenda.specs.Agenda.{Plan}
 use Rattle.xns_agenda.specs.Turns.{with_turn}
 use Rattle.xns_host.specs.Went.{GuestGives}

@@ -1,7 +1,5 @@
-use Rattle.std.proofs.Common.{◌≡◌, ◌∙◌, ap, inl, inr, rules, subst, sym, ℕ, List}
-use Rattle.xns_small.specs.ErrorReport.{MayBeComplainedOf, complaint}
-use Rattle.xns_idp.specs.declared.address.Address.{Address}
-use Rattle.xns_host.specs.Strays.{HasComplained, MayHaveStray, StrayQueue, complains, forbears, lost_stray, stray_of, with_stray}
+use Rattle.std.proofs.Common.{inl, inr, rules}
+use Rattle.xns_host.specs.Strays.{complains, forbears}
 use Rattle.xns_host.proofs.strays.Strays.complain.Goals as goal
 
 pub returns-in-Ok-Some : goal.returns-in-Ok-Some
