@@ -63,7 +63,7 @@ pub record IsOutcome (h g : Story) (k : ℕ) (m : Message) : Type 0 where
   pub answered : slice_get g.answers k ≡ Some m
   pub number : transaction_in m ≡ transaction_in call
 
--- one that called, and one that was called for these programs
+-- a connection that called, and one that was called for these programs
 pub record Agree (programs : List Program) (h g : Story) : Type 0 where
   -- the calls taken are those made, in order, as far as they came
   pub calls : Begins g.taken (made_messages 1 h.made)

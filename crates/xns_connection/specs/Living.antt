@@ -52,7 +52,7 @@ pub data Reaches (s : State) : State → Type 0 where
   runs : {v w : State} → Reaches s v → Runs v w → Reaches s w
   receives : {v : State} → Reaches s v → (bytes : List ℕ) → Reaches s (after_receive v bytes)
 
--- of the answers to these calls, in order, those to the listed ones
+-- the answers to the listed ones of these calls, in order
 unfoldable pub to_listed : List Program → (calls answers : List Message) → List Message
 to_listed programs [] answers = []
 to_listed programs (c ∷ cs) [] = []

@@ -70,21 +70,21 @@ pub record Goes (old new : Conversation) : Type 0 where
   pub wanted : old.closing.wanted ≡ true → new.closing.wanted ≡ true
   pub on : (h : Story) → Tells old h → (m : Story) × Tells new m × GoesOn h m
 
--- the same, and it gives this packet, or none: the first of those that waited and of those that were made on the way, behind; the others
+-- the connection went on, and gives this packet, or none: the first of those that waited and of those made on the way, behind; the others
 -- wait, in order
 pub record Gives (old new : Conversation) (packet : Option (List ℕ)) : Type 0 where
   pub on : (h : Story) → Tells old h
       → (m : Story) × Tells new m × (on : GoesOn h m) × (option_to_list packet ++ new.packets.items ≡ old.packets.items ++ made_on on.path)
 
--- the same, after what can move has moved, and nothing was added to the packets that wait
+-- items moved, and nothing was added to the packets that wait; then the connection gives this packet, or none
 abbrev pub MovesAndGives : (old new : Conversation) → Option (List ℕ) → Type 0
 MovesAndGives old new packet = (mid : Conversation) × Goes old mid × (mid.packets ≡ old.packets) × Gives mid new packet
 
--- the same, and no item is left that may go out for the first time
+-- the connection went on, and no item is left that may go out for the first time
 pub record Rested (old new : Conversation) : Type 0 where
   pub on : (h : Story) → Tells old h → (m : Story) × Tells new m × GoesOn h m × (flush_answer m.state ≡ [])
 
--- the same, from where it is after these bytes came
+-- the connection went on from where it is after these bytes came
 pub record Hears (old new : Conversation) (bytes : List ℕ) : Type 0 where
   pub wanted : old.closing.wanted ≡ true → new.closing.wanted ≡ true
   pub on : (h : Story) → Tells old h → (m : Story) × Tells new m × GoesOn (record h { state = after_receive h.state bytes }) m
@@ -109,11 +109,11 @@ OwesRoom old new word = (s v : State) → StandsFor old s → StandsFor new v �
 abbrev pub is_progress : State → State → Bool
 is_progress s v = nat_lt (unacknowledged_count v) (unacknowledged_count s) || (is_open v.ends && not (is_open s.ends))
 
--- the same, up to where no item can move between the side and its end, and no call is to be rejected
+-- the connection went on up to where no item can move between the side and its end, and no call is to be rejected
 pub record Calm (old new : Conversation) : Type 0 where
   pub on : (h : Story) → Tells old h → (m : Story) × Tells new m × GoesOn h m × IsMoved new.side m.state × IsListed new.side
 
--- the same, from where it is after something else was done
+-- something else was done, and then the connection went on up to where no item can move, and no call is to be rejected
 pub record CalmFrom (old new : Conversation) (base : Story → Story) : Type 0 where
   pub on : (h : Story) → Tells old h → (m : Story) × Tells new m × GoesOn (base h) m × IsMoved new.side m.state × IsListed new.side
 

@@ -57,8 +57,8 @@ pub data Comes (now way : ℕ) (bytes : List ℕ) (w : Whole) : Bool → Whole �
   opens : (p : SppPacketModel) {register : Register} {strays : StrayQueue} {q : Places} → spp_packet_of bytes ≡ Ok p → IsOpener w p
       → Opens now way bytes p w register strays q → Comes now way bytes w true (record w { register = register; strays = strays; places = q })
 
--- so it is, where that made the bytes the host's. Else nothing changes, but that the host complains of a sequenced packet to a socket that it
--- serves, which nobody hears there
+-- these bytes came to the host: they are the host's. Or they are not, and nothing changes, but that the host complains of a sequenced packet
+-- to a socket that it serves, which nobody hears there
 pub data Arrives (now way : ℕ) (bytes : List ℕ) (w : Whole) : Bool → Whole → Type 0 where
   meant : {v : Whole} → Comes now way bytes w true v → Arrives now way bytes w true v
   unheard : (p : PacketModel) (taken : ℕ) {strays : StrayQueue} → Comes now way bytes w false w → packet_of bytes ≡ Ok (p, taken)

@@ -185,7 +185,7 @@ pub record IsFirstWant (strays : List Outgoing) (guests : List (Option Guest)) (
 
 -- ---- what goes out
 
--- of no connection a packet may be to go out
+-- no connection may have a packet that is to go out
 abbrev pub HasNoPacket : List (Option Guest) → Type 0
 HasNoPacket guests = (k : ℕ) (g : Guest) → slice_get guests k ≡ Some (Some g) → g.connection.owed.fresh ≡ false
 
@@ -244,7 +244,7 @@ IsAllInUse ids = position (is_free ids.owners) ids.ahead ≡ None
 
 -- ---- an Error packet
 
--- it quotes a packet that went out of this connection lately, and its number says that nobody hears that
+-- the Error packet quotes a packet that went out of this connection lately, and its number says that nobody hears it
 pub record IsRefusedBy (host : List ℕ) (p : PacketModel) (guest : Guest) : Type 0 where
   pub kind : p.kind ≡ ERROR
   pub here : p.target.host ≡ host

@@ -15,7 +15,7 @@ pub record Known : Type 0 where
 abbrev pub known_of : Guest → Known
 known_of g = record { id = g.id; opener = g.opener; via = g.via; peer = g.peer }
 
--- of the one in this place
+-- what a host knows of the connection in this place
 abbrev pub known_in : Option Guest → Option Known
 known_in None = None
 known_in (Some g) = Some (known_of g)

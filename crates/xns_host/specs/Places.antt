@@ -39,7 +39,7 @@ vacated_if false p number = p
 abbrev pub became : Places → ℕ → Guest → Places
 became p number g = vacated_if (may_go g.connection) (seated p number g) number
 
--- this new connection takes this place
+-- the places when this new connection took this one
 abbrev pub taken_by : Places → ℕ → Guest → Places
 taken_by p number g = seated (record p { agenda = record p.agenda { free = with_turn p.agenda.free number false } }) number g
 
@@ -57,7 +57,7 @@ pub record Turns (P : Guest → Guest → Type 0) (number : ℕ) (p r : Places) 
 abbrev pub event_passed : Places → ℕ → Places
 event_passed p number = record p { agenda = record p.agenda { events = with_turn p.agenda.events number false } }
 
--- it was asked what it has to tell: nothing; or it told that
+-- the connection with this number was asked what it has to tell: it has nothing; or it told this event
 pub data AsksEvent (now number : ℕ) (p : Places) : Option Event → Places → Type 0 where
   quiet : (place : Option Guest) → slice_get p.guests number ≡ Some place → event_in number place ≡ None
       → AsksEvent now number p None (event_passed p number)
@@ -85,12 +85,12 @@ pub record ActsAt (now number : ℕ) (p r : Places) : Type 0 where
   pub acts : GuestActs now guest next
   pub is : r ≡ became p number next
 
--- so it was, one after another, of those of which something was due
+-- what was due was done, of one connection after another of which something was due
 pub data Acts (now : ℕ) (p : Places) : Places → Type 0 where
   nobody : Acts now p p
   another : {q r : Places} (number : ℕ) → Acts now p q → IsFirstBy q.agenda.dues now number → ActsAt now number q r → Acts now p r
 
--- so it was of all
+-- what was due of each connection was done
 pub record ActsAll (now : ℕ) (p r : Places) : Type 0 where
   pub one_by_one : Acts now p r
   pub all : now < last_time → EachActs now p.guests r.guests
@@ -101,7 +101,7 @@ pub record ActsAll (now : ℕ) (p r : Places) : Type 0 where
 abbrev pub packet_passed : Places → ℕ → Places
 packet_passed p number = record p { agenda = record p.agenda { packets = with_turn p.agenda.packets number false } }
 
--- it was asked for a packet
+-- the connection with this number was asked for a packet
 abbrev pub AsksPacket : (now number : ℕ) → Result (Option Outgoing) HostFault → (p r : Places) → Type 0
 AsksPacket now number result p r = Turns (GuestGives now result) number (packet_passed p number) r
 

@@ -39,7 +39,7 @@ abbrev pub quote_of : Result ErrorReportModel SmallFault → Option Quote
 quote_of (Err e) = None
 quote_of (Ok report) = if is_unheard report.number then quote_in report.number report.quoted else None
 
--- of the body of an Error packet whose number says that nobody hears it
+-- what the body of an Error packet quotes whose number says that nobody hears the quoted packet
 abbrev pub quoted_packet : List ℕ → Option Quote
 quoted_packet body = quote_of (error_of body)
 

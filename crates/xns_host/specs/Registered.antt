@@ -27,19 +27,19 @@ pub record FitsEnd (g : Guest) : Type 0 where
   pub id : story.state.ends.id ≡ g.id
   pub opener : story.state.ends.role ≡ Responder → g.opener ≡ Some (opener_at story.state.ends)
 
--- so it is of the one in this place
+-- what is noted of the connection in this place is what its end has
 abbrev pub FitsEndIn : Option Guest → Type 0
 FitsEndIn None = ⊥
 FitsEndIn (Some g) = FitsEnd g
 
--- it is so of this connection, and the register leads to this number what names it
+-- what is noted of this connection is what its end has, and the register leads each of its names to this number
 pub record IsRegistered (r : Register) (number : ℕ) (g : Guest) : Type 0 where
   pub fits : ∥ FitsEnd g ∥₁
   pub known : 0 < g.id
   pub own : owner_in r.identifiers g.id ≡ Some number
   pub opener : (o : Peer) → g.opener ≡ Some o → get peer_cmp r.peers o ≡ Some number
 
--- it does so of each connection, and leads to nothing else
+-- the register leads each name of each connection to its number, and leads to nothing else
 pub record IsAllRegistered (r : Register) (guests : List (Option Guest)) : Type 0 where
   pub each : (n : ℕ) (g : Guest) → slice_get guests n ≡ Some (Some g) → IsRegistered r n g
   pub ids : (id n : ℕ) → owner_in r.identifiers id ≡ Some n → ∥ IsThere (λ g. g.id ≡ id) (slice_get guests n) ∥₁

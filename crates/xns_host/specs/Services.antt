@@ -6,7 +6,7 @@ use Rattle.std.specs.declared.vec.Vec.{Vec}
 use Rattle.std.specs.Global.{Global}
 use Rattle.courier_sessions.specs.declared.program.Program.{Program}
 
--- so many sockets are served at most
+-- how many sockets are served at most
 abbrev pub most_services : ℕ
 most_services = 16
 

@@ -27,7 +27,7 @@ pub record IsNewHost (network : ℕ) (host : List ℕ) (settings : Settings) (se
 abbrev pub IsSameHost : (old new : Host) → Type 0
 IsSameHost old new = (new.network ≡ old.network) × (new.host ≡ old.host) × (new.settings ≡ old.settings)
 
--- and so are what it serves and what time it is
+-- its address, its settings, what it serves and its clock are as they were
 abbrev pub StaysSetUp : (old new : Host) → Type 0
 StaysSetUp old new = IsSameHost old new × (new.services ≡ old.services) × (new.clock ≡ old.clock)
 

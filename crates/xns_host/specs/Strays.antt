@@ -22,7 +22,7 @@ new_strays most = record { most = most; waiting = []; starved = false }
 abbrev pub stray_of : ℕ → List ℕ → Outgoing
 stray_of via packet = record { via = via; packet = packet }
 
--- one that waits behind the others; what is over is as if lost
+-- the packets with one more behind them; what is over is as if lost
 abbrev pub with_stray : StrayQueue → Outgoing → StrayQueue
 with_stray q s =
     record q { waiting = if nat_lt (length q.waiting) q.most then q.waiting ++ s ∷ [] else q.waiting; starved = false }
@@ -31,7 +31,7 @@ with_stray q s =
 abbrev pub lost_stray : StrayQueue → StrayQueue
 lost_stray q = record q { starved = true }
 
--- it is behind the others, where there is room; or memory was refused for it
+-- this packet is behind the others, where there is room; or memory was refused for it
 abbrev pub MayHaveStray : StrayQueue → StrayQueue → Outgoing → Type 0
 MayHaveStray old new s = (new ≡ with_stray old s) ⊎ (new ≡ lost_stray old)
 

@@ -137,7 +137,7 @@ pub record ServesAt (socket : ℕ) (programs : List Program) (result : Result (U
   pub rest : whole_of new ≡ record (whole_of old) { services = new.services }
   pub clock : new.clock ≡ old.clock
 
--- it is refused where the socket or a program is wrong, where so many other sockets are served, or where memory is
+-- a service is refused where the socket or a program is wrong, where so many other sockets are served, or where memory is refused
 pub record ServesNot (old : Host) (socket : ℕ) (programs : List Program) (result : Result (Unit {0}) HostFault) : Type 0 where
   pub wrong : (f : HostFault) → wrong_service socket programs ≡ Some f → result ≡ Err f
   pub full : wrong_service socket programs ≡ None → result ≡ Err TooManyServices

@@ -21,7 +21,7 @@ pub record GuestStep (now : ℕ) (deed : Deed) (g h : Guest) : Type 0 where
   pub same : h ≡ record g { connection = h.connection }
   pub step : Step now deed g.connection h.connection
 
--- the one in the old place did, and is in the new one
+-- the connection in the old place did this, and is in the new one
 abbrev pub Went : ℕ → Deed → (old new : Option (Option Guest)) → Type 0
 Went now deed None new = ⊥
 Went now deed (Some None) new = ⊥
@@ -40,7 +40,7 @@ pub record GuestHeard (now : ℕ) (bytes : List ℕ) (confirming : Bool) (g h : 
   pub same : h ≡ record g { connection = h.connection; confirmed = confirming || g.confirmed }
   pub step : Step now (heard bytes) g.connection h.connection
 
--- so it was; or they bring bytes of an item that memory was refused for, and are as if lost
+-- these bytes came to the connection; or they bring an item for whose bytes memory was refused, and are as if lost
 pub data GuestHears (now : ℕ) (bytes : List ℕ) (confirming : Bool) (g : Guest) : Guest → Type 0 where
   hears : {h : Guest} → GuestHeard now bytes confirming g h → GuestHears now bytes confirming g h
   lost : ((s : State) → StandsFor g.connection.conversation.endpoint s → StoresBytes s bytes) → GuestHears now bytes confirming g g
