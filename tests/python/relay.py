@@ -42,7 +42,7 @@ def send_all_kinds(place, own, server):
 
 
 class Relay(threading.Thread):
-    """Brings each client's datagrams to the server and back. Of so many one is dropped, repeated, delayed or corrupted; none where that is 0. After
+    """Brings each client's datagrams to the server and back. Of so many, as 10 or 2.5, one is dropped, repeated, delayed or corrupted; none where that is 0. After
     `dies_after` datagrams none goes on, and each client is sent stray bytes every 0.3 seconds."""
 
     STRAY = 0.3
@@ -78,7 +78,7 @@ class Relay(threading.Thread):
         self.empty += not packet
         if self.dies_after is not None and self.seen > self.dies_after:
             return
-        if not self.one_of or self.chance.randrange(self.one_of):
+        if not self.one_of or self.chance.random() * self.one_of >= 1:
             self.send(packet, way)
             return
         fault = self.chance.choice(list(self.spoiled))
