@@ -6,6 +6,7 @@ mod Done
 mod Echoes
 mod Ends
 mod Fetching
+mod Fitting
 mod Follows
 mod Foreign
 mod Hearing

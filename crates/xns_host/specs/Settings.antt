@@ -1,5 +1,5 @@
 -- What a host is made with.
-use Rattle.std.specs.Prelude.{◌≡◌, ℕ, ◌≤◌, Bool, not, ◌&&◌, ◌==◌, nat_lt, nat_le, if◌then◌else◌, true, false, Option, Some, None, min, Result, Ok, Err}
+use Rattle.std.specs.Prelude.{◌≡◌, ℕ, ◌≤◌, Bool, not, ◌&&◌, ◌==◌, nat_lt, nat_le, if◌then◌else◌, true, false, Option, Some, None, Result, Ok, Err}
 use Rattle.xns_spp.specs.Ends.{IsCapacity, most_pending}
 use Rattle.xns_connection.specs.Step.{IsMade}
 use Rattle.xns_connection.specs.declared.connection.Connection.{Connection}
@@ -9,7 +9,7 @@ use Rattle.xns_host.specs.declared.host_fault.HostFault.TheVariants.{OutOfRange}
 use Rattle.xns_agenda.specs.Waiting.{usual_idle}
 use Rattle.xns_agenda.specs.declared.pace.Pace.{Pace}
 use Rattle.xns_host.specs.declared.setting.Setting.{Setting}
-use Rattle.xns_host.specs.declared.setting.Setting.TheVariants.{Connections, Window, Backlog, FirstWait, LongestWait, Tries, Strays}
+use Rattle.xns_host.specs.declared.setting.Setting.TheVariants.{Connections, Window, Backlog, FirstWait, LongestWait, LeastWait, Tries, Strays}
 use Rattle.xns_host.specs.declared.settings.Settings.{Settings}
 
 -- times are in milliseconds
@@ -20,6 +20,7 @@ usual_settings = record {
   backlog = 16;
   first_wait = 250;
   longest_wait = 8000;
+  least_wait = 10;
   idle = usual_idle;
   tries = 8;
   strays = 16;
@@ -42,6 +43,8 @@ pub record IsFit (s : Settings) : Type 0 where
   pub backlog : IsCapacity s.backlog
   pub first_wait : 1 ≤ s.first_wait
   pub longest_wait : s.first_wait ≤ s.longest_wait
+  pub some_least_wait : 1 ≤ s.least_wait
+  pub least_wait : s.least_wait ≤ s.first_wait
   pub tries : 1 ≤ s.tries
   pub some_strays : 1 ≤ s.strays
   pub strays : s.strays ≤ most_strays
@@ -57,6 +60,7 @@ wrong_setting s =
     else if not (is_within 1 s.backlog most_pending) then Some Backlog
     else if s.first_wait == 0 then Some FirstWait
     else if nat_lt s.longest_wait s.first_wait then Some LongestWait
+    else if not (is_within 1 s.least_wait s.first_wait) then Some LeastWait
     else if s.tries == 0 then Some Tries
     else if not (is_within 1 s.strays most_strays) then Some Strays
     else None
@@ -68,15 +72,11 @@ answer_unless (Some setting) = Err (OutOfRange setting)
 abbrev pub settings_answer : Settings → Result (Unit {0}) HostFault
 settings_answer s = answer_unless (wrong_setting s)
 
--- what a measured wait is longer than the measured time, at least
-abbrev pub least_wait : ℕ
-least_wait = 10
-
 -- what a connection's waits are made of
 pub record IsPaceOf (s : Settings) (p : Pace) : Type 0 where
   pub first : p.first ≡ s.first_wait
   pub longest : p.longest ≡ s.longest_wait
-  pub least : p.least ≡ min least_wait s.first_wait
+  pub least : p.least ≡ s.least_wait
   pub idle : p.idle ≡ s.idle
   pub tries : p.tries ≡ s.tries
 

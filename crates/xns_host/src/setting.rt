@@ -6,6 +6,7 @@ pub enum Setting {
     Backlog,
     FirstWait,
     LongestWait,
+    LeastWait,
     Tries,
     Strays,
 }

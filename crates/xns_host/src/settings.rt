@@ -7,9 +7,6 @@ use xns_agenda::Pace;
 use xns_connection::Terms;
 use xns_spp::MOST_PENDING;
 
-/// The least that a measured wait is longer than the time that was measured.
-const LEAST: u32 = 10;
-
 /// What a host is made with. Each has its range, which [`Settings::check`] asks. Times are in milliseconds.
 #[derive(Clone, Copy, Debug, PartialEq, Eq)]
 pub struct Settings {
@@ -23,6 +20,8 @@ pub struct Settings {
     pub first_wait: u32,
     /// The longest wait: from `first_wait`.
     pub longest_wait: u32,
+    /// How much longer a measured wait is than the measured time at least: 1 to `first_wait`.
+    pub least_wait: u32,
     /// How long the peer may be silent before it is asked for a word, where nothing waits for it. 0: it is never asked, but after 10 seconds
     /// while a call wants its answer.
     pub idle: u32,
@@ -47,6 +46,7 @@ impl Default for Settings {
             backlog: 16,
             first_wait: 250,
             longest_wait: 8_000,
+            least_wait: 10,
             idle: Pace::USUAL_IDLE,
             tries: 8,
             strays: 16,
@@ -83,6 +83,9 @@ impl Settings {
         if self.longest_wait < self.first_wait {
             return Some(Setting::LongestWait);
         }
+        if !is_within(1, self.least_wait as usize, self.first_wait as usize) {
+            return Some(Setting::LeastWait);
+        }
         if self.tries == 0 {
             return Some(Setting::Tries);
         }
@@ -111,7 +114,7 @@ impl Settings {
         Pace {
             first: self.first_wait,
             longest: self.longest_wait,
-            least: LEAST.min(self.first_wait),
+            least: self.least_wait,
             idle: self.idle,
             tries: self.tries,
         }
