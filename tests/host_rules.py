@@ -4,7 +4,8 @@
 
 Two hosts play over a network that loses, repeats and delays. Each is there twice: one is told the times of a clock that goes back and jumps, the
 other the sum of its steps forward, as the account has it. Both must say the same, and wake at the same moment. The account knows by itself which
-numbers are taken, which events may come at each, which packets may go out, and when nothing may happen.
+numbers are taken, which events may come at each, which packets may go out, and when nothing may happen. No call or answer is told later than the packet
+or the deed that it comes of; hosts that are left alone, and never ask idle peers, fall silent; and each connection ends that is asked to close.
 """
 import itertools
 import random
@@ -17,7 +18,9 @@ from xns import Why
 
 DAY, LAST = 86_400_000, 2**64 - 1
 COURIER, CLIENT, NOBODY = 5, 3001, 9  # sockets: one that is served, that of the clients, one that is not served
-SETTINGS = {"first_wait": 20, "longest_wait": 100, "idle": 200, "tries": 3}
+SETTINGS = {"first_wait": 20, "longest_wait": 100, "tries": 3}
+IDLE = 200, None  # a play has one of them; by None idle peers are never asked
+MOST_TURNS, MOST_AT_ONCE = 3000, 10_000  # turns of a play that comes to its end; packets or events that are there at one time
 DEAD = Why.SILENT, Why.NOT_SERVED, Why.REFUSED
 OPENING, DATA = 0xC0, 0x50  # the control of an opening packet, and of an item that ends a message
 STRANGER = 1, bytes([2, 0, 0xAA, 0, 0, 9]), CLIENT
@@ -54,8 +57,10 @@ class Twins:
 
     def __init__(self, station, play):
         self.own, self.play, self.clock, self.now = xns.Address(1, bytes([2, 0, 0xAA, 0, 0, station]), COURIER), play, Clock(), 0
-        self.wild, self.plain = (xns.Host(self.own, bytes([station]) * 32, **SETTINGS) for _ in range(2))
+        self.wild, self.plain = (xns.Host(self.own, bytes([station]) * 32, idle=play.idle, **SETTINGS) for _ in range(2))
+        self.is_waiting = False  # time passes, and nothing else
         self.held, self.silenced, self.refused, self.spoiled, self.handed, self.asked = {}, set(), {}, set(), set(), set()
+        self.sockets = {COURIER}  # that it serves, or from which it made a connection
         self.last = {}  # by its via, the front of the last packet of a connection behind which no packet came
         self.unheard = self.is_stranger = None  # the front of the packet of which it may complain, with its via, and whether it must
         self.ask("serve", COURIER, [(7, 1, 1)], timed=False)
@@ -67,7 +72,7 @@ class Twins:
         said = []
         for host, now in (self.wild, self.clock.told), (self.plain, self.clock.own):
             returned = getattr(host, name)(*([now] if timed else []), *arguments)
-            said.append(returned if returned is None or isinstance(returned, int) else list(returned))
+            said.append(returned if returned is None or isinstance(returned, int) else list(itertools.islice(returned, MOST_AT_ONCE)))
         assert said[0] == said[1], (name, arguments, said)
         return said[0]
 
@@ -93,6 +98,7 @@ class Twins:
     def packets(self):
         """Fetches the packets, and returns their vias."""
         packets = self.ask("packets")
+        assert len(packets) < MOST_AT_ONCE, "packets for ever"
         for via, data in packets:
             if data[5] == 3:
                 assert (via, data[34:76], data[30:32]) == (*self.unheard, b"\0\2"), ("a complaint of what did not come", via, data)
@@ -106,8 +112,10 @@ class Twins:
     def fetch(self):
         """Fetches all that there is, packets or events first, and says whether there was anything. Where a peer is given up as packets are fetched, its
         event is there behind them, and the wake is at once."""
-        found, empty, wake, is_first = False, 0, 0, self.play.random.random() < 0.5
+        found, empty, wake, is_first, rounds = False, 0, 0, self.play.random.random() < 0.5, 0
         while empty < 3 and (not empty or wake == 0):
+            rounds += 1
+            assert rounds < MOST_AT_ONCE, "packets or events for ever"
             before, wake = self.packets() if is_first else [], self.wake()
             events, heard, gone = self.ask("events", timed=False), set(), set()
             assert not events or wake == 0, ("an event waited, and the host slept", events, wake)
@@ -131,6 +139,7 @@ class Twins:
         one = self.held[event.number]
         assert one.why is None, ("an event behind the close", event)
         assert event.tag == one.tag, ("an event with another tag", event, one.tag)
+        assert isinstance(event, xns.Closed) or not self.is_waiting, ("a message that was told later than what it comes of", event)
         if isinstance(event, xns.Call):
             word = event.words[0]
             assert not one.ours and len(one.calls) == one.answers and word not in self.handed and (not one.calls or word == one.calls[-1] + 1), event
@@ -161,7 +170,9 @@ class Twins:
             self.silenced.discard(via)
         if data[5] == 5:
             self.unheard = (via, data[:42])
-            self.is_stranger = taken and data[16:18] == struct.pack(">H", COURIER) and all(one.via != via for one in self.held.values())
+            to = int.from_bytes(data[16:18], "big")
+            assert taken or to not in self.sockets, ("a packet to a socket of the host is not taken", via, data)
+            self.is_stranger = taken and to in self.sockets and all(one.via != via for one in self.held.values())
         return taken
 
     def hear_error(self, via, data):
@@ -180,6 +191,7 @@ class Twins:
     def connect(self):
         if len(self.held) < 6:
             via = next(self.play.vias)
+            self.sockets.add(CLIENT)
             number = self.ask("connect", via, CLIENT, self.other.own._replace(socket=self.play.random.choice((COURIER, COURIER, COURIER, NOBODY))))
             assert self.count(come=1) == {number}
             self.open(number, True, via)
@@ -195,10 +207,12 @@ class Twins:
             self.ask("call", number, 7, 1, 1, [one.calls[-1]])
 
     def answer(self):
+        """Answers a call. Whether there is one."""
         number, one = self.pick(lambda one: not one.ours and len(one.calls) > one.answers)
         if one:
             one.answers += 1
             self.ask("answer", number, xns.returns([one.calls[-1] ^ 0x8000]))
+        return one is not None
 
     def close(self):
         number, one = self.pick(lambda one: not one.is_asked)
@@ -221,12 +235,23 @@ class Twins:
             self.ask("set_tag", number, one.tag, timed=False)
 
     def pass_time(self):
-        """Another time is told: that of the wake, a near one, an earlier one, one up to three days ahead, or any. Before the wake nothing may happen."""
-        rng, wake, kind = self.play.random, self.wake(), self.play.random.random()
-        at, near, far = self.clock.when(wake), min(self.now + rng.randrange(60), LAST), min(self.now + rng.randrange(3 * DAY), LAST)
-        self.now = at if at and kind < 0.5 else near if kind < 0.8 else rng.choice((rng.randrange(self.now + 1), far, rng.randrange(LAST + 1)))
-        found = self.fetch()
+        """Another time is told: that of the wake, a near one, an earlier one, one up to three days ahead, or any."""
+        rng, at, kind = self.play.random, self.clock.when(self.wake()), self.play.random.random()
+        near, far = min(self.now + rng.randrange(60), LAST), min(self.now + rng.randrange(3 * DAY), LAST)
+        self.come_to(at if at and kind < 0.5 else near if kind < 0.8 else rng.choice((rng.randrange(self.now + 1), far, rng.randrange(LAST + 1))))
+
+    def come_to(self, now):
+        """This time is told. Before the wake nothing may happen."""
+        wake, self.now, self.is_waiting = self.wake(), now, True
+        found, self.is_waiting = self.fetch(), False
         assert not found or wake is not None and wake <= self.clock.own, ("something happened before the wake", wake, vars(self.clock))
+
+    def sleep(self):
+        """The time of the wake is told. Whether it is never."""
+        at = self.clock.when(self.wake())
+        if at is not None:
+            self.come_to(at)
+        return at is None
 
     def spoil(self):
         """A stranger opens a connection, and says what is no conversation: the host closes it in the same moment."""
@@ -251,12 +276,13 @@ class Play:
 
     def __init__(self, seed):
         self.random, self.bag, self.vias, self.words = random.Random(seed), [], itertools.count(1), itertools.count()
+        self.idle = self.random.choice(IDLE)
         self.hosts = [Twins(station, self) for station in (1, 2)]
         self.hosts[0].other, self.hosts[1].other = self.hosts[1], self.hosts[0]
 
     def deliver(self, losses):
-        """A packet of the bag comes, or is lost, or comes and may come again. Of a sequenced packet that no host takes one complains too: by the numbers 2
-        and 3 the connection that sent it lately is closed, by 1 it is not."""
+        """A packet of the bag comes, or is lost, or comes and may come again, or comes to a third that complains, as do the play's hosts of a sequenced packet
+        that is to no socket of theirs: by the numbers 2 and 3 the connection that sent it lately is closed, by 1 it is not."""
         if not self.bag:
             return
         host, via, data = self.bag.pop(self.random.randrange(len(self.bag)))
@@ -265,24 +291,39 @@ class Play:
             return
         if kind > 1 - losses and len(self.bag) < 30:
             self.bag.append((host, via, data))
-        taken = host.hear_error(via, data) if data[5] == 3 else host.receive(via, data)
+        is_astray = losses > 0 and self.random.random() < 0.02
+        taken = host.hear_error(via, data) if data[5] == 3 else not is_astray and host.receive(via, data)
         if not taken and data[5] == 5:
             target, source = (struct.unpack(">I6sH", data[at : at + 12]) for at in (18, 6))
             error = struct.pack(">HH", self.random.choice((1, 2, 3)), 0)
             self.bag.append((host.other, via, packet(3, target, source, error + data[:42])))
         host.fetch()
 
+    def rest(self):
+        """Each call is answered and nothing is lost any more. Where idle peers are never asked, soon no packet is on its way, and no host wants to be asked."""
+        for _ in range(MOST_TURNS):
+            for host in self.hosts:
+                while host.answer():
+                    host.fetch()
+            if not self.bag and all([host.sleep() for host in self.hosts]):
+                return
+            for _ in range(len(self.bag)):
+                self.deliver(0)
+        assert self.idle is not None, "packets for ever"
+
     def run(self, losses, steps, end_losses):
-        """Some random steps. Then all is asked to close, and answered, and each connection ends, whatever the network does."""
+        """Some random steps, and sometimes a rest. Then all is asked to close, and answered, and each connection ends, whatever the network does."""
         for _ in range(steps):
             host, deliver = self.random.choice(self.hosts), lambda: self.deliver(losses)
             done = deliver, host.pass_time, host.call, host.answer, host.connect, host.close, host.abandon, host.spoil, host.tag
             self.random.choices(done, (45, 17, 10, 12, 8, 4, 2, 2, 4))[0]()
             host.fetch()
+        if self.idle is None and self.random.random() < 0.5:
+            self.rest()
         turns = 0
         while any(host.held for host in self.hosts):
             turns += 1
-            assert turns < 3000, "a connection does not end"
+            assert turns < MOST_TURNS, "a connection does not end"
             for host in self.hosts:
                 host.answer()
                 host.close()

@@ -181,20 +181,19 @@ static void silent(void) {
     free_both();
 }
 
-/* A call that is abandoned is gone, and the answer to it is not the host's; and so is an event that stayed. */
+/* A call that is abandoned is gone, and so is an event that stayed. The answer to it is complained of, which closes its connection at once. */
 static void abandoned(void) {
-    uint8_t packet[XNS_LONGEST_PACKET];
     struct xns_event call, event;
-    size_t number, length;
-    uint64_t via = 0;
+    size_t number;
     open_both(&usual, &number);
     call = calls(number, 1);
     CHECK(xns_host_abandon(&client, number) == XNS_OK && xns_host_connections(&client) == 0 && xns_host_wake(&client) == XNS_NEVER);
     CHECK(xns_host_abandon(&client, number) == XNS_NO_CONNECTION && xns_host_abandon(&client, SIZE_MAX) == XNS_NO_CONNECTION);
     CHECK(xns_host_answer(&service, now, call.number, XNS_KIND_RETURN, 0, given, 1) == XNS_OK);
-    CHECK(xns_host_next_packet(&service, now, packet, sizeof packet, &length, &via) == XNS_OK);
-    CHECK(xns_host_receive(&client, now, CLIENT_VIA, packet, length) == XNS_NOTHING);
-    CHECK(xns_host_next_event(&client, &event, words, WORDS, &count) == XNS_NOTHING);
+    CHECK(carry(&service, &client, SERVICE_VIA) && xns_host_next_event(&client, &event, words, WORDS, &count) == XNS_NOTHING);
+    CHECK(carry(&client, &service, CLIENT_VIA) && now == 1000);
+    is_not_served(&service, XNS_ERROR_NO_SUCH_SOCKET);
+    CHECK(!carry(&client, &service, CLIENT_VIA) && !carry(&service, &client, SERVICE_VIA) && xns_host_connections(&service) == 0);
     free_both();
     open_both(&usual, &number);
     CHECK(xns_host_call(&client, now, number, 7, 1, 4, given, 5) == XNS_OK);
@@ -270,6 +269,29 @@ static void made_anew(void) {
     free_both();
 }
 
+/* A client that is made anew complains at the socket from which it has connected, also of what the service says to the connection of before; and at no other. */
+static void client_anew(void) {
+    static const uint8_t other[32] = { 3 };
+    uint8_t packet[XNS_LONGEST_PACKET];
+    struct xns_event call;
+    size_t number, length;
+    uint64_t via;
+    open_both(&usual, &number);
+    call = calls(number, 1);
+    AGAIN(xns_host_new(&client, &here, &usual, other));
+    AGAIN(xns_host_answer(&service, now, call.number, XNS_KIND_RETURN, 0, given, 1));
+    CHECK(xns_host_next_packet(&service, now, packet, sizeof packet, &length, &via) == XNS_OK);
+    CHECK(xns_host_receive(&client, now, CLIENT_VIA, packet, length) == XNS_NOTHING && xns_host_wake(&client) == XNS_NEVER);
+    CHECK(xns_host_connect(&client, now, CLIENT_VIA, here.socket + 1, &there, &number) == XNS_OK && xns_host_abandon(&client, number) == XNS_OK);
+    CHECK(xns_host_receive(&client, now, CLIENT_VIA, packet, length) == XNS_NOTHING && xns_host_wake(&client) == XNS_NEVER);
+    CHECK(xns_host_connect(&client, now, CLIENT_VIA, here.socket, &there, &number) == XNS_OK);
+    CHECK(xns_host_receive(&client, now, CLIENT_VIA, packet, length) == XNS_OK && carry(&client, &service, CLIENT_VIA) && now == 1000);
+    is_not_served(&service, XNS_ERROR_NO_SUCH_SOCKET);
+    asks(number, XNS_KIND_RETURN, 0, 5);
+    CHECK(xns_host_connections(&service) == 1);
+    free_both();
+}
+
 #include "host_faults.h"
 
 /* A host whose first packet is refused memory rests for the first wait, unless something is done of a connection. Asked before that, it gives the packet. */
@@ -310,6 +332,7 @@ int main(void) {
     idle();
     not_served();
     made_anew();
+    client_anew();
     faults();
     rests();
     for (refuse_at = 0, most = 1; refuse_at <= most; refuse_at++) {

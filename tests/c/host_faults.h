@@ -23,16 +23,15 @@ struct said {
 static const struct said VERSIONS = { 0, 0, 1, "\0\3\0\3", 4 }, CALLED = { 0, 0, 1, "\0\0\0\5\0\0\0\7\0\2\0\1", 12 };
 static const struct said ATTENTION = { 0, 1, 0, "\1", 1 }, HALF = { 0, 0, 0, "\0\0\0\5\0\0", 6 };
 
-/* The connection is dead: no packet of it goes out. What comes again of its peer is not the host's, or, at a socket that the host serves, is complained of. */
+/* The connection is dead: no packet of it goes out. Of what comes again of its peer the host complains. */
 static void is_dead(struct xns_endpoint *peer, struct xns_host *host, size_t number) {
-    const int serves = host == &service;
     uint8_t packet[XNS_LONGEST_PACKET];
     struct xns_address address;
     size_t length;
     uint64_t via;
     CHECK(xns_endpoint_tick(peer) == XNS_OK);
-    while (xns_endpoint_next_packet(peer, packet, sizeof packet, &length) == XNS_OK) CHECK(xns_host_receive(host, now, CLIENT_VIA, packet, length) == (serves ? XNS_OK : XNS_NOTHING));
-    while (xns_host_next_packet(host, now, packet, sizeof packet, &length, &via) == XNS_OK) CHECK(serves && packet[5] == XNS_TYPE_ERROR);
+    while (xns_endpoint_next_packet(peer, packet, sizeof packet, &length) == XNS_OK) CHECK(xns_host_receive(host, now, CLIENT_VIA, packet, length) == XNS_OK);
+    while (xns_host_next_packet(host, now, packet, sizeof packet, &length, &via) == XNS_OK) CHECK(packet[5] == XNS_TYPE_ERROR);
     CHECK(xns_host_peer(host, number, &address) == XNS_NO_CONNECTION);
 }
 

@@ -352,13 +352,15 @@ class HostTest(unittest.TestCase):
         self.assertEqual(self.client.tag(self.client.connect(self.now, 3, THERE.socket, HERE._replace(socket=5))), 0)
 
     def test_abandoned(self):
-        """A call that is abandoned: nothing of it is told or taken any more."""
+        """A call that is abandoned: nothing of it is told any more, and the server learns so by the complaint of its answer."""
         number = self.call([5])
         self.client.abandon(self.number)
         self.assertEqual((self.client.connections, self.client.wake(), list(self.client.events())), (0, None, []))
         self.service.answer(self.now, number, xns.returns([7]))
-        for _, packet in self.service.packets(self.now):
-            self.assertFalse(self.client.receive(self.now, 3, packet))
+        self.carry()
+        self.assertEqual((list(self.client.events()), self.service.connections), ([], 1))
+        self.assertEqual([(closed.why, closed.error) for closed in self.service.events()], [(xns.Why.NOT_SERVED, 2)])
+        self.assertEqual((self.client.connections, self.service.connections), (0, 0))
         with self.assertRaises(xns.NoConnectionError):
             self.client.abandon(self.number)
 

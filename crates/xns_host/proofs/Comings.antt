@@ -8,7 +8,7 @@ use Rattle.xns_spp.specs.Packet.{SppPacketModel, opener_of, spp_packet_of}
 use Rattle.xns_host.specs.Coming.{Arrives, Comes, Opens, echoes, foreign, full, hears, meant, opens, refuses, starved, unheard, unmeant}
 use Rattle.xns_host.specs.Hosting.{HasNoRoom, IsAllInUse, IsThere, address_in, confirms}
 use Rattle.xns_host.specs.Identifiers.{StaysInOrder}
-use Rattle.xns_host.specs.Ours.{AsksEcho, IsOf, IsOurs, IsToService, QuotesOurs}
+use Rattle.xns_host.specs.Ours.{AsksEcho, IsOf, IsOurs, IsToSocket, QuotesOurs}
 use Rattle.xns_host.specs.Places.{Places, Turns}
 use Rattle.xns_host.specs.Registered.{named_in}
 use Rattle.xns_host.specs.Services.{programs_at}
@@ -127,24 +127,24 @@ left_alone now way b w v r off (hears p read names turn) = absurd (cc)
 left_alone now way b w v r off (opens p read opener made) = absurd (cc)
 
 complained_at : (now way : ℕ) (b : List ℕ) (w v : Whole) (r : Bool) (p : PacketModel) (taken : ℕ) → packet_of b ≡ Ok (p, taken)
-    → Comes now way b w false w → (r ≡ true → IsToService w p) → (r ≡ false → IsToService w p → ⊥)
+    → Comes now way b w false w → (r ≡ true → IsToSocket w p) → (r ≡ false → IsToSocket w p → ⊥)
     → (r ≡ true → HasComplained (address_in w.network w.host p.target.socket) NO_SUCH_SOCKET way b w.strays v.strays)
     → (r ≡ false → v.strays ≡ w.strays) → v ≡ record w { strays = v.strays } → Arrives now way b w r v
 complained_at now way b w v true p taken read comes served unserved waits rest is =
     subst (λ (x : Whole). Arrives now way b w true x) (sym is) (unheard p taken comes read (served refl) (waits refl))
 complained_at now way b w v false p taken read comes served unserved waits rest is =
     subst (λ (x : Whole). Arrives now way b w false x) (sym (is ∙ ap (λ (q : StrayQueue). let x : Whole = record w { strays = q } in x) (rest refl)))
-    (unmeant comes (λ q n at s. unserved refl (subst (λ (x : PacketModel). IsToService w x) (one_packet p q taken n (sym read) at) s)))
+    (unmeant comes (λ q n at s. unserved refl (subst (λ (x : PacketModel). IsToSocket w x) (one_packet p q taken n (sym read) at) s)))
 
 pub complained : (now way : ℕ) (b : List ℕ) (w m v : Whole) (was r : Bool) (p : PacketModel) (taken : ℕ) → packet_of b ≡ Ok (p, taken)
-    → was ≡ false → Comes now way b w was m → (r ≡ true → IsToService m p) → (r ≡ false → IsToService m p → ⊥)
+    → was ≡ false → Comes now way b w was m → (r ≡ true → IsToSocket m p) → (r ≡ false → IsToSocket m p → ⊥)
     → (r ≡ true → HasComplained (address_in m.network m.host p.target.socket) NO_SUCH_SOCKET way b m.strays v.strays)
     → (r ≡ false → v.strays ≡ m.strays) → v ≡ record m { strays = v.strays } → Arrives now way b w r v
 complained now way b w m v was r p taken read off comes served unserved waits rest is =
     let same : m ≡ w = left_alone now way b w m was off comes in
     let none : Comes now way b w false w
     = subst (λ (x : Whole). Comes now way b w false x) same (subst (λ (x : Bool). Comes now way b w x m) off comes) in
-    subst (λ (x : Whole). (r ≡ true → IsToService x p) → (r ≡ false → IsToService x p → ⊥)
+    subst (λ (x : Whole). (r ≡ true → IsToSocket x p) → (r ≡ false → IsToSocket x p → ⊥)
     → (r ≡ true → HasComplained (address_in x.network x.host p.target.socket) NO_SUCH_SOCKET way b x.strays v.strays)
     → (r ≡ false → v.strays ≡ x.strays) → v ≡ record x { strays = v.strays } → Arrives now way b w r v) (sym same)
     (complained_at now way b w v r p taken read none) served unserved waits rest is

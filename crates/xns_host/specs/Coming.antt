@@ -9,7 +9,7 @@ use Rattle.xns_small.specs.declared.error_number.TheConstants.{NO_RESOURCES, NO_
 use Rattle.xns_spp.specs.Packet.{SppPacketModel, opener_of, spp_packet_of}
 use Rattle.xns_host.specs.Hosting.{HasNoRoom, IsAllInUse, IsAnswering, IsPlace, address_in, confirms}
 use Rattle.xns_host.specs.Identifiers.{StaysInOrder, TurnsOver}
-use Rattle.xns_host.specs.Ours.{AsksEcho, IsOpener, IsOurs, IsToService, Names, QuotesOurs}
+use Rattle.xns_host.specs.Ours.{AsksEcho, IsOpener, IsOurs, IsToSocket, Names, QuotesOurs}
 use Rattle.xns_host.specs.Places.{Places, Turns, taken_by, vacated}
 use Rattle.xns_host.specs.Services.{programs_at}
 use Rattle.xns_host.specs.Strays.{HasComplained, MayHaveStray, StrayQueue, echo_socket, lost_stray, stray_of}
@@ -58,11 +58,11 @@ pub data Comes (now way : ℕ) (bytes : List ℕ) (w : Whole) : Bool → Whole �
       → Opens now way bytes p w register strays q → Comes now way bytes w true (record w { register = register; strays = strays; places = q })
 
 -- so it is, where that made the bytes the host's. Else nothing changes, but that the host complains of a sequenced packet to a socket that it
--- serves, which nobody hears there
+-- has, which nobody hears there
 pub data Arrives (now way : ℕ) (bytes : List ℕ) (w : Whole) : Bool → Whole → Type 0 where
   meant : {v : Whole} → Comes now way bytes w true v → Arrives now way bytes w true v
   unheard : (p : PacketModel) (taken : ℕ) {strays : StrayQueue} → Comes now way bytes w false w → packet_of bytes ≡ Ok (p, taken)
-      → IsToService w p → HasComplained (address_in w.network w.host p.target.socket) NO_SUCH_SOCKET way bytes w.strays strays
+      → IsToSocket w p → HasComplained (address_in w.network w.host p.target.socket) NO_SUCH_SOCKET way bytes w.strays strays
       → Arrives now way bytes w true (record w { strays = strays })
-  unmeant : Comes now way bytes w false w → ((p : PacketModel) (taken : ℕ) → packet_of bytes ≡ Ok (p, taken) → IsToService w p → ⊥)
+  unmeant : Comes now way bytes w false w → ((p : PacketModel) (taken : ℕ) → packet_of bytes ≡ Ok (p, taken) → IsToSocket w p → ⊥)
       → Arrives now way bytes w false w

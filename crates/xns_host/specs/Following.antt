@@ -1,14 +1,18 @@
 -- What follows of a host from what its calls are.
-use Rattle.std.specs.Prelude.{◌≡◌, ℕ, List, Bool, true, Some, None, Ok, Err, slice_get}
+use Rattle.std.specs.Prelude.{◌≡◌, ◌<◌, ◌==◌, ◌||◌, ℕ, List, Bool, true, Some, None, Ok, Err, slice_get}
 use Rattle.xns_idp.specs.Packet.{PacketModel}
 use Rattle.xns_idp.specs.Reading.{packet_of}
+use Rattle.xns_idp.specs.declared.address.Address.{Address}
+use Rattle.xns_small.specs.declared.error_number.TheConstants.{NO_SUCH_SOCKET}
 use Rattle.xns_spp.specs.Packet.{SppPacketModel, spp_packet_of}
 use Rattle.xns_agenda.specs.Clock.{time_at}
 use Rattle.xns_agenda.specs.Waiting.{later}
-use Rattle.xns_host.specs.Hosting.{HasNoEvent, HasNoPacket, IsPacketOf, IsRefusedBy, confirms}
-use Rattle.xns_host.specs.Ours.{IsOurs}
+use Rattle.xns_host.specs.Hosting.{HasNoEvent, HasNoPacket, IsPacketOf, IsRefusedBy, address_in, confirms}
+use Rattle.xns_host.specs.Ours.{IsOurs, IsToSocket}
 use Rattle.xns_host.specs.Places.{Turns}
-use Rattle.xns_host.specs.Turn.{GivesOut, TakesIn, TellsNext, places_of}
+use Rattle.xns_host.specs.Services.{has_called, sockets}
+use Rattle.xns_host.specs.Strays.{HasComplained}
+use Rattle.xns_host.specs.Turn.{ConnectsTo, GivesOut, TakesIn, TellsNext, places_of, whole_of}
 use Rattle.xns_host.specs.Went.{GuestHears, GuestUnserved}
 use Rattle.xns_host.specs.Whole.{Whole}
 use Rattle.xns_host.specs.declared.guest.Guest.{Guest}
@@ -46,3 +50,15 @@ WhoIsQuotedIsNotServed = (now way number taken : ℕ) (bytes : List ℕ) (result
     → TakesIn now way bytes result old new → packet_of bytes ≡ Ok (p, taken) → (by : IsRefusedBy old.host p g)
     → slice_get old.guests.items number ≡ Some (Some g)
     → (result ≡ true) × Turns (GuestUnserved (time_at old.clock now) by.quote.error) number (places_of old) (places_of new)
+
+-- of a sequenced packet that is not the host's, to a socket that the host has, it complains
+abbrev pub OfWhatNobodyHearsItComplains : Type 0
+OfWhatNobodyHearsItComplains = (now way taken : ℕ) (bytes : List ℕ) (result : Bool) (old new : Host) (p : PacketModel)
+    → TakesIn now way bytes result old new → packet_of bytes ≡ Ok (p, taken) → IsToSocket (whole_of old) p → (IsOurs (whole_of old) bytes → ⊥)
+    → (result ≡ true) × HasComplained (address_in old.network old.host p.target.socket) NO_SUCH_SOCKET way bytes old.strays new.strays
+
+-- once a connection was made from a socket, the host has that socket, and of each other it knows what it knew
+abbrev pub AHostKnowsWhereItCalledFrom : Type 0
+AHostKnowsWhereItCalledFrom = (now way socket number other : ℕ) (peer : Address) (old new : Host) → socket < sockets
+    → ConnectsTo now way socket peer (Ok number) old new
+    → has_called new.services.callers.items other ≡ (other == socket) || has_called old.services.callers.items other

@@ -1,5 +1,5 @@
 -- Which packets are a host's.
-use Rattle.std.specs.Prelude.{◌≡◌, ◌≢◌, ℕ, List, true, Some, None, Ok, slice_get}
+use Rattle.std.specs.Prelude.{◌≡◌, ◌≢◌, ◌⊎◌, ℕ, List, true, Some, None, Ok, slice_get}
 use Rattle.xns_idp.specs.Packet.{PacketModel, broadcast}
 use Rattle.xns_idp.specs.Reading.{packet_of}
 use Rattle.xns_idp.specs.declared.packet_type.TheConstants.{ERROR, SEQUENCED_PACKET}
@@ -12,11 +12,12 @@ use Rattle.xns_host.specs.Hosting.{IsThere, address_in}
 use Rattle.xns_host.specs.Quotes.{is_sent_by, quoted_packet}
 use Rattle.xns_host.specs.Register.{owner_in}
 use Rattle.xns_host.specs.Registered.{named_in}
-use Rattle.xns_host.specs.Services.{programs_at}
+use Rattle.xns_host.specs.Services.{has_called, programs_at}
 use Rattle.xns_host.specs.Strays.{echo_socket}
 use Rattle.xns_host.specs.Whole.{Whole}
 use Rattle.xns_host.specs.declared.guest.Guest.{Guest}
 use Rattle.xns_host.specs.declared.quote.Quote.{Quote}
+use Rattle.xns_host.specs.declared.services.Services.{Services}
 
 -- the packet is one of this connection
 abbrev pub IsOf : SppPacketModel → Guest → Type 0
@@ -42,12 +43,16 @@ pub record IsOpener (w : Whole) (p : SppPacketModel) : Type 0 where
   pub opener : opener_of p ≢ None
   pub served : programs_at w.services.programs p.target.socket ≢ None
 
--- a sequenced packet of one host is to a socket that this host serves
-pub record IsToService (w : Whole) (p : PacketModel) : Type 0 where
+-- the host has this socket: it is served, or a connection was made from it
+abbrev pub HasSocket : Services → ℕ → Type 0
+HasSocket services socket = (programs_at services.programs socket ≢ None) ⊎ (has_called services.callers.items socket ≡ true)
+
+-- a sequenced packet of one host is to a socket that this host has
+pub record IsToSocket (w : Whole) (p : PacketModel) : Type 0 where
   pub kind : p.kind ≡ SEQUENCED_PACKET
   pub here : p.target.host ≡ w.host
   pub one_host : p.source.host ≢ broadcast
-  pub served : programs_at w.services.programs p.target.socket ≢ None
+  pub socket : HasSocket w.services p.target.socket
 
 -- an Error packet to this host, whose number says that nobody hears it, quotes a packet that went out lately of the connection with the
 -- identifier of its sender

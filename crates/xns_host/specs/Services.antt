@@ -1,5 +1,5 @@
--- The sockets at which connections are answered, and for which programs.
-use Rattle.std.specs.Prelude.{◌≡◌, ◌≢◌, ℕ, List, Option, Some, option_map}
+-- The sockets at which connections are answered, and for which programs; and those from which connections were made.
+use Rattle.std.specs.Prelude.{◌≡◌, ◌≢◌, ℕ, Bool, false, List, Option, Some, option_map, slice_index_or}
 use Rattle.std.specs.BTreeMap.{BTreeMap, get}
 use Rattle.std.specs.Ordering.{nat_cmp}
 use Rattle.std.specs.declared.vec.Vec.{Vec}
@@ -18,3 +18,11 @@ programs_at services socket = option_map (λ v. v.items) (get nat_cmp services s
 pub record Serves (old new : BTreeMap ℕ (Vec Program Global)) (socket : ℕ) (programs : List Program) : Type 0 where
   pub here : programs_at new socket ≡ Some programs
   pub others : (other : ℕ) → other ≢ socket → programs_at new other ≡ programs_at old other
+
+-- sockets have 16 bits
+abbrev pub sockets : ℕ
+sockets = 65536
+
+-- by socket it stands whether a connection was made from it; of this one it says so
+abbrev pub has_called : List Bool → ℕ → Bool
+has_called callers socket = slice_index_or callers socket false

@@ -1,20 +1,22 @@
 -- What a host begins with, and what stands in it whatever comes.
-use Rattle.std.specs.Prelude.{◌≡◌, ◌<◌, ℕ, List, [], None, replicate, true}
+use Rattle.std.specs.Prelude.{◌≡◌, ◌<◌, ℕ, List, [], None, replicate, false, true}
 use Rattle.std.specs.BTreeMap.{IsEmpty}
 use Rattle.xns_agenda.specs.Clock.{told_at}
 use Rattle.xns_agenda.specs.Agenda.{HasNobody}
 use Rattle.xns_host.specs.Identifiers.{is_free, most_id, numbers, order_of}
+use Rattle.xns_host.specs.Services.{has_called}
 use Rattle.xns_host.specs.Strays.{new_strays}
 use Rattle.xns_host.specs.declared.host.Host.{Host}
 use Rattle.xns_host.specs.declared.settings.Settings.{Settings}
 
--- a host at this address that serves nothing, has no connection, and nothing to say or to do, with room for as many stray replies as the
--- settings say; its identifiers stand in the order that the secret gives, and none is in use
+-- a host at this address that serves nothing, has no connection and made none, and has nothing to say or to do, with room for as many stray
+-- replies as the settings say; its identifiers stand in the order that the secret gives, and none is in use
 pub record IsNewHost (network : ℕ) (host : List ℕ) (settings : Settings) (secret : List ℕ) (h : Host) : Type 0 where
   pub at_network : h.network ≡ network
   pub at_host : h.host ≡ host
   pub with_settings : h.settings ≡ settings
   pub unserved : IsEmpty h.services.programs
+  pub uncalled : (socket : ℕ) → has_called h.services.callers.items socket ≡ false
   pub nobody : h.guests.items ≡ replicate settings.connections None
   pub silent : h.strays.waiting ≡ []
   pub room : h.strays ≡ new_strays settings.strays

@@ -1,5 +1,5 @@
 -- One step of a host: what was done at the connection with a number, and all that it leaves as it was.
-use Rattle.std.specs.Prelude.{◌≡◌, ◌⊎◌, ℕ, Bool, List, [], ◌∷◌, Option, Some, None, Result, Ok, Err, IfOk, OnOk, OnErr, slice_get}
+use Rattle.std.specs.Prelude.{◌≡◌, ◌⊎◌, ℕ, Bool, List, [], ◌∷◌, Option, Some, None, Result, Ok, Err, IfOk, OnOk, OnErr, slice_get, slice_set, true}
 use Rattle.std.specs.BTreeMap.{btree_map_len}
 use Rattle.courier_sessions.specs.declared.program.Program.{Program}
 use Rattle.xns_idp.specs.declared.address.Address.{Address}
@@ -22,6 +22,7 @@ use Rattle.xns_host.specs.declared.host.Host.{Host}
 use Rattle.xns_host.specs.declared.host_fault.HostFault.{HostFault}
 use Rattle.xns_host.specs.declared.host_fault.HostFault.TheVariants.{NoMemory, TooManyServices}
 use Rattle.xns_host.specs.declared.outgoing.Outgoing.{Outgoing}
+use Rattle.xns_host.specs.declared.services.Services.{Services}
 
 -- ---- what is beside the connections
 
@@ -134,6 +135,7 @@ pub record MovesTo (network : ℕ) (old new : Host) : Type 0 where
 pub record ServesAt (socket : ℕ) (programs : List Program) (result : Result (Unit {0}) HostFault) (old new : Host) : Type 0 where
   pub served : OnOk result (Serves old.services.programs new.services.programs socket programs)
   pub unserved : OnErr result (new.services.programs.entries ≡ old.services.programs.entries)
+  pub callers : new.services.callers ≡ old.services.callers
   pub rest : whole_of new ≡ record (whole_of old) { services = new.services }
   pub clock : new.clock ≡ old.clock
 
@@ -148,6 +150,11 @@ pub record ServesNot (old : Host) (socket : ℕ) (programs : List Program) (resu
 
 -- ---- a connection of ours
 
+-- a connection was made from this socket, and it is noted; nothing else of the sockets changed
+pub record NotesCaller (socket : ℕ) (old new : Services) : Type 0 where
+  pub callers : new.callers.items ≡ slice_set old.callers.items socket true
+  pub programs : new.programs ≡ old.programs
+
 -- a new connection of ours to the peer has this number, in a place that was free or whose connection gives way; or none was made, and nothing
 -- changed
 pub record ConnectsTo (now way socket : ℕ) (peer : Address) (result : Result ℕ HostFault) (old new : Host) : Type 0 where
@@ -157,7 +164,9 @@ pub record ConnectsTo (now way socket : ℕ) (peer : Address) (result : Result �
   pub places : IfOk result (λ n. (g : Guest) → slice_get new.guests.items n ≡ Some (Some g)
       → places_of new ≡ taken_by (vacated (places_of old) n) n g)
   pub turned : IfOk result (λ n. (id : ℕ) × TurnsOver old.register.identifiers new.register.identifiers id)
+  pub caller : OnOk result (NotesCaller socket old.services new.services)
   pub unchanged : OnErr result (places_of new ≡ places_of old)
   pub order : OnErr result (StaysInOrder old.register.identifiers new.register.identifiers)
-  pub rest : whole_of new ≡ record (whole_of old) { register = new.register; places = places_of new }
+  pub no_caller : OnErr result (new.services ≡ old.services)
+  pub rest : whole_of new ≡ record (whole_of old) { services = new.services; register = new.register; places = places_of new }
   pub clock : new.clock ≡ told_at old.clock now

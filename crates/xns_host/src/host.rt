@@ -108,7 +108,7 @@ impl Host {
             host,
             settings,
             clock: Clock::new(),
-            services: Services::new(alloc),
+            services: Services::new(alloc)?,
             register: Register::new(alloc, secret)?,
             guests: no_guests(alloc, settings.connections)?,
             agenda: Agenda::new(alloc, settings.connections)?,
@@ -147,7 +147,8 @@ impl Host {
         self.services.serve(self.alloc, socket, programs)
     }
 
-    /// Opens a connection from this socket of ours to the peer, whose side calls; its number. Its packets go out by this `via`.
+    /// Opens a connection from this socket of ours to the peer, whose side calls; its number. Its packets go out by this `via`. From then on
+    /// the host complains of sequenced packets to the socket that are of no connection.
     ///
     /// An `Err`, which changes nothing, is [`HostFault::EveryHost`] to or from the broadcast host, [`HostFault::NoSocket`] to or from socket
     /// 0, [`HostFault::NoRoom`] where there is no room and none gives way, or [`HostFault::NoMemory`].
@@ -185,6 +186,7 @@ impl Host {
             return Err(HostFault::NoMemory);
         };
         let _ = self.register.take(number as u16);
+        self.services.note_caller(socket);
         let guest = Guest {
             connection,
             via,

@@ -1,7 +1,9 @@
 //! What the definitions imply, each as the contract of a function that does nothing.
 
 ghost use Rattle.std.specs.Prelude.{◌≡◌, ◌≢◌, ◌≤◌, ◌∷◌, ◌++◌, [], ℕ, Any, List};
-ghost use Rattle.xns_host.specs.Following.{AConnectionHearsItsPackets, WhoIsQuotedIsNotServed, ASilentHostHasNothingToTell, AStarvedHostRests, AnIdleHostHasNoPacket, NoNetworkDecides};
+ghost use Rattle.xns_host.specs.Following.{AConnectionHearsItsPackets, AHostKnowsWhereItCalledFrom, ASilentHostHasNothingToTell};
+ghost use Rattle.xns_host.specs.Following.{AStarvedHostRests, AnIdleHostHasNoPacket, NoNetworkDecides, OfWhatNobodyHearsItComplains};
+ghost use Rattle.xns_host.specs.Following.{WhoIsQuotedIsNotServed};
 ghost use Rattle.xns_host.specs.Identifiers.{IsOrder, Ids, Turn, Given, HadTurn, most_id};
 
 /// Before an identifier is given again, each other one is given, or is in use when one is given, whoever has which one in between.
@@ -26,4 +28,11 @@ pub fn packets_come_to_their_connections()
     ensures sequenced { AConnectionHearsItsPackets }
     ensures error { WhoIsQuotedIsNotServed }
     ensures network { NoNetworkDecides }
+{}
+
+/// Of a sequenced packet of one host to a socket that this host has, which is no packet of the host's, it complains. It has each socket from
+/// which it made a connection.
+pub fn a_host_complains_at_its_sockets()
+    ensures complains { OfWhatNobodyHearsItComplains }
+    ensures called { AHostKnowsWhereItCalledFrom }
 {}

@@ -1,36 +1,55 @@
-//! The sockets at which connections are answered.
+//! The sockets of a host: those at which connections are answered, and those from which it made some.
 
-ghost use Rattle.std.specs.Prelude.{◌≡◌, ◌≤◌, ◌⊎◌, OnOk, OnErr, Some, None, Err, option_map};
+ghost use Rattle.std.specs.Prelude.{◌≡◌, ◌≤◌, ◌⊎◌, ℕ, length, true, false, IfOk, OnOk, OnErr, Some, None, Err, option_map, slice_set};
 ghost use Rattle.std.specs.BTreeMap.{IsEmpty, btree_map_len};
 ghost use Rattle.xns_host.specs.Refusing.{wrong_service};
-ghost use Rattle.xns_host.specs.Services.{Serves, most_services, programs_at};
+ghost use Rattle.xns_host.specs.Services.{Serves, has_called, most_services, programs_at, sockets};
 ghost use Rattle.xns_host.specs.declared.host_fault.HostFault.{HostFault};
 ghost use Rattle.xns_host.specs.declared.host_fault.HostFault.TheVariants.{NoMemory, TooManyServices};
 
 use crate::host_fault::HostFault;
 use crate::refusing::wrong_service;
 use courier_sessions::Program;
-use std::alloc::Global;
+use std::alloc::{AllocError, Global};
 use std::collections::BTreeMap;
 
 /// How many sockets are served at most.
 const MOST_SERVICES: usize = 16;
 
-/// The sockets at which connections are answered, each with its programs: at most 16.
+/// How many sockets there are.
+const SOCKETS: usize = 65_536;
+
+/// The sockets of a host: those at which connections are answered, each with its programs, at most 16; and those from which connections
+/// were made.
 #[derive(Drop)]
 pub struct Services {
     programs: BTreeMap<u16, Vec<Program>>,
+    /// By socket, whether a connection was made from it.
+    callers: Vec<bool>,
     ghost few: { btree_map_len programs ≤ most_services },
+    ghost room: { length callers.items ≡ sockets },
+}
+
+/// Of so many sockets none has called.
+#[tactic(auto, using(crate::proofs::Serving::none_called))]
+fn no_callers(alloc: Global, count: usize) -> Result<Vec<bool>, AllocError>
+    ensures room { IfOk result (λ v. length v.items ≡ count) }
+    ensures none { IfOk result (λ v. (socket : ℕ) → has_called v.items socket ≡ false) }
+{
+    let callers = vec![in alloc; false; count]?;
+    Ok(callers)
 }
 
 impl Services {
-    /// No socket is served.
-    pub fn new(alloc: Global) -> Services
-        ensures { IsEmpty result.programs }
+    /// No socket is served, and no connection was made. The only error is want of memory.
+    pub fn new(alloc: Global) -> Result<Services, AllocError>
+        ensures unserved { IfOk result (λ s. IsEmpty s.programs) }
+        ensures uncalled { IfOk result (λ s. (socket : ℕ) → has_called s.callers.items socket ≡ false) }
     {
-        Services {
+        Ok(Services {
             programs: BTreeMap::new(alloc),
-        }
+            callers: no_callers(alloc, SOCKETS)?,
+        })
     }
 
     /// From now on connections to this socket are answered for these programs; where there are none, each call is handed. If the socket is
@@ -55,6 +74,7 @@ impl Services {
         ensures fault { OnErr result (wrong_service socket programs.now ≡ None
             → (result ≡ Err TooManyServices) ⊎ (result ≡ Err NoMemory)) }
         ensures unchanged { OnErr result (self.new.programs.entries ≡ self.old.programs.entries) }
+        ensures callers { self.new.callers ≡ self.old.callers }
     {
         if let Some(fault) = wrong_service(socket, programs) {
             return Err(fault);
@@ -76,5 +96,20 @@ impl Services {
         ensures { option_map (λ v. v.now.items) result ≡ programs_at self.now.programs socket }
     {
         self.programs.get(&socket)
+    }
+
+    /// Notes that a connection was made from a socket.
+    pub fn note_caller(&mut self, socket: u16)
+        ensures callers { self.new.callers.items ≡ slice_set self.old.callers.items socket true }
+        ensures programs { self.new.programs ≡ self.old.programs }
+    {
+        self.callers[usize::from(socket)] = true;
+    }
+
+    /// Whether a connection was made from a socket.
+    pub fn has_called(&self, socket: u16) -> bool
+        ensures { result ≡ has_called self.now.callers.items socket }
+    {
+        self.callers[usize::from(socket)]
     }
 }

@@ -31,7 +31,7 @@ impl Host {
     ghost use Rattle.xns_host.specs.Coming.{Comes, Opens, Seats};
     ghost use Rattle.xns_host.specs.Hosting.{HasNoRoom, IsAllInUse, IsThere, address_in};
     ghost use Rattle.xns_host.specs.Identifiers.{StaysInOrder};
-    ghost use Rattle.xns_host.specs.Ours.{AsksEcho, IsOf, IsSentBy, IsToService, QuotesOurs};
+    ghost use Rattle.xns_host.specs.Ours.{AsksEcho, HasSocket, IsOf, IsSentBy, IsToSocket, QuotesOurs};
     ghost use Rattle.xns_host.specs.Places.{Turns};
     ghost use Rattle.xns_host.specs.Quotes.{is_sent_by};
     ghost use Rattle.xns_host.specs.Register.{number_by, peer_at, peer_cmp};
@@ -73,11 +73,23 @@ impl Host {
         }
     }
 
-    /// Whether a packet is a sequenced one of one host, to a socket of this host that is served.
-    #[tactic(auto, using(crate::proofs::Complaints::to_service, crate::proofs::Complaints::of_every_host))]
-    fn is_to_service(&self, packet: &Packet<'_>) -> bool
-        ensures yes { result ≡ true → IsToService (whole_of self.now) (packet_model packet.now) }
-        ensures no { result ≡ false → IsToService (whole_of self.now) (packet_model packet.now) → ⊥ }
+    /// Whether the host has a socket: it is served, or a connection was made from it.
+    #[tactic(auto, using(crate::proofs::Complaints::of_service, crate::proofs::Complaints::of_caller, crate::proofs::Complaints::of_neither))]
+    fn has_socket(&self, socket: u16) -> bool
+        ensures yes { result ≡ true → HasSocket self.now.services socket }
+        ensures no { result ≡ false → HasSocket self.now.services socket → ⊥ }
+    {
+        match self.services.at(socket) {
+            Some(_) => true,
+            None => self.services.has_called(socket),
+        }
+    }
+
+    /// Whether a packet is a sequenced one of one host, to a socket that this host has.
+    #[tactic(auto, using(crate::proofs::Complaints::to_socket, crate::proofs::Complaints::of_every_host))]
+    fn is_to_socket(&self, packet: &Packet<'_>) -> bool
+        ensures yes { result ≡ true → IsToSocket (whole_of self.now) (packet_model packet.now) }
+        ensures no { result ≡ false → IsToSocket (whole_of self.now) (packet_model packet.now) → ⊥ }
     {
         if packet.kind != SEQUENCED_PACKET {
             return false;
@@ -88,23 +100,20 @@ impl Host {
         if packet.source.is_broadcast() {
             return false;
         }
-        let Some(_) = self.services.at(packet.target.socket) else {
-            return false;
-        };
-        true
+        self.has_socket(packet.target.socket)
     }
 
-    /// Complains of a packet which nobody hears, by an Error packet, if it is a sequenced one to a socket that is served; whether it is.
+    /// Complains of a packet which nobody hears, by an Error packet, if it is a sequenced one to a socket that the host has; whether it is.
     fn complain(&mut self, via: u64, packet: &Packet<'_>, bytes: &[u8]) -> bool
-        ensures served { result ≡ true → IsToService (whole_of self.old) (packet_model packet.now) }
-        ensures unserved { result ≡ false → IsToService (whole_of self.old) (packet_model packet.now) → ⊥ }
+        ensures served { result ≡ true → IsToSocket (whole_of self.old) (packet_model packet.now) }
+        ensures unserved { result ≡ false → IsToSocket (whole_of self.old) (packet_model packet.now) → ⊥ }
         ensures waits { result ≡ true → HasComplained (address_in self.old.network self.old.host packet.now.target.socket) NO_SUCH_SOCKET via
             bytes.now self.old.strays self.new.strays }
         ensures unchanged { result ≡ false → self.new.strays ≡ self.old.strays }
         ensures rest { whole_of self.new ≡ record (whole_of self.old) { strays = self.new.strays } }
         ensures clock { self.new.clock ≡ self.old.clock }
     {
-        if !self.is_to_service(packet) {
+        if !self.is_to_socket(packet) {
             return false;
         }
         let own = self.address(packet.target.socket);

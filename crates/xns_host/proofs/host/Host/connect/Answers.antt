@@ -91,8 +91,10 @@ returns-clause-connects c = record {
       (places_with c.args.self.now.guests.items c.args.self.now.agenda) (taken_there c.args.self.now.guests.items c.put_in.new.guests.items c.args.self.now.agenda c.put_in.new.agenda c.in-Some-place.number _ c.put_in.ensures.places (omega (arith, c.in-Some-place.ensures.within, c.args.self.now.sized))) there c.put_in.ensures.places;
   turned = turned_over c.args.self.now.register.identifiers c.take.new.self.identifiers c.put_in.new.register.identifiers _ c.in-Some-next.id c.take.result
       c.in-Some-next.ensures.next c.take.ensures.given c.take.ensures.some c.put_in.ensures.order;
+  caller = record { callers = c.note_caller.ensures.callers; programs = c.note_caller.ensures.programs };
   unchanged = tt;
   order = tt;
+  no_caller = tt;
   rest = refl;
   clock = search rules;
 }
