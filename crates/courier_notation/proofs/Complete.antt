@@ -1,4 +1,4 @@
--- A type that is written is read.
+-- The spelling of a type is read as that type.
 use Rattle.std.proofs.Common.{◌≡◌, ℕ, zero, suc, ◌+◌, ◌<◌, ◌≤◌, Bool, true, cond, List, [], ◌∷◌, ◌++◌, length, Option, Some, None, Result, Ok, Err, refl, ap, ◌∙◌, append_assoc, arith}
 use Rattle.std.specs.List.{AllByRecursion}
 use Rattle.std.proofs.lemmas.Bool.{lt-ltb}
@@ -46,13 +46,13 @@ maximum_read (Some (numerics.Number n)) ts good = ap (over Some) (numeric_read (
 maximum_read (Some (numerics.Constant (references.Own n))) ts good = ap (over Some) (numeric_read (numerics.Constant (references.Own n)) (tokens.Of ∷ ts) good refl)
 maximum_read (Some (numerics.Constant (references.Other p n))) ts good = ap (over Some) (numeric_read (numerics.Constant (references.Other p n)) (tokens.Of ∷ ts) good refl)
 
--- a number in parentheses, behind the first of these
+-- a number in parentheses, behind the opening one
 inside_read : (x : Numeric) (ts : List Token) → IsNumeric x → numeric_at ((numeric_spelling x ++ tokens.CloseParenthesis ∷ []) ++ ts) ≡ got x (tokens.CloseParenthesis ∷ ts)
 inside_read x ts good = rw (append_assoc (numeric_spelling x) (tokens.CloseParenthesis ∷ []) ts) (numeric_read x (tokens.CloseParenthesis ∷ ts) good refl)
 
 -- ---- lists
 
--- what is spelled so is read, whatever follows that it could not go on with
+-- a spelling is read as what it spells, whatever follows that it could not go on with
 abbrev pub IsComplete : {A : Type 0} → (A → List Token) → (A → Type 0) → Reader A → Type 0
 IsComplete {A} spell Good one = (x : A) (rest : List Token) → Good x → is_apart rest ≡ true → one (spell x ++ rest) ≡ got x rest
 
@@ -229,7 +229,7 @@ choice_read depth tag candidates rest h =
     let regrouped : ((tag_spelling tag ++ tokens.Of ∷ tokens.OpenBrace ∷ candidates_spelling candidates) ++ tokens.CloseBrace ∷ []) ++ rest ≡ tag_spelling tag ++ tokens.Of ∷ tokens.OpenBrace ∷ inside = simp append_assoc in
     rw (regrouped, tag_read tag (tokens.OpenBrace ∷ inside), h, candidates_back candidates) refl
 
--- the first of some
+-- the first component of some
 first_fields : (depth most : ℕ) (names : List ℕ) (type : TypeModel) (fields : FieldModels) (rest : List Token) → field_count (field_and names type fields) ≤ most → AreParts names → type_at depth (type_spelling type ++ (more_fields_spelling fields ++ rest)) ≡ got type (more_fields_spelling fields ++ rest)
     → ((most : ℕ) → field_count fields ≤ most → FieldsAreRead depth most fields rest)
     → listed (field_at (type_at depth)) most (fields_spelling (field_and names type fields) ++ rest) ≡ got ((names, type) ∷ fields_to fields) rest

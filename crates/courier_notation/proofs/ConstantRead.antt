@@ -1,4 +1,4 @@
--- A constant that is read is spelled so, and one that is spelled so is read.
+-- Tokens that are read as a constant spell it, and what spells a constant is read as that constant.
 use Rattle.std.proofs.Common.{◌≡◌, ℕ, zero, suc, ◌≤◌, Bool, true, false, cond, List, [], ◌∷◌, ◌++◌, Result, Ok, refl, ap, subst, ◌∙◌, append_assoc, arith, inl, inr}
 use Rattle.courier_notation.specs.declared.declared.Constant.{Constant}
 use Rattle.courier_notation.specs.declared.declared.Constant.TheVariants as constants

@@ -17,7 +17,7 @@ rest_is test (b ∷ bytes) (suc i) before lt at =
     ap (λ (t : Bool). cond t (behind_front test bytes) (b ∷ bytes)) (before 0 (omega arith))
     ∙ rest_is test bytes i (λ k h. before (suc k) (omega arith)) (omega arith) at
 
--- all bytes pass it
+-- all bytes pass the test
 pub front_whole : (test : ℕ → Bool) (bytes : List ℕ) → ((k : ℕ) → k < length bytes → test (get_or bytes k 0) ≡ true) → front_of test bytes ≡ take (length bytes) bytes
 front_whole test [] all = refl
 front_whole test (b ∷ bytes) all =

@@ -1,4 +1,4 @@
--- A type that is read is written so.
+-- Tokens that are read as a type are its spelling.
 use Rattle.std.proofs.Common.{◌≡◌, ℕ, zero, suc, ◌≤◌, List, [], ◌∷◌, ◌++◌, length, Option, Some, None, Result, Ok, refl, sym, ap, subst, append_assoc, arith}
 use Rattle.std.specs.List.{AllByRecursion}
 use Rattle.courier_notation.specs.declared.token.Token.{Token}

@@ -11,12 +11,12 @@ use Rattle.courier_notation.specs.Programs.{program_of}
 use Rattle.courier_notation.specs.ProgramSpelling.{SpellsProgram}
 use Rattle.courier_notation.specs.Spelling.{type_spelling, IsType, is_apart}
 
--- what is read is written so
+-- tokens that are read as a type are its spelling
 abbrev pub ReadTypeIsWritten : Type 0
 ReadTypeIsWritten = (depth : ℕ) (ts : List Token) (type : TypeModel) (rest : List Token) → type_at depth ts ≡ Ok (type, rest)
     → (ts ≡ type_spelling type ++ rest) × IsType depth type
 
--- what is written so is read, whatever follows it that it could not go on with
+-- the spelling of a type is read as that type, whatever follows that the type could not go on with
 abbrev pub WrittenTypeIsRead : Type 0
 WrittenTypeIsRead = (depth : ℕ) (type : TypeModel) (rest : List Token) → IsType depth type → is_apart rest ≡ true
     → type_at depth (type_spelling type ++ rest) ≡ Ok (type, rest)

@@ -77,7 +77,7 @@ abbrev pub lexemes_spelling : List LexemeModel → List ℕ
 lexemes_spelling [] = []
 lexemes_spelling (x ∷ xs) = lexeme_spelling x ++ 32 ∷ lexemes_spelling xs
 
--- what is read of them, behind what was read
+-- what is read of lexemes with a blank behind each, behind what was read before
 abbrev pub lexing_with : Lexing → List LexemeModel → Lexing
 lexing_with lexing [] = lexing
 lexing_with lexing (x ∷ xs) = lexing_with (with_lexeme x (length (lexemes_spelling (x ∷ xs))) lexing) xs

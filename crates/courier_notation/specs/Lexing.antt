@@ -144,7 +144,7 @@ quoted_ended string (quote ∷ bytes) whole = Ok (LexemeModel.quoted string, byt
 abbrev pub quoted_at : List ℕ → LexemeRead
 quoted_at bytes = quoted_ended (front_of is_no_quote bytes) (behind_front is_no_quote bytes) (length bytes + 1)
 
--- an arrow, or an equals sign alone, behind this
+-- an arrow, or an equals sign alone, from what stands behind the equals sign
 abbrev pub equal_at : List ℕ → LexemeRead
 equal_at [] = Ok (LexemeModel.plain tokens.Equal, [])
 equal_at (b ∷ bytes) = if b == 62 then Ok (LexemeModel.plain tokens.Arrow, bytes) else Ok (LexemeModel.plain tokens.Equal, b ∷ bytes)

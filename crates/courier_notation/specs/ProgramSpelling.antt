@@ -16,7 +16,7 @@ use Rattle.courier_notation.specs.Programs.{most_depth, most_declarations}
 
 -- ---- constants
 
--- the tokens spell a constant in which constants stand at most so deep, and this is kept of it
+-- tokens that spell a constant, with the depth to which constants may stand in it, and with what is kept of it
 mutual
   pub data SpellsConstant : ℕ → Constant → List Token → Type 0 where
     number : (depth n : ℕ) → SpellsConstant (suc depth) (constants.Number n) (tokens.Number n ∷ [])
@@ -37,7 +37,7 @@ mutual
     component : (depth : ℕ) (c d : Constant) (text other : List Token) → SpellsConstant depth c text → SpellsConstant depth d other →
         SpellsElement depth (text ++ tokens.Colon ∷ other)
 
-  -- so many of them with commas between
+  -- elements with commas between, with their number
   pub data SpellsElements : ℕ → ℕ → List Token → Type 0 where
     last : (depth : ℕ) (text : List Token) → SpellsElement depth text → SpellsElements depth 1 text
     more : (depth count : ℕ) (text others : List Token) → SpellsElement depth text → SpellsElements depth count others →

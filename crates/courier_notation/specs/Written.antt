@@ -45,11 +45,12 @@ abbrev pub candidates_from : List (List Designator × TypeModel) → CandidateMo
 candidates_from [] = no_candidates
 candidates_from (c ∷ cs) = candidate_and c.0 c.1 (candidates_from cs)
 
--- the same of parts whose types alone are seen already
+-- components of which the types alone are seen already
 abbrev pub fields_of_seen : List (Vec ℕ × TypeModel) → FieldModels
 fields_of_seen [] = no_fields
 fields_of_seen (f ∷ fs) = field_and f.0.items f.1 (fields_of_seen fs)
 
+-- candidates of which the types alone are seen already
 abbrev pub candidates_of_seen : List (Vec Designator × TypeModel) → CandidateModels
 candidates_of_seen [] = no_candidates
 candidates_of_seen (c ∷ cs) = candidate_and c.0.items c.1 (candidates_of_seen cs)

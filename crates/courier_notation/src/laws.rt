@@ -1,12 +1,12 @@
 //! Laws of the notation, as functions that do nothing.
 ghost use Rattle.courier_notation.specs.Laws.{ProgramIsReadAsItIsSpelled, ReadTypeIsWritten, SpelledLexemesAreRead, WrittenTypeIsRead};
 
-/// A type that is read is written so, token by token.
+/// Tokens that are read as a type are the spelling of that type.
 pub fn read_type_is_written()
     ensures { ReadTypeIsWritten }
 {}
 
-/// A type that is written so is read, whatever follows it.
+/// The spelling of a type is read as that type, where no dot and no parenthesis follows.
 pub fn written_type_is_read()
     ensures { WrittenTypeIsRead }
 {}

@@ -168,7 +168,7 @@ fn quoted_of(bytes: &[u8]) -> Result<(Lexeme<'_>, &[u8]), Stop>
     }
 }
 
-/// An arrow, or an equals sign alone, behind this.
+/// An arrow, or an equals sign alone, from what stands behind the equals sign.
 fn equal_of(bytes: &[u8]) -> Result<(Lexeme<'_>, &[u8]), Stop>
     ensures { Reads (λ x. (lexeme_view x.0, x.1.now)) result (equal_at bytes.now) }
 {
@@ -190,7 +190,7 @@ fn mark_lexeme(mark: Option<Token>, bytes: &[u8]) -> Result<(Lexeme<'_>, &[u8]),
     }
 }
 
-/// The first lexeme of a text that begins with this byte, behind which are these.
+/// The first lexeme of a text, by its first byte and by the bytes behind that one.
 #[tactic(auto, unfolding(crate::specs::Lexing::lexeme_at))]
 fn lexeme_by<'a>(first: u8, text: &'a [u8], bytes: &'a [u8]) -> Result<(Lexeme<'a>, &'a [u8]), Stop>
     requires { text.now ≡ first ∷ bytes.now }

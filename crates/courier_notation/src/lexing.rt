@@ -1,7 +1,7 @@
 //! A text read token by token.
-ghost use Rattle.std.specs.Prelude.{◌≡◌, ◌∷◌, [], ◌++◌, ◌+◌, ◌<◌, ◌≤◌, map, vec_len, IfOk, OnOk};
+ghost use Rattle.std.specs.Prelude.{◌≡◌, ◌∷◌, [], ◌++◌, ◌+◌, ◌<◌, ◌≤◌, length, map, vec_len, IfOk, OnOk};
 ghost use Rattle.courier_notation.specs.declared.token.Token.TheVariants.{Name as NameToken, Quoted as QuotedToken};
-ghost use Rattle.courier_notation.specs.Lexing.{HasToken, with_lexeme, with_token, lexed_from, lexeme_view, lexing_of, lexing_view, most_tokens, nothing_read};
+ghost use Rattle.courier_notation.specs.Lexing.{HasToken, with_lexeme, with_token, lexed_from, lexeme_view, lexing_of, lexing_view, most_text, most_tokens, nothing_read};
 ghost use Rattle.courier_notation.specs.Reading.{Gives, IfNoMemory};
 
 use crate::lexed::Lexed;
@@ -93,11 +93,12 @@ fn lex_within(alloc: Global, text: &[u8]) -> Result<Lexed, Stop>
 /// The tokens of a text of at most 262,144 bytes, of which there are fewer than 65,536; or the first fault.
 ///
 /// A text that is longer has the fault `TooLong` behind the last byte that it may have, whatever else is
-/// wrong with it. `NoMemory` only where a growth was refused, and the text begins with a token.
+/// wrong with it. `NoMemory` only where a growth was refused: the text begins with a token, and is not too long.
 #[tactic(auto, unfolding(crate::specs::Lexing::lexing_of))]
 pub fn lex(alloc: Global, text: &[u8]) -> Result<Lexed, Stop>
     ensures exact { Gives lexing_view result (lexing_of text.now) }
     ensures memory { IfNoMemory result (HasToken text.now) }
+    ensures fits { IfNoMemory result (length text.now ≤ most_text) }
 {
     if text.len() > MOST_TEXT {
         return Err(Stop::Wrong {

@@ -2,7 +2,7 @@
 //! the tree of a program. Names are numbers in the tree, and are not looked up here.
 //!
 //! `lex` and `read_program` are exactly their definitions, the first fault and its place included; the
-//! laws say that what is read of a type is spelled so, and that what is spelled so is read.
+//! laws say that reading is the inverse of spelling.
 #![tactic(auto)]
 
 mod bytes;
