@@ -471,11 +471,14 @@ class HostTest(unittest.TestCase):
             self.service.serve(200)
 
     def test_settings(self):
-        for name, value in (("tries", 0), ("tries", 256), ("window", 65), ("backlog", -1), ("connections", 65536), ("idle", 2**32), ("idle", 2**64)):
+        for name, value in (("tries", 0), ("tries", 256), ("window", 65), ("backlog", -1), ("connections", 65536), ("idle", 2**32), ("idle", 2**64), ("least_wait", 0), ("least_wait", 2**16)):
             with self.assertRaises(ValueError):
                 xns.Host(HERE, **{name: value})
         with self.assertRaises(xns.BadArgumentError):
             xns.Host(HERE, longest_wait=249)
+        with self.assertRaises(xns.BadArgumentError):
+            xns.Host(HERE, least_wait=251)
+        xns.Host(HERE, least_wait=250)
         for wrong in ({"waits": 9}, {"answers_echo": 1}):
             with self.assertRaises(TypeError):
                 xns.Host(HERE, **wrong)

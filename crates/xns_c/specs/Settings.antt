@@ -1,5 +1,5 @@
 -- What a host is made with, as C gives it.
-use Rattle.std.specs.Prelude.{ℕ, ◌==◌, if◌then◌else◌}
+use Rattle.std.specs.Prelude.{ℕ, ◌==◌, min, if◌then◌else◌}
 use Rattle.xns_host.specs.Settings.{usual_settings}
 use Rattle.xns_host.specs.declared.settings.Settings.{Settings}
 use Rattle.xns_c.specs.declared.settings.XnsSettings.{XnsSettings}
@@ -22,6 +22,7 @@ settings_in s = record {
   backlog = given_or usual_settings.backlog s.backlog;
   first_wait = given_or usual_settings.first_wait s.first_wait;
   longest_wait = given_or usual_settings.longest_wait s.longest_wait;
+  least_wait = given_or (min usual_settings.least_wait (given_or usual_settings.first_wait s.first_wait)) s.least_wait;
   idle = idle_in usual_settings.idle s.idle;
   tries = given_or usual_settings.tries s.tries;
   strays = usual_settings.strays;

@@ -23,6 +23,8 @@ pub struct XnsSettings {
     pub tries: u8,
     /// Whether Echo requests are left unanswered: 0 is no.
     pub no_echo: u8,
+    /// How much longer a measured wait is than the measured time at least.
+    pub least_wait: u16,
 }
 
 /// A number of things, or the usual one where it is 0.
@@ -37,6 +39,13 @@ fn time_in(given: u32, usual: u32) -> u32
     ensures { result ≡ given_or usual given }
 {
     if given == 0 { usual } else { given }
+}
+
+/// A short time, or the usual one where it is 0.
+fn short_time_in(given: u16, usual: u32) -> u32
+    ensures { result ≡ given_or usual given }
+{
+    if given == 0 { usual } else { u32::from(given) }
 }
 
 /// How many waits are borne, or the usual number where it is 0.
@@ -65,12 +74,14 @@ impl XnsSettings {
         ensures { result ≡ settings_in self.now }
     {
         let usual = Settings::default();
+        let first_wait = time_in(self.first_wait, usual.first_wait);
         Settings {
             connections: count_in(self.connections, usual.connections),
             window: count_in(self.window, usual.window),
             backlog: count_in(self.backlog, usual.backlog),
-            first_wait: time_in(self.first_wait, usual.first_wait),
+            first_wait,
             longest_wait: time_in(self.longest_wait, usual.longest_wait),
+            least_wait: short_time_in(self.least_wait, usual.least_wait.min(first_wait)),
             idle: idle_in(self.idle, usual.idle),
             tries: tries_in(self.tries, usual.tries),
             strays: usual.strays,
