@@ -220,7 +220,8 @@ class Host(Object):
             raise NoCallError("no call waits for an answer")
 
     def close(self, now: int, number: int) -> None:
-        """Closes a connection once all that it has to say is said, which a `Closed` tells. `NoConnectionError`."""
+        """Closes a connection once all that it has to say is said, which a `Closed` tells. The end is asked for right behind a call; its `Answer` still
+        comes, if the peer gives it before it agrees. A peer that lives and never agrees keeps the connection: `abandon` ends it. `NoConnectionError`."""
         self._done("close", unsigned(now, 64, "now"), unsigned(number, 64, "number"))
 
     def abandon(self, number: int) -> None:

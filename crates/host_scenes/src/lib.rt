@@ -6,6 +6,8 @@ pub mod crowd;
 mod late;
 mod network;
 mod outcome;
+mod parting;
+pub mod partings;
 mod phase;
 pub mod play;
 pub mod player;

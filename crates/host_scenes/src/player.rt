@@ -1,5 +1,6 @@
 use crate::late::Late;
 use crate::outcome::Outcome;
+use crate::parting::Parting;
 use crate::restart::Restart;
 use crate::scene::Scene;
 use crate::station::Station;
@@ -91,7 +92,16 @@ impl Player {
         let Ok(words) = words_of(self.alloc, self.number, self.done, &self.scene) else {
             return Err(HostFault::NoMemory);
         };
-        self.host.call(now, self.connection, 7, words.as_slice())
+        self.host.call(now, self.connection, 7, words.as_slice())?;
+        if self.parts_now() {
+            self.host.close(now, self.connection)?;
+        }
+        Ok(())
+    }
+
+    /// Whether the client closes behind this call, before it is answered.
+    fn parts_now(&self) -> bool {
+        self.scene.parting != Parting::Answered && self.done.saturating_add(1) >= self.scene.calls
     }
 
     /// The client goes on, by a new host where it is started anew.
@@ -143,7 +153,11 @@ impl Player {
         message: &PiecedMessage,
     ) -> Result<(), anyhow::Error> {
         let words = message.words(self.alloc)?;
-        Ok(self.called(now, number, words.as_slice())?)
+        self.called(now, number, words.as_slice())?;
+        if self.scene.parting == Parting::Both {
+            self.host.close(now, number)?;
+        }
+        Ok(())
     }
 
     fn hear_answer(&mut self, now: u64, message: &PiecedMessage) -> Result<(), anyhow::Error> {

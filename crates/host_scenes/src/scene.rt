@@ -1,3 +1,4 @@
+use crate::parting::Parting;
 use crate::phase::Phase;
 use crate::restart::Restart;
 
@@ -33,6 +34,7 @@ pub struct Scene {
     /// How many strangers open a connection and say no more.
     pub strangers: usize,
     pub restart: Restart,
+    pub parting: Parting,
 }
 
 impl Scene {
@@ -56,6 +58,7 @@ impl Scene {
         thinking: 0,
         strangers: 0,
         restart: Restart::Never,
+        parting: Parting::Answered,
     };
 
     const ROUGH: Scene = Scene {

@@ -1,6 +1,6 @@
 -- What a connection has done is told on where no item moves: it is given up, a message is handed, a packet is made.
 use Rattle.std.proofs.Common.{◌≡◌, ◌⊎◌, inl, inr, ◌∙◌, ap, refl, sym, subst, ℕ, Bool, true, false, List, [], ◌∷◌, ◌++◌, append-nil, map, take, drop, length, Option, Some, None}
-use Rattle.std.specs.Prelude.{◌||◌, cond, not, slice_get, if◌then◌else◌, IfSome}
+use Rattle.std.specs.Prelude.{◌&&◌, ◌||◌, cond, not, slice_get, if◌then◌else◌, IfSome}
 use Rattle.std.specs.List.{filter}
 use Rattle.std.specs.Option.{is_some, option_to_list}
 use Rattle.std.proofs.lemmas.List.{map-append}
@@ -17,8 +17,8 @@ use Rattle.xns_spp.specs.State.{State}
 use Rattle.xns_spp.specs.declared.item.Item.{Item}
 use Rattle.xns_connection.specs.Closing.{Knows, closing_items, drains}
 use Rattle.xns_connection.specs.Deeds.{given_up, handed_by, side_taken}
-use Rattle.xns_connection.specs.Story.{is_stopped, CallerHas, ServerHas, SideHas, Story, listed_call, waiting_message, with_handed}
-use Rattle.xns_connection.specs.Telling.{Tells}
+use Rattle.xns_connection.specs.Story.{is_called, is_stopped, out_of, CallerHas, ServerHas, SideHas, Story, listed_call, waiting_message, with_handed}
+use Rattle.xns_connection.specs.Telling.{EndsLast, Tells}
 use Rattle.xns_connection.specs.declared.closing.Closing.{Closing}
 use Rattle.xns_connection.specs.declared.conversation.Conversation.{Conversation}
 use Rattle.xns_connection.specs.declared.side.Side.{Side}
@@ -44,6 +44,7 @@ tells_so c d h v t stands side closing q =
       fed = subst (Begins h.fed) (sym up) t.fed;
       all = λ z. t.all (ap (λ (b : Side). drains b c.closing) (sym side) ∙ (ap (drains d.side) (sym closing) ∙ z)) ∙ sym up;
       given = ap (λ (k : Closing). h.given ++ closing_items k) closing ∙ (t.given ∙ sym q.accepted);
+      last = subst (λ (k : Closing). EndsLast d.side k) (sym closing) (subst (λ (b : Side). EndsLast b c.closing) (sym side) t.last);
       knows = subst (λ (k : Closing). Knows k (drop (length h.fed) (take v.handed v.taken))) (sym closing)
           (subst (λ (l : List Item). Knows c.closing (drop (length h.fed) l)) (sym up) t.knows);
     }
@@ -61,8 +62,9 @@ tells_given_up c h t = record {
   stands = t.stands;
   has = t.has;
   fed = t.fed;
-  all = λ z. let deaf : drains c.side (record (c.closing) { deaf = true }) ≡ true = deaf_drains (is_stopped c.side) c.closing.end_sent c.closing.reply_sent in absurd (cc);
+  all = λ z. let deaf : drains c.side (record (c.closing) { deaf = true }) ≡ true = deaf_drains (is_stopped c.side) (c.closing.end_sent && is_called c.side) c.closing.reply_sent in absurd (cc);
   given = t.given;
+  last = t.last;
   knows = record { wanted = t.knows.wanted; heard = t.knows.heard };
 }
 
@@ -154,6 +156,12 @@ same_stopped (Answers a) k = taken (listed_call a.programs a.call) where
   taken None = refl
   taken (Some m) = refl
 
+handed_out : (a : Answering) → out_of (side_taken (Answers a)) ≡ out_of (Answers a)
+handed_out a = by (listed_call a.programs a.call) where
+  by : (o : Option Message) → out_of (Answers (handed_by o a)) ≡ a.out
+  by None = refl
+  by (Some m) = refl
+
 pub tells_handed : (c : Conversation) (h : Story) (m : Message) → waiting_message c.side ≡ Some m → Tells c h → Tells (record c { side = side_taken c.side }) (with_handed c.side h m)
 tells_handed c h m is t = by c.side refl where
   by : (side : Side) → c.side ≡ side → Tells (record c { side = side_taken side }) (with_handed side h m)
@@ -163,6 +171,7 @@ tells_handed c h m is t = by c.side refl where
     fed = t.fed;
     all = λ z. t.all (ap (λ (b : Side). drains b c.closing) e ∙ z);
     given = t.given;
+    last = λ sent. let k = t.last sent in (k.0, ap out_of (sym e) ∙ k.1);
     knows = t.knows;
   }
   by (Answers a) e = record {
@@ -171,5 +180,6 @@ tells_handed c h m is t = by c.side refl where
     fed = t.fed;
     all = λ z. t.all (ap (λ (b : Side). drains b c.closing) e ∙ (sym (same_stopped (Answers a) c.closing) ∙ z));
     given = t.given;
+    last = λ sent. let k = t.last sent in (k.0, handed_out a ∙ (ap out_of (sym e) ∙ k.1));
     knows = t.knows;
   }

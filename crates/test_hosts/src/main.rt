@@ -19,6 +19,7 @@ mod stubborn;
 use abandoned::Abandoned;
 use clocked::{Clocked, Shown};
 use host_scenes::crowd::Crowd;
+use host_scenes::partings;
 use host_scenes::play::Play;
 use host_scenes::scene::Scene;
 use host_scenes::waits;
@@ -82,10 +83,19 @@ fn show_waits(rt: &HostRuntime) -> Result<(), anyhow::Error> {
     Ok(())
 }
 
+/// Plays all scenes that close behind a call, and prints the outcome of each.
+fn show_partings(rt: &HostRuntime) -> Result<(), anyhow::Error> {
+    for scene in partings::ALL {
+        show_play(rt, scene)?;
+    }
+    Ok(())
+}
+
 /// Plays all that there is, and prints what came of it.
 fn show_all(rt: &HostRuntime) -> Result<(), anyhow::Error> {
     show_scenes(rt)?;
     show_waits(rt)?;
+    show_partings(rt)?;
     for manner in Manner::ALL {
         show_meeting(rt, manner)?;
     }

@@ -13,16 +13,19 @@ pub enum Manner {
     ReadsLate,
     /// Sends two such calls, but reads what came while its end is full.
     ReadsWhileFull,
+    /// Is called, and agrees to close without an answer.
+    AgreesAtOnce,
 }
 
 impl Manner {
-    pub const ALL: [Manner; 6] = [
+    pub const ALL: [Manner; 7] = [
         Manner::FallsSilent,
         Manner::AcknowledgesNothing,
         Manner::GivesNoRoom,
         Manner::ClosesInACall,
         Manner::ReadsLate,
         Manner::ReadsWhileFull,
+        Manner::AgreesAtOnce,
     ];
 
     /// Whether the peer reads what came, by whether it has sent all, and whether its end is full.
@@ -30,6 +33,7 @@ impl Manner {
         match self {
             Manner::ReadsLate => is_all_sent,
             Manner::ReadsWhileFull => is_all_sent || is_full,
+            Manner::AgreesAtOnce => true,
             Manner::FallsSilent
             | Manner::AcknowledgesNothing
             | Manner::GivesNoRoom
@@ -50,6 +54,7 @@ impl Manner {
             Manner::ClosesInACall => "a peer that closes in the middle of a call",
             Manner::ReadsLate => "a peer that sends two long calls before it reads an answer",
             Manner::ReadsWhileFull => "the same, but it reads while its end is full",
+            Manner::AgreesAtOnce => "a call, a close behind it, and a peer that agrees without an answer",
         }
     }
 }

@@ -92,11 +92,15 @@ fn send_more(peer: &mut Endpoint, out: &mut VecDeque<Item>) {
     }
 }
 
-/// The peer reads all that came.
-fn read_all(peer: &mut Endpoint) {
+/// The peer reads all that came; whether that asks it to close.
+fn read_all(peer: &mut Endpoint) -> bool {
+    let mut is_asked = false;
     for _ in 0..peer.waiting() {
-        let _ = peer.take();
+        if let Some(item) = peer.take() {
+            is_asked = is_asked || item.stream == END;
+        }
     }
+    is_asked
 }
 
 impl Meeting {
@@ -133,15 +137,23 @@ impl Meeting {
                 self.out = long_calls(self.alloc)?;
                 self.be_called()
             }
-            Manner::FallsSilent | Manner::AcknowledgesNothing | Manner::GivesNoRoom => self.call(),
+            Manner::FallsSilent | Manner::AcknowledgesNothing | Manner::GivesNoRoom => {
+                self.call()?;
+                Ok(())
+            }
+            Manner::AgreesAtOnce => {
+                let number = self.call()?;
+                self.host.close(0, number)?;
+                Ok(())
+            }
         }
     }
 
-    /// The host calls the peer, by more words than the peer has room for.
-    fn call(&mut self) -> Result<(), anyhow::Error> {
+    /// The host calls the peer, by more words than the peer has room for; the number of the connection.
+    fn call(&mut self) -> Result<usize, HostFault> {
         let number = self.host.connect(0, 0, 1_024, PEER)?;
         self.host.call(0, number, 7, &[7; 5_000])?;
-        Ok(())
+        Ok(number)
     }
 
     /// The peer opens a connection to the host, which it closes once all is sent.
@@ -190,13 +202,18 @@ impl Meeting {
             Manner::GivesNoRoom
             | Manner::ClosesInACall
             | Manner::ReadsLate
-            | Manner::ReadsWhileFull => {
+            | Manner::ReadsWhileFull
+            | Manner::AgreesAtOnce => {
                 if let Some(reply) = peer.receive(self.alloc, bytes)?.reply {
                     self.host.receive(self.now, 0, reply.as_slice());
                 }
                 send_more(peer, &mut self.out);
-                if self.manner.reads(self.out.is_empty(), peer.is_full()) {
-                    read_all(peer);
+                if self.manner.reads(self.out.is_empty(), peer.is_full())
+                    && read_all(peer)
+                    && self.manner == Manner::AgreesAtOnce
+                {
+                    self.out.push_back(item_of(self.alloc, END_REPLY, &[])?)?;
+                    send_more(peer, &mut self.out);
                 }
                 for packet in &peer.flush(self.alloc)? {
                     self.host.receive(self.now, 0, packet.as_slice());

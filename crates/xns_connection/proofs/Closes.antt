@@ -7,7 +7,7 @@ use Rattle.xns_spp.specs.Telling.{unacknowledged_count}
 use Rattle.xns_connection.specs.Closed.{ClosesBy}
 use Rattle.xns_connection.specs.Closing.{drains}
 use Rattle.xns_connection.specs.Connecting.{why_after, why_over}
-use Rattle.xns_connection.specs.Story.{Story, is_stopped}
+use Rattle.xns_connection.specs.Story.{Story, is_called, is_stopped}
 use Rattle.xns_connection.specs.Telling.{is_over}
 use Rattle.xns_connection.specs.declared.closing.Closing.{Closing}
 use Rattle.xns_connection.specs.declared.conversation.Conversation.{Conversation}
@@ -33,7 +33,7 @@ closes_calm {new = new} base free none same = record {
   refused = tt;
   reads = λ fine kept h tells d z. free;
   why = λ is s stands.
-      let over = not_over new.closing s (is_stopped new.side) new.closing.end_sent new.closing.reply_sent new.closing.deaf refl free in
+      let over = not_over new.closing s (is_stopped new.side) (new.closing.end_sent && is_called new.side) new.closing.reply_sent new.closing.deaf refl free in
       same ∙ is ∙ sym (ap (λ (b : Bool). if b then Some (why_over new.closing) else None) over);
   short = λ z. absurd (cc);
   noted = λ z. absurd (cc);

@@ -1,6 +1,6 @@
 -- What is done at a connection, in what its scene says of a story.
 use Rattle.std.proofs.Common.{◌≡◌, ◌∙◌, ap, sym, refl, subst, ℕ, ◌≤◌, ◌+◌, List, [], ◌∷◌, ◌++◌, length-append, take, drop, length, Bool, true, false, Option, Some, None, arith}
-use Rattle.std.specs.Prelude.{◌||◌, if◌then◌else◌}
+use Rattle.std.specs.Prelude.{◌&&◌, ◌||◌, if◌then◌else◌}
 use Rattle.std.specs.Option.{is_some}
 use Rattle.courier_messages.specs.RawCalls.{RawCall}
 use Rattle.courier_messages.specs.declared.message.Message.{Message}
@@ -27,8 +27,9 @@ use Rattle.xns_connection.specs.Deeds.{Deed, nothing, asked, made, gave, took, h
 use Rattle.xns_connection.specs.Moving.{Scene, scene}
 use Rattle.xns_connection.specs.Refusing.{answer_fault, call_fault, side_answer_fault, side_call_fault}
 use Rattle.xns_connection.specs.Step.{May}
-use Rattle.xns_connection.specs.Story.{Story, SideHas, CallerHas, ServerHas, asked_of, is_stopped, listed_call, waiting_message, with_handed}
+use Rattle.xns_connection.specs.Story.{Story, SideHas, CallerHas, ServerHas, asked_of, is_called, is_stopped, listed_call, out_of, waiting_message, with_handed}
 use Rattle.xns_connection.specs.Telling.{Tells}
+use Rattle.xns_connection.specs.declared.closing.Closing.{Closing}
 use Rattle.xns_connection.specs.declared.conversation.Conversation.{Conversation}
 use Rattle.xns_connection.specs.declared.refusal.Refusal.{Refusal}
 use Rattle.xns_connection.specs.declared.refusal.Refusal.TheVariants as faults
@@ -37,7 +38,7 @@ use Rattle.xns_connection.specs.declared.side.Side.TheVariants.{Calls, Answers}
 use Rattle.xns_connection.proofs.Handing.{ServerAnswers, ServerHands, answers, hands}
 use Rattle.xns_connection.proofs.Leading.{going, gone}
 use Rattle.xns_connection.proofs.Says.{Says, says_of}
-use Rattle.xns_connection.proofs.Tellings.{has_at, nothing_said, same_front}
+use Rattle.xns_connection.proofs.Tellings.{has_at, reads_on, same_front}
 
 -- the laws of the layers below
 abbrev pub CallerMakes : Type 0
@@ -58,14 +59,16 @@ pub record Underneath : Type 0 where
 
 -- the side is another, and the story too, but for what its end did
 says_other : (x : Scene) (h m : Story) (side : Side) → Says x h → SideHas m side → m.fed ≡ h.fed → m.given ≡ h.given
+    → (x.closing.end_sent ≡ true → x.closing.wanted ≡ true → out_of side ≡ out_of x.side)
     → (drains side x.closing ≡ false → drains x.side x.closing ≡ false) → Says (record x { side = side }) m
-says_other x h m side s has fed given still =
+says_other x h m side s has fed given out still =
     let front : List Item = take x.state.handed x.state.taken in
     record {
       has = has;
       fed = subst (λ (xs : List Item). (rest : List Item) × (xs ++ rest ≡ front)) (sym fed) s.fed;
       all = λ z. fed ∙ s.all (still z);
       given = ap (λ (xs : List Item). xs ++ closing_items x.closing) given ∙ s.given;
+      last = λ sent. let k = s.last sent in (k.0, out sent k.0 ∙ k.1);
       knows = subst (λ (xs : List Item). Knows x.closing (drop (length xs) front)) (sym fed) s.knows;
     }
 
@@ -78,10 +81,10 @@ no_fault (Some uncalled.Busy) e = absurd (cc)
 no_fault (Some uncalled.TooLong) e = absurd (cc)
 no_fault (Some uncalled.NoMemory) e = absurd (cc)
 
-may_call : (a b : Bool) (o : Option Refusal) → (if a || b then Some faults.Closing else o) ≡ None → (a ≡ false) × (o ≡ None)
+may_call : (a b : Bool) (o : Option Refusal) → (if a || b then Some faults.Closing else o) ≡ None → (a ≡ false) × (b ≡ false) × (o ≡ None)
 may_call true b o e = absurd (cc)
 may_call false true o e = absurd (cc)
-may_call false false o e = (refl, e)
+may_call false false o e = (refl, refl, e)
 
 called : Underneath → (side : Side) (h : Story) (call : RawCall) → is_stopped side ≡ false → side_call_fault side call ≡ None → SideHas h side
     → SideHas (record h { made = h.made ++ call ∷ [] }) (side_called side call)
@@ -172,15 +175,52 @@ answered_stops (Answers a) kind words = by a.asked where
   by None = refl
   by (Some k) = refl
 
+-- ---- what is out, and who calls
+
+taken_out : (side : Side) → out_of (side_taken side) ≡ out_of side
+taken_out (Calls t) = refl
+taken_out (Answers a) = by (listed_call a.programs a.call) where
+  by : (o : Option Message) → (handed_by o a).out ≡ a.out
+  by None = refl
+  by (Some m) = refl
+
+taken_calls : (side : Side) → is_called (side_taken side) ≡ is_called side
+taken_calls (Calls t) = refl
+taken_calls (Answers a) = refl
+
+called_calls : (side : Side) (call : RawCall) → is_called (side_called side call) ≡ is_called side
+called_calls (Calls t) call = refl
+called_calls (Answers a) call = refl
+
+answered_calls : (side : Side) (kind : Answer) (words : List ℕ) → is_called (side_answered side kind words) ≡ is_called side
+answered_calls (Calls t) kind words = refl
+answered_calls (Answers a) kind words = refl
+
+-- no answer is given behind End
+answered_out : (side : Side) (c : Closing) (kind : Answer) (words : List ℕ) → drains side c ≡ false → c.end_sent ≡ true
+    → out_of (side_answered side kind words) ≡ out_of side
+answered_out (Calls t) c kind words free sent = refl
+answered_out (Answers a) c kind words free sent =
+    let end = (reads_on (Answers a) c free).end in
+    let never = ap (λ (b : Bool). b && true) (sym sent) ∙ end in
+    absurd (cc)
+
 -- ---- whatever it is
+
+-- a side in the place of another, of which the same is so
+same_reads : (side other : Side) (c : Closing) → is_stopped other ≡ is_stopped side → is_called other ≡ is_called side → drains other c ≡ drains side c
+same_reads side other c stops calls =
+    ap (λ (b : Bool). b || ((c.end_sent && is_called other) || (c.reply_sent || c.deaf))) stops
+    ∙ ap (λ (b : Bool). is_stopped side || ((c.end_sent && b) || (c.reply_sent || c.deaf))) calls
 
 -- it does not change whether what comes is read
 pub done_drains : (deed : Deed) (x : Scene) → drains (done deed x).side (done deed x).closing ≡ drains x.side x.closing
 done_drains nothing x = refl
 done_drains asked x = refl
-done_drains (made call) x = ap (λ (b : Bool). b || (x.closing.end_sent || (x.closing.reply_sent || x.closing.deaf))) (called_stops x.side call)
-done_drains (gave kind words) x = ap (λ (b : Bool). b || (x.closing.end_sent || (x.closing.reply_sent || x.closing.deaf))) (answered_stops x.side kind words)
-done_drains took x = ap (λ (b : Bool). b || (x.closing.end_sent || (x.closing.reply_sent || x.closing.deaf))) (taken_stops x.side)
+done_drains (made call) x = same_reads x.side (side_called x.side call) x.closing (called_stops x.side call) (called_calls x.side call)
+done_drains (gave kind words) x =
+    same_reads x.side (side_answered x.side kind words) x.closing (answered_stops x.side kind words) (answered_calls x.side kind words)
+done_drains took x = same_reads x.side (side_taken x.side) x.closing (taken_stops x.side) (taken_calls x.side)
 done_drains (heard bytes) x = refl
 
 pub done_wanted : (deed : Deed) (x : Scene) → (done deed x).closing.wanted ≡ wanted_by deed x.closing.wanted
@@ -232,19 +272,21 @@ did laws asked t h may tells = record {
   fed = tells.fed;
   all = tells.all;
   given = tells.given;
+  last = λ sent. (refl, (tells.last sent).1);
   knows = record { wanted = tells.knows.wanted; heard = tells.knows.heard };
 }
 did laws (made call) t h may tells =
     let k = may_call (drains t.side t.closing) t.closing.wanted (side_call_fault t.side call) may in
     says_other (scene t h.state) h (record h { made = h.made ++ call ∷ [] }) (side_called t.side call) (says_of tells)
-    (called laws t.side h call (nothing_said t.side t.closing k.0).0 k.1 tells.has) refl refl (λ z. k.0)
+    (called laws t.side h call (reads_on t.side t.closing k.0).going k.2 tells.has) refl refl (λ sent wanted. let never = k.1 in absurd (cc)) (λ z. k.0)
 did laws (gave kind words) t h may tells =
     let k = may_answer (drains t.side t.closing) (side_answer_fault t.side kind words) may in
     let g = given laws t.side h kind words k.1 tells.has in
-    says_other (scene t h.state) h (with_answer (asked_of t.side) kind words h) (side_answered t.side kind words) (says_of tells) g.has g.fed g.given (λ z. k.0)
+    says_other (scene t h.state) h (with_answer (asked_of t.side) kind words h) (side_answered t.side kind words) (says_of tells) g.has g.fed g.given
+    (λ sent wanted. answered_out t.side t.closing kind words k.0 sent) (λ z. k.0)
 did laws took t h may tells =
     let g = taken laws t.side h tells.has in
-    says_other (scene t h.state) h (with_taken (waiting_message t.side) t.side h) (side_taken t.side) (says_of tells) g.has g.fed g.given
+    says_other (scene t h.state) h (with_taken (waiting_message t.side) t.side h) (side_taken t.side) (says_of tells) g.has g.fed g.given (λ sent wanted. taken_out t.side)
     (λ z. sym (done_drains took (scene t h.state)) ∙ z)
 did laws (heard bytes) t h may tells =
     let s : State = h.state in
@@ -258,5 +300,6 @@ did laws (heard bytes) t h may tells =
       fed = subst (λ (xs : List Item). (rest : List Item) × (h.fed ++ rest ≡ xs)) (sym front) tells.fed;
       all = λ z. tells.all z ∙ sym front;
       given = tells.given ∙ sym k.accepted;
+      last = tells.last;
       knows = subst (λ (xs : List Item). Knows t.closing (drop (length h.fed) xs)) (sym front) tells.knows;
     }

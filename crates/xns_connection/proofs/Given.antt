@@ -171,7 +171,7 @@ made_gives : (t u : Conversation) (o n : Owed) (packet : Option (List ℕ)) → 
 made_gives t u o n packet same closing each = gives_by t u packet same closing (λ s stands.
     let k = each s stands in (
       k.0.state,
-      same_items t u s k.0.state closing k.1.accepted k.1.handed k.1.taken k.2.stands,
+      same_items t u s k.0.state same closing k.1.accepted k.1.handed k.1.taken k.2.stands,
       k.1.path,
       ap (λ (bs : Packets). option_to_list packet ++ bs) k.2.packets ∙ k.1.made,
     ))
@@ -189,7 +189,7 @@ rests_by t u o n same closing each = record {
   on = λ h f.
       let k = each h.state f.stands in
       let m : Story = record h { state = k.0.state } in
-      let there : Carries t u h.state k.0.state = same_items t u h.state k.0.state closing k.1.accepted k.1.handed k.1.taken k.2.stands in
+      let there : Carries t u h.state k.0.state = same_items t u h.state k.0.state same closing k.1.accepted k.1.handed k.1.taken k.2.stands in
       (m, carried t u h k.0.state same (still_free t u same closing) there f, same_messages h m k.1.path refl refl refl refl refl, k.3);
 }
 

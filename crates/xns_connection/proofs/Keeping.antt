@@ -146,7 +146,7 @@ module _ (below : Below) (under : Underneath) (law : ItemsAreAcceptedOrChangeNot
       let m = moves h.state tells.stands in
       let k = story h tells in
       goes_from (told_by deed t.side h) (at_end (last h.state tells.stands).state k.story) (first h.state).state (told_state deed t h)
-      (goes_follow (first h.state).state (told_by deed t.side h) k.story (shut_follows old.closed new.closed m.to) k.goes)
+      (goes_follow (first h.state).state (told_by deed t.side h) k.story (shut_follows old.closed new.closed m.to).runs k.goes)
 
   starves : (s : State) → StandsFor t.endpoint s → new.owed.moving ≡ is_starved step.moved
   starves s stands = ap (λ o. o.moving) (moves s stands).owes

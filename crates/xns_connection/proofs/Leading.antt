@@ -8,7 +8,9 @@ use Rattle.courier_messages.specs.declared.fault.SessionFault.TheVariants.{NoCom
 use Rattle.courier_messages.specs.declared.message.Message.{Message}
 use Rattle.courier_messages.specs.Conversation.{Phase}
 use Rattle.courier_messages.specs.RawCalls.{RawCall}
+use Rattle.courier_messages.specs.Phases.{run, said, ◌then◌}
 use Rattle.courier_messages.specs.Refusal.{Stops}
+use Rattle.courier_messages.specs.Text.{signs}
 use Rattle.xns_spp.specs.Fronts.{begins_then}
 use Rattle.xns_spp.specs.Laws.{TheNextItemIsHandedUp}
 use Rattle.xns_spp.specs.Sending.{send_fault, accepting, after_send, take_answer, after_take}
@@ -126,6 +128,72 @@ module _ (next : TheNextItemIsHandedUp) (gives : CallerGives) (feeds_one : Calle
   pub caller_leads : {x y : Talk × State} → Leads caller_side x y → CallerOver made handed x → CallerOver made handed y
   caller_leads here h = h
   caller_leads (on {y = y} {z = z} l e) h = caller_moves y.0 y.1 y.0.out z refl (caller_leads l h) e
+
+-- ---- the side that calls, where nothing of it is out
+
+-- it put out all this and no more, and its end accepted these items
+pub record CallerDone (made : List RawCall) (handed : List Message) (given accepted : List Item) (y : Talk × State) : Type 0 where
+  pub done : HasDone made (take y.1.handed y.1.taken) given handed y.0
+  pub out : y.0.out ≡ []
+  pub has : y.1.accepted ≡ accepted
+
+-- what is out stays
+same_out : (t n : Talk) (o : Option SessionFault) (m : Message) → talk.answered_unless o t m ≡ Ok n → n.out ≡ t.out
+same_out t n None m e =
+    let same : record t { waiting = false; outcome = Some m } ≡ n = cc in
+    sym (ap (λ (u : Talk). u.out) same)
+same_out t n (Some f) m e = absurd (cc)
+
+said_out : (t n : Talk) (ms : List Message) → talk.answered t ms ≡ Ok n → n.out ≡ t.out
+said_out t n [] e =
+    let same : t ≡ n = cc in
+    sym (ap (λ (u : Talk). u.out) same)
+said_out t n (m ∷ ms) e = same_out t n (talk.reply_fault t.waiting t.transaction m) m e
+
+item_out : (t n : Talk) (x : Item) → talk.after_item t x ≡ Ok n → n.out ≡ t.out
+item_out t n x e = by (run t.phase (signs x)) e where
+  by : (r : Result Phase SessionFault)
+      → (r then λ p. talk.answered (record t { phase = p }) (said t.phase (signs x))) ≡ Ok n → n.out ≡ t.out
+  by (Ok p) is = said_out (record t { phase = p }) n (said t.phase (signs x)) is
+  by (Err f) is = absurd (cc)
+
+module _ (next : TheNextItemIsHandedUp) (feeds_one : CallerFeeds) (made : List RawCall) (handed : List Message) (given accepted : List Item) where
+  quiet_hears : (t : Talk) (s : State) (x : Item) (r : Result Talk SessionFault) (z : Talk × State) → take_answer s ≡ Some x → talk.after_item t x ≡ r
+      → CallerDone made handed given accepted (t, s) → feeding (heard r) (after_take s) ≡ Some (Ok z) → CallerDone made handed given accepted z
+  quiet_hears t s x (Ok n) z is after h e =
+      let same : (n, after_take s) ≡ z = cc in
+      let more = next.some s x is in
+      let fed = feeds_one made (take s.handed s.taken) given handed t n x h.done after in
+      let fed_more : HasDone made (take (s.handed + 1) s.taken) given handed n = subst (λ (xs : List Item). HasDone made xs given handed n) (sym (next.more s x is)) fed in
+      let there : CallerDone made handed given accepted (n, after_take s) = record {
+        done = subst (λ (v : State). HasDone made (take v.handed v.taken) given handed n) (sym more) fed_more;
+        out = item_out t n x after ∙ h.out;
+        has = ap (λ (v : State). v.accepted) more ∙ h.has;
+      } in
+      subst (λ (y : Talk × State). CallerDone made handed given accepted y) same there
+  quiet_hears t s x (Err f) z is after h e = absurd (cc)
+
+  quiet_goes : (t : Talk) (s : State) (x : Item) (stopped calls long : Bool) (z : Talk × State) → take_answer s ≡ Some x → CallerDone made handed given accepted (t, s)
+      → feeding (if stopped then Err Stopped else if calls then Err Attention else if long then Err TooLong else heard (talk.after_item t x)) (after_take s) ≡ Some (Ok z)
+      → CallerDone made handed given accepted z
+  quiet_goes t s x true calls long z is h e = absurd (cc)
+  quiet_goes t s x false true long z is h e = absurd (cc)
+  quiet_goes t s x false false true z is h e = absurd (cc)
+  quiet_goes t s x false false false z is h e = quiet_hears t s x (talk.after_item t x) z is refl h e
+
+  quiet_fed : (t : Talk) (s : State) (o : Option Item) (z : Talk × State) → take_answer s ≡ o → CallerDone made handed given accepted (t, s)
+      → feeds caller_side t s o ≡ Some (Ok z) → CallerDone made handed given accepted z
+  quiet_fed t s None z is h e = absurd (cc)
+  quiet_fed t s (Some x) z is h e = quiet_goes t s x t.failed x.attention (nat_lt most_item (length x.body)) z is h e
+
+  quiet_moves : (t : Talk) (s : State) (now : List Item) (z : Talk × State) → t.out ≡ now → CallerDone made handed given accepted (t, s)
+      → moving caller_side t s now ≡ Some (Ok z) → CallerDone made handed given accepted z
+  quiet_moves t s [] z is h e = quiet_fed t s (take_answer s) z refl h e
+  quiet_moves t s (x ∷ xs) z is h e = let none = h.out in absurd (cc)
+
+  pub quiet_leads : {x y : Talk × State} → Leads caller_side x y → CallerDone made handed given accepted x → CallerDone made handed given accepted y
+  quiet_leads here h = h
+  quiet_leads (on {y = y} {z = z} l e) h = quiet_moves y.0 y.1 y.0.out z refl (quiet_leads l h) e
 
 -- ---- the side that is called
 

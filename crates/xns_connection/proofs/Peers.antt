@@ -32,7 +32,7 @@ use Rattle.xns_connection.specs.declared.side.Side.TheVariants.{Calls, Answers}
 use Rattle.xns_connection.proofs.Leading.{gone, server_gone}
 use Rattle.xns_connection.proofs.Readable.{answer_readable, call_readable, caller_reads, server_reads}
 use Rattle.xns_connection.proofs.Rejecting.{front_get, count_of}
-use Rattle.xns_connection.proofs.Tellings.{nothing_said}
+use Rattle.xns_connection.proofs.Tellings.{reads_on}
 
 -- ---- lists that begin others
 
@@ -223,7 +223,7 @@ pub caller_goes : OneItemMore → AConversationOnlyGrows → MessageItemsCanBeSe
 caller_goes more grows sendable goes c d h g t a x here there calls answers peers reads next =
     let has : CallerHas h t = subst (SideHas h) calls here.has in
     let serves : ServerHas g a = subst (SideHas g) answers there.has in
-    let free : t.failed ≡ false = ap is_stopped (sym calls) ∙ (nothing_said c.side c.closing reads).0 in
+    let free : t.failed ≡ false = ap is_stopped (sym calls) ∙ (reads_on c.side c.closing reads).going in
     let forth : Begins g.fed h.given = without_closing more grows c g.fed h.given (server_well g a serves) (subst (λ (l : List Item). Begins g.fed l) (sym here.given) (begins_then g.fed (handed_up g) h.state.accepted there.fed peers.there)) in
     let back : Begins (h.fed ++ x ∷ []) (g.given ++ closing_items d.closing) = subst (λ (l : List Item). Begins (l ++ x ∷ []) (g.given ++ closing_items d.closing)) (sym (here.all reads)) (subst (λ (l : List Item). Begins (handed_up h ++ x ∷ []) l) (sym there.given) next) in
     elim (next_item more grows d h.fed g.given x (caller_well h t has) back) [
@@ -238,7 +238,7 @@ pub server_goes : OneItemMore → AConversationOnlyGrows → MessageItemsCanBeSe
 server_goes more grows sendable goes c d h g t a x here there calls answers reads idle next =
     let has : CallerHas h t = subst (SideHas h) calls here.has in
     let serves : ServerHas g a = subst (SideHas g) answers there.has in
-    let free : a.failed ≡ false = ap is_stopped (sym answers) ∙ (nothing_said d.side d.closing reads).0 in
+    let free : a.failed ≡ false = ap is_stopped (sym answers) ∙ (reads_on d.side d.closing reads).going in
     let forth : Begins (g.fed ++ x ∷ []) (h.given ++ closing_items c.closing) = subst (λ (l : List Item). Begins (l ++ x ∷ []) (h.given ++ closing_items c.closing)) (sym (there.all reads)) (subst (λ (l : List Item). Begins (handed_up g ++ x ∷ []) l) (sym here.given) next) in
     elim (next_item more grows c g.fed h.given x (server_well g a serves) forth) [
       | inl closing ↦ inl closing

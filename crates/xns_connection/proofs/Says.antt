@@ -1,7 +1,11 @@
 -- What a scene says of a story, and what the closing exchange does to that.
-use Rattle.std.proofs.Common.{◌≡◌, ◌∙◌, ap, sym, refl, subst, ℕ, zero, suc, ◌≤◌, ◌-◌, List, [], ◌∷◌, ◌++◌, append-nil, append_assoc, take, drop, length, Bool, true, false, Option, Some, None, arith}
+use Rattle.std.proofs.Common.{◌≡◌, ◌∙◌, ap, sym, refl, subst, ℕ, zero, suc, ◌≤◌, ◌-◌, List, [], ◌∷◌, ◌++◌, append-nil, append_assoc, take, drop, length, Bool, true, false, Option, Some, None, Result, Ok, Err, arith}
 use Rattle.std.specs.Prelude.{◌&&◌, ◌||◌, if◌then◌else◌, is_ok, not}
 use Rattle.courier_sessions.specs.Answering.{has_items}
+use Rattle.courier_sessions.specs.Pumping.{Side as PumpSide, caller_side, feeding, feeds, moving}
+use Rattle.courier_sessions.specs.Talk.{Talk}
+use Rattle.courier_sessions.specs.declared.feed_refusal.FeedRefusal.{FeedRefusal}
+use Rattle.courier_sessions.specs.declared.feed_refusal.FeedRefusal.TheVariants.{Stopped, Busy, TooLong, Attention, Fault, NoMemory}
 use Rattle.xns_spp.specs.Fronts.{begins_then}
 use Rattle.xns_spp.specs.Growth.{Begins}
 use Rattle.xns_spp.specs.Laws.{TheNextItemIsHandedUp, ItemsAreAcceptedOrChangeNothing}
@@ -10,13 +14,15 @@ use Rattle.xns_spp.specs.State.{State}
 use Rattle.xns_spp.specs.declared.item.Item.{Item}
 use Rattle.xns_connection.specs.Closing.{drains, closing_items, closing_item, put_if, end_stream, end_reply_stream, noted, Knows}
 use Rattle.xns_connection.specs.Moving.{Scene, scene, IsAt, noting, taken_many, drained_out, may_end, may_reply, ended, replied, closed_up, deafened}
-use Rattle.xns_connection.specs.Story.{Story, SideHas, Runs, start, sends, takes, is_stopped, out_of, has_call}
-use Rattle.xns_connection.specs.Telling.{Tells}
+use Rattle.xns_connection.specs.Story.{Story, SideHas, IsMoved, Runs, start, sends, takes, is_called, is_stopped, out_of, owes_answer}
+use Rattle.xns_connection.specs.Telling.{EndsLast, Tells}
 use Rattle.xns_connection.specs.declared.closing.Closing.{Closing}
 use Rattle.xns_connection.specs.declared.conversation.Conversation.{Conversation}
 use Rattle.xns_connection.specs.declared.side.Side.{Side}
+use Rattle.xns_connection.specs.declared.side.Side.TheVariants.{Calls, Answers}
 use Rattle.xns_connection.proofs.Leading.{runs_on}
-use Rattle.xns_connection.proofs.Tellings.{has_at, after_taken, knows_taken, knows_still, KnowsToo, beside, same_closing, same_drains, nothing_said, never_false, deafened as deafens}
+use Rattle.xns_connection.proofs.Tellings.{has_at, after_taken, knows_taken, knows_still, KnowsToo, beside, reads_on, same_closing, same_drains, same_last, deafened as deafens}
+use Rattle.xns_connection.proofs.Still.{no_items}
 use Rattle.xns_connection.proofs.Waits.{one_fewer, stays_true}
 
 -- a story, but for the history of its end, is one of this scene
@@ -25,10 +31,11 @@ pub record Says (x : Scene) (h : Story) : Type 0 where
   pub fed : Begins h.fed (take x.state.handed x.state.taken)
   pub all : drains x.side x.closing ≡ false → h.fed ≡ take x.state.handed x.state.taken
   pub given : h.given ++ closing_items x.closing ≡ x.state.accepted
+  pub last : EndsLast x.side x.closing
   pub knows : Knows x.closing (drop (length h.fed) (take x.state.handed x.state.taken))
 
 pub says_of : {t : Conversation} {h : Story} → Tells t h → Says (scene t h.state) h
-says_of tells = record { has = tells.has; fed = tells.fed; all = tells.all; given = tells.given; knows = tells.knows }
+says_of tells = record { has = tells.has; fed = tells.fed; all = tells.all; given = tells.given; last = tells.last; knows = tells.knows }
 
 pub tells_by : {t : Conversation} {x : Scene} {h : Story} → IsAt t x → Says x h → Tells t (record h { state = x.state })
 tells_by {t} {x} {h} at s =
@@ -39,6 +46,7 @@ tells_by {t} {x} {h} at s =
       fed = s.fed;
       all = λ z. s.all (ap (λ (e : Closing). drains x.side e) (sym at.closing) ∙ ap (λ (y : Side). drains y t.closing) (sym at.side) ∙ z);
       given = ap (λ (e : Closing). h.given ++ closing_items e) at.closing ∙ s.given;
+      last = same_last x.side t.side x.closing t.closing at.side at.closing s.last;
       knows = subst (λ (e : Closing). Knows e (drop (length h.fed) (take x.state.handed x.state.taken))) (sym at.closing) s.knows;
     }
 
@@ -62,6 +70,35 @@ follows_then {x} {y} {z} p q = record {
   still = λ free. let same = q.still free in same ∙ p.still (subst (λ (w : Scene). drains w.side w.closing ≡ false) same free);
 }
 
+-- the same; but where the second reads on, only an item was put out, at most, behind which nothing of the side moves
+pub record EndsSo (x y : Scene) : Type 0 where
+  pub says : (h : Story) → Says x h → Says y h
+  pub runs : Runs x.state y.state
+  pub side : y.side ≡ x.side
+  pub wanted : y.closing.wanted ≡ x.closing.wanted
+  pub free : drains y.side y.closing ≡ false → drains x.side x.closing ≡ false
+  pub moved : drains y.side y.closing ≡ false → IsMoved x.side x.state → IsMoved y.side y.state
+
+pub ends_so : {x y : Scene} → Follows x y → EndsSo x y
+ends_so {x} {y} f = record {
+  says = f.says;
+  runs = f.runs;
+  side = f.side;
+  wanted = f.wanted;
+  free = λ z. subst (λ (w : Scene). drains w.side w.closing ≡ false) (f.still z) z;
+  moved = λ z m. subst (λ (w : Scene). IsMoved w.side w.state) (sym (f.still z)) m;
+}
+
+pub ends_then : {x y z : Scene} → EndsSo x y → EndsSo y z → EndsSo x z
+ends_then p q = record {
+  says = λ h s. q.says h (p.says h s);
+  runs = runs_on p.runs q.runs;
+  side = q.side ∙ p.side;
+  wanted = q.wanted ∙ p.wanted;
+  free = λ z. p.free (q.free z);
+  moved = λ z m. q.moved z (p.moved (q.free z) m);
+}
+
 -- ---- an item is taken
 
 not_free : (x y : Scene) → drains y.side y.closing ≡ true → drains y.side y.closing ≡ false → y ≡ x
@@ -83,6 +120,7 @@ noted_follows next x (Some item) is drain =
         fed = begins_then h.fed (take s.handed s.taken) (take (after_take s).handed (after_take s).taken) w.fed k.1;
         all = λ z. absurd (cc);
         given = ap (λ (xs : List Item). h.given ++ xs) (same_closing x.closing c b.end b.reply) ∙ w.given ∙ sym k.0;
+        last = λ sent. let m = w.last (sym b.end ∙ sent) in (b.wanted ∙ m.0, m.1);
         knows = knows_taken next s (Some item) x.closing c is refl h.fed w.fed w.knows;
       };
       runs = takes start;
@@ -142,6 +180,17 @@ closes_not x = record { follows = follows_not x; deaf = refl }
 closes_then : {x y z : Scene} → Closes x y → Closes y z → Closes x z
 closes_then p q = record { follows = follows_then p.follows q.follows; deaf = q.deaf ∙ p.deaf }
 
+-- the same, where the second may read on behind End
+pub record ClosesSo (x y : Scene) : Type 0 where
+  pub follows : EndsSo x y
+  pub deaf : y.closing.deaf ≡ x.closing.deaf
+
+closes_so : {x y : Scene} → Closes x y → ClosesSo x y
+closes_so p = record { follows = ends_so p.follows; deaf = p.deaf }
+
+so_then : {x y z : Scene} → ClosesSo x y → ClosesSo y z → ClosesSo x z
+so_then p q = record { follows = ends_then p.follows q.follows; deaf = q.deaf ∙ p.deaf }
+
 record DrainsOut (x y : Scene) : Type 0 where
   closes : Closes x y
   drain : drains y.side y.closing ≡ drains x.side x.closing
@@ -160,79 +209,123 @@ drains_out next x = drains_by next x (drains x.side x.closing) refl
 
 -- ---- an item is put out
 
-said_follows : ItemsAreAcceptedOrChangeNothing → (x : Scene) (item : Item) (c : Closing) → is_ok (send_answer x.state item) ≡ true
-    → drains x.side c ≡ true → c.wanted ≡ x.closing.wanted
+said_says : ItemsAreAcceptedOrChangeNothing → (x : Scene) (item : Item) (c : Closing) → is_ok (send_answer x.state item) ≡ true
+    → (drains x.side c ≡ false → drains x.side x.closing ≡ false) → (EndsLast x.side x.closing → EndsLast x.side c)
     → ((g : List Item) → g ++ closing_items c ≡ (g ++ closing_items x.closing) ++ item ∷ []) → KnowsToo x.closing c
-    → Follows x (record x { closing = c; state = after_send x.state item })
-said_follows law x item c ok drain wanted more too =
+    → (h : Story) → Says x h → Says (record x { closing = c; state = after_send x.state item }) h
+said_says law x item c ok free last more too h w =
     let s : State = x.state in
     let v : State = after_send s item in
     let e : v ≡ record s { accepted = s.accepted ++ item ∷ [] } = law.accepted s item ok in
     let front : take v.handed v.taken ≡ take s.handed s.taken = ap (λ (w : State). take w.handed w.taken) e in
-    let y : Scene = record x { closing = c; state = v } in
     record {
-      says = λ h w. record {
-        has = w.has;
-        fed = subst (λ (xs : List Item). Begins h.fed xs) (sym front) w.fed;
-        all = λ z. absurd (cc);
-        given = more h.given ∙ ap (λ (xs : List Item). xs ++ item ∷ []) w.given ∙ sym (ap (λ (u : State). u.accepted) e);
-        knows = knows_still x.closing c s v too front h.fed w.knows;
-      };
-      runs = sends start item;
-      side = refl;
-      wanted = wanted;
-      still = λ z. not_free x y drain z;
+      has = w.has;
+      fed = subst (λ (xs : List Item). Begins h.fed xs) (sym front) w.fed;
+      all = λ z. w.all (free z) ∙ sym front;
+      given = more h.given ∙ ap (λ (xs : List Item). xs ++ item ∷ []) w.given ∙ sym (ap (λ (u : State). u.accepted) e);
+      last = last w.last;
+      knows = knows_still x.closing c s v too front h.fed w.knows;
     }
 
-reads_on : (a b c : Bool) → (a && (not b && c)) ≡ true → b ≡ false
-reads_on true true c e = absurd (cc)
-reads_on true false c e = refl
-reads_on false b c e = absurd (cc)
+-- why End may be put out
+record MayEnd (x : Scene) : Type 0 where
+  wanted : x.closing.wanted ≡ true
+  free : drains x.side x.closing ≡ false
+  unsent : x.closing.end_sent ≡ false
+  out : has_items (out_of x.side) ≡ false
 
-no_reply : (a b c d : Bool) → (a || (b || (c || d))) ≡ false → c ≡ false
-no_reply true b c d z = absurd (cc)
-no_reply false true c d z = absurd (cc)
-no_reply false false true d z = absurd (cc)
-no_reply false false false d z = refl
+why_end : (x : Scene) → may_end x ≡ true → MayEnd x
+why_end x may = by x.closing.wanted (drains x.side x.closing) x.closing.end_sent (owes_answer x.side) (has_items (out_of x.side)) refl refl refl refl may where
+  by : (a b c d e : Bool) → x.closing.wanted ≡ a → drains x.side x.closing ≡ b → x.closing.end_sent ≡ c → has_items (out_of x.side) ≡ e
+      → (a && (not b && (not c && (not d && not e)))) ≡ true → MayEnd x
+  by false b c d e p q r s z = absurd (cc)
+  by true true c d e p q r s z = absurd (cc)
+  by true false true d e p q r s z = absurd (cc)
+  by true false false true e p q r s z = absurd (cc)
+  by true false false false true p q r s z = absurd (cc)
+  by true false false false false p q r s z = record { wanted = p; free = q; unsent = r; out = s }
 
-second_true : (a b : Bool) → (a || (true || b)) ≡ true
-second_true true b = refl
-second_true false b = refl
+-- an item that is put out lets none move where nothing of the side is out
+none_fed : {S : Type 0} (r : Result S FeedRefusal) (v w : State) → feeding r v ≡ None → feeding r w ≡ None
+none_fed (Ok t) v w e = absurd (cc)
+none_fed (Err Busy) v w e = refl
+none_fed (Err Stopped) v w e = absurd (cc)
+none_fed (Err TooLong) v w e = absurd (cc)
+none_fed (Err Attention) v w e = absurd (cc)
+none_fed (Err (Fault f)) v w e = absurd (cc)
+none_fed (Err NoMemory) v w e = absurd (cc)
+
+none_feeds : {S : Type 0} (side : PumpSide S) (t : S) (v w : State) (o : Option Item) → feeds side t v o ≡ None → feeds side t w o ≡ None
+none_feeds side t v w None e = refl
+none_feeds side t v w (Some x) e = none_fed (side.fed t x) (after_take v) (after_take w) e
+
+caller_moved : (t : Talk) (s v : State) → t.out ≡ [] → take_answer v ≡ take_answer s → IsMoved (Calls t) s → IsMoved (Calls t) v
+caller_moved t s v out same e =
+    let fed : feeds caller_side t s (take_answer s) ≡ None = ap (λ (xs : List Item). moving caller_side t s xs) (sym out) ∙ e in
+    ap (λ (xs : List Item). moving caller_side t v xs) out ∙ ap (λ (o : Option Item). feeds caller_side t v o) same ∙ none_feeds caller_side t s v (take_answer s) fed
+
+ended_moved : (side : Side) (c : Closing) (s v : State) → out_of side ≡ [] → take_answer v ≡ take_answer s → drains side (record c { end_sent = true }) ≡ false
+    → IsMoved side s → IsMoved side v
+ended_moved (Calls t) c s v out same free e = caller_moved t s v out same e
+ended_moved (Answers a) c s v out same free e = let r = reads_on (Answers a) (record c { end_sent = true }) free in let never = r.end in absurd (cc)
+
+ended_free : (side : Side) (c : Closing) → c.end_sent ≡ false → drains side (record c { end_sent = true }) ≡ false → drains side c ≡ false
+ended_free side c unsent free =
+    let r = reads_on side (record c { end_sent = true }) free in
+    ap (λ (b : Bool). b || ((c.end_sent && is_called side) || (c.reply_sent || c.deaf))) r.going
+    ∙ ap (λ (b : Bool). (b && is_called side) || (c.reply_sent || c.deaf)) unsent ∙ ap (λ (b : Bool). b || c.deaf) r.reply ∙ r.heard
 
 end_follows : ItemsAreAcceptedOrChangeNothing → (x : Scene) → may_end x ≡ true → is_ok (send_answer x.state (closing_item end_stream)) ≡ true
-    → Closes x (record x { closing = record x.closing { end_sent = true }; state = after_send x.state (closing_item end_stream) })
+    → ClosesSo x (record x { closing = record x.closing { end_sent = true }; state = after_send x.state (closing_item end_stream) })
 end_follows law x may ok =
     let item : Item = closing_item end_stream in
-    let free = reads_on x.closing.wanted (drains x.side x.closing) (not (has_call x.side) && not (has_items (out_of x.side))) may in
-    let none = (nothing_said x.side x.closing free).1 in
+    let c : Closing = record x.closing { end_sent = true } in
+    let why = why_end x may in
+    let free = ended_free x.side x.closing why.unsent in
+    let reply = (reads_on x.side x.closing why.free).reply in
+    let out = no_items (out_of x.side) why.out in
+    let none : closing_items x.closing ≡ [] =
+    ap (λ (b : Bool). put_if b end_stream ++ put_if x.closing.reply_sent end_reply_stream) why.unsent ∙ ap (λ (b : Bool). put_if b end_reply_stream) reply in
     record {
-      follows = said_follows law x item (record x.closing { end_sent = true }) ok (second_true (is_stopped x.side) (x.closing.reply_sent || x.closing.deaf)) refl
-          (λ g.
-          ap (λ (b : Bool). g ++ (item ∷ [] ++ put_if b end_reply_stream)) (no_reply (is_stopped x.side) x.closing.end_sent x.closing.reply_sent x.closing.deaf free)
-          ∙ ap (λ (xs : List Item). xs ++ item ∷ []) (sym (ap (λ (xs : List Item). g ++ xs) none ∙ append-nil g)))
-          (λ items k. record { wanted = k.wanted; heard = k.heard });
+      follows = record {
+        says = said_says law x item c ok free (λ last sent. (why.wanted, out))
+            (λ g.
+            ap (λ (b : Bool). g ++ (item ∷ [] ++ put_if b end_reply_stream)) reply
+            ∙ ap (λ (xs : List Item). xs ++ item ∷ []) (sym (ap (λ (xs : List Item). g ++ xs) none ∙ append-nil g)))
+            (λ items k. record { wanted = k.wanted; heard = k.heard });
+        runs = sends start item;
+        side = refl;
+        wanted = refl;
+        free = free;
+        moved = λ z m. ended_moved x.side x.closing x.state (after_send x.state item) out (ap take_answer (law.accepted x.state item ok)) z m;
+      };
       deaf = refl;
     }
 
--- what was put out, if anything was
-record Puts (x y : Scene) (may : Scene → Bool) (item : Item) : Type 0 where
-  closes : Closes x y
-  said : may y ≡ true → is_ok (send_answer y.state item) ≡ false
+-- End was put out, if it was
+record PutsEnd (x y : Scene) : Type 0 where
+  closes : ClosesSo x y
+  said : may_end y ≡ true → is_ok (send_answer y.state (closing_item end_stream)) ≡ false
 
 ends_by : ItemsAreAcceptedOrChangeNothing → (x : Scene) (m o : Bool) → may_end x ≡ m → is_ok (send_answer x.state (closing_item end_stream)) ≡ o
-    → Puts x (if m && o then record x { closing = record x.closing { end_sent = true }; state = after_send x.state (closing_item end_stream) } else x) may_end (closing_item end_stream)
+    → PutsEnd x (if m && o then record x { closing = record x.closing { end_sent = true }; state = after_send x.state (closing_item end_stream) } else x)
 ends_by law x true true may ok = record {
   closes = end_follows law x may ok;
   said = λ again.
       let y : Scene = record x { closing = record x.closing { end_sent = true }; state = after_send x.state (closing_item end_stream) } in
-      let free = reads_on y.closing.wanted (drains y.side y.closing) (not (has_call y.side) && not (has_items (out_of y.side))) again in
-      absurd (never_false (is_stopped x.side) free);
+      let twice = (why_end y again).unsent in
+      absurd (cc);
 }
-ends_by law x true false may ok = record { closes = closes_not x; said = λ again. ok }
-ends_by law x false o may ok = record { closes = closes_not x; said = λ again. absurd (cc) }
+ends_by law x true false may ok = record { closes = closes_so (closes_not x); said = λ again. ok }
+ends_by law x false o may ok = record { closes = closes_so (closes_not x); said = λ again. absurd (cc) }
 
-ends : ItemsAreAcceptedOrChangeNothing → (x : Scene) → Puts x (ended x) may_end (closing_item end_stream)
+ends : ItemsAreAcceptedOrChangeNothing → (x : Scene) → PutsEnd x (ended x)
 ends law x = ends_by law x (may_end x) (is_ok (send_answer x.state (closing_item end_stream))) refl refl
+
+-- EndReply was put out, if it was
+record PutsReply (x y : Scene) : Type 0 where
+  closes : Closes x y
+  said : may_reply y ≡ true → is_ok (send_answer y.state (closing_item end_reply_stream)) ≡ false
 
 unsent : (a b c : Bool) → (a && (not b && c)) ≡ true → b ≡ false
 unsent true true c e = absurd (cc)
@@ -252,16 +345,23 @@ reply_follows law x may ok =
     let unsaid = unsent x.closing.reply_wanted x.closing.reply_sent (drains x.side x.closing && not (has_items (out_of x.side))) may in
     let end : List Item = put_if x.closing.end_sent end_stream in
     record {
-      follows = said_follows law x item (record x.closing { reply_sent = true }) ok (stays_true (is_stopped x.side) x.closing.end_sent x.closing.deaf) refl
-          (λ g.
-          sym (append_assoc g end (item ∷ []))
-          ∙ ap (λ (xs : List Item). xs ++ item ∷ []) (sym (ap (λ (b : Bool). g ++ (end ++ put_if b end_reply_stream)) unsaid ∙ ap (λ (xs : List Item). g ++ xs) (append-nil end))))
-          (λ items k. record { wanted = k.wanted; heard = k.heard });
+      follows = record {
+        says = said_says law x item (record x.closing { reply_sent = true }) ok (λ z. absurd (let never = (reads_on x.side (record x.closing { reply_sent = true }) z).reply in cc))
+            (λ last. last)
+            (λ g.
+            sym (append_assoc g end (item ∷ []))
+            ∙ ap (λ (xs : List Item). xs ++ item ∷ []) (sym (ap (λ (b : Bool). g ++ (end ++ put_if b end_reply_stream)) unsaid ∙ ap (λ (xs : List Item). g ++ xs) (append-nil end))))
+            (λ items k. record { wanted = k.wanted; heard = k.heard });
+        runs = sends start item;
+        side = refl;
+        wanted = refl;
+        still = λ z. absurd (let never = (reads_on x.side (record x.closing { reply_sent = true }) z).reply in cc);
+      };
       deaf = refl;
     }
 
 replies_by : ItemsAreAcceptedOrChangeNothing → (x : Scene) (m o : Bool) → may_reply x ≡ m → is_ok (send_answer x.state (closing_item end_reply_stream)) ≡ o
-    → Puts x (if m && o then record x { closing = record x.closing { reply_sent = true }; state = after_send x.state (closing_item end_reply_stream) } else x) may_reply (closing_item end_reply_stream)
+    → PutsReply x (if m && o then record x { closing = record x.closing { reply_sent = true }; state = after_send x.state (closing_item end_reply_stream) } else x)
 replies_by law x true true may ok = record {
   closes = reply_follows law x may ok;
   said = λ again.
@@ -272,7 +372,7 @@ replies_by law x true true may ok = record {
 replies_by law x true false may ok = record { closes = closes_not x; said = λ again. ok }
 replies_by law x false o may ok = record { closes = closes_not x; said = λ again. absurd (cc) }
 
-replies : ItemsAreAcceptedOrChangeNothing → (x : Scene) → Puts x (replied x) may_reply (closing_item end_reply_stream)
+replies : ItemsAreAcceptedOrChangeNothing → (x : Scene) → PutsReply x (replied x)
 replies law x = replies_by law x (may_reply x) (is_ok (send_answer x.state (closing_item end_reply_stream))) refl refl
 
 -- it is put out only where what comes is looked at for that alone
@@ -280,7 +380,7 @@ reply_drains : (x : Scene) (m o : Bool) → may_reply x ≡ m
     → (let y : Scene = if m && o then record x { closing = record x.closing { reply_sent = true }; state = after_send x.state (closing_item end_reply_stream) } else x in drains y.side y.closing)
     ≡ drains x.side x.closing
 reply_drains x true true may =
-    stays_true (is_stopped x.side) x.closing.end_sent x.closing.deaf
+    stays_true (is_stopped x.side) (x.closing.end_sent && is_called x.side) x.closing.deaf
     ∙ sym (drains_then x.closing.reply_wanted (not x.closing.reply_sent) (drains x.side x.closing) (not (has_items (out_of x.side))) may)
 reply_drains x true false may = refl
 reply_drains x false o may = refl
@@ -301,7 +401,7 @@ pub record IsSaid (y : Scene) : Type 0 where
   pub reply : may_reply y ≡ true → is_ok (send_answer y.state (closing_item end_reply_stream)) ≡ false
 
 pub record ClosesUp (x y : Scene) : Type 0 where
-  pub closes : Closes x y
+  pub closes : ClosesSo x y
   pub said : IsSaid y
 
 pub closes_up : TheNextItemIsHandedUp → ItemsAreAcceptedOrChangeNothing → (x : Scene) → ClosesUp x (closed_up x)
@@ -315,12 +415,11 @@ closes_up next law x =
     let same : waiting_count y.state ≡ waiting_count b.state =
     sent_same law b (may_reply b) (is_ok (send_answer b.state (closing_item end_reply_stream))) (record b.closing { reply_sent = true }) (closing_item end_reply_stream) refl in
     record {
-      closes = closes_then p.closes (closes_then q.closes r.closes);
+      closes = so_then p.closes (closes_so (closes_then q.closes r.closes));
       said = record {
         read = λ yes. same ∙ q.none (sym q.drain ∙ sym (reply_drains b _ _ refl) ∙ yes);
         end = λ may.
-            let free = reads_on y.closing.wanted (drains y.side y.closing) (not (has_call y.side) && not (has_items (out_of y.side))) may in
-            let is : y ≡ a = (follows_then q.closes.follows r.closes.follows).still free in
+            let is : y ≡ a = (follows_then q.closes.follows r.closes.follows).still (why_end y may).free in
             ap (λ (w : Scene). is_ok (send_answer w.state (closing_item end_stream))) is ∙ p.said (sym (ap may_end is) ∙ may);
         reply = r.said;
       };
@@ -331,14 +430,15 @@ deaf_follows x = record {
   says = λ h w. record {
     has = w.has;
     fed = w.fed;
-    all = λ z. absurd (deafens (is_stopped x.side) x.closing.end_sent x.closing.reply_sent z);
+    all = λ z. absurd (deafens (is_stopped x.side) (x.closing.end_sent && is_called x.side) x.closing.reply_sent z);
     given = w.given;
+    last = w.last;
     knows = record { wanted = w.knows.wanted; heard = w.knows.heard };
   };
   runs = start;
   side = refl;
   wanted = refl;
-  still = λ z. absurd (deafens (is_stopped x.side) x.closing.end_sent x.closing.reply_sent z);
+  still = λ z. absurd (deafens (is_stopped x.side) (x.closing.end_sent && is_called x.side) x.closing.reply_sent z);
 }
 
 -- ---- one that reads no more does so for good
@@ -348,10 +448,16 @@ unfolding taken_many
 taken_drained zero x drain = drain
 taken_drained (suc n) x drain = let y : Scene = taken_many n x in noting_drains y (take_answer y.state) ∙ taken_drained n x drain
 
+ended_too : (a b c d : Bool) → (a || ((b && c) || d)) ≡ true → (a || (c || d)) ≡ true
+ended_too true b c d e = refl
+ended_too false true c d e = e
+ended_too false false true d e = refl
+ended_too false false false d e = e
+
 ended_drained : (x : Scene) (b : Bool) → drains x.side x.closing ≡ true
     → (let y : Scene = if b then record x { closing = record x.closing { end_sent = true }; state = after_send x.state (closing_item end_stream) } else x in drains y.side y.closing)
     ≡ true
-ended_drained x true drain = second_true (is_stopped x.side) (x.closing.reply_sent || x.closing.deaf)
+ended_drained x true drain = ended_too (is_stopped x.side) x.closing.end_sent (is_called x.side) (x.closing.reply_sent || x.closing.deaf) drain
 ended_drained x false drain = drain
 
 out_drained : (x : Scene) (b : Bool) → drains x.side x.closing ≡ true
@@ -373,4 +479,4 @@ last_true false false true = refl
 last_true false false false = refl
 
 pub deaf_drained : (x : Scene) → drains (deafened x).side (deafened x).closing ≡ true
-deaf_drained x = last_true (is_stopped x.side) x.closing.end_sent x.closing.reply_sent
+deaf_drained x = last_true (is_stopped x.side) (x.closing.end_sent && is_called x.side) x.closing.reply_sent

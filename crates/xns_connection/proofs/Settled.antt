@@ -1,45 +1,65 @@
 -- What all that can move does to what a scene says of a story.
-use Rattle.std.proofs.Common.{[], ◌≡◌, ◌≢◌, ◌∙◌, ap, sym, refl, subst, List, ◌++◌, append-nil, take, drop, length, Bool, true, false, Result, Ok, Err, OnOk, IfErr}
-use Rattle.std.specs.Prelude.{◌||◌}
+use Rattle.std.proofs.Common.{[], ◌∷◌, ◌≡◌, ◌≢◌, ◌∙◌, ap, sym, refl, subst, List, ◌++◌, append-nil, take, drop, length, Bool, true, false, Result, Ok, Err, OnOk, IfErr}
+use Rattle.std.specs.Prelude.{◌&&◌, ◌||◌}
 use Rattle.std.proofs.Math.Seq.{drop-length}
 use Rattle.courier_sessions.specs.declared.feed_refusal.FeedRefusal.{FeedRefusal}
 use Rattle.courier_sessions.specs.declared.feed_refusal.FeedRefusal.TheVariants.{Stopped, Busy, TooLong, Attention, Fault, NoMemory}
 use Rattle.xns_spp.specs.Laws.{ItemsAreAcceptedOrChangeNothing}
 use Rattle.xns_spp.specs.State.{State, IsState}
 use Rattle.xns_spp.specs.declared.item.Item.{Item}
-use Rattle.xns_connection.specs.Closing.{drains, closing_items, Knows}
-use Rattle.xns_connection.specs.Moving.{IsAt, Scene, Settles, Moves, drains_only, converses, Pumps, Rounds, once, again, Converses, calms, starves, refuses, refuses_on, closed_up, deafened, settled_by}
-use Rattle.xns_connection.specs.Story.{Story, GoesOn, IsMoved, IsListed, IsHeld, is_stopped}
-use Rattle.xns_connection.specs.Telling.{IsUnrefused}
+use Rattle.xns_connection.specs.Closing.{closing_item, closing_items, drains, end_reply_stream, end_stream, put_if, Knows}
+use Rattle.xns_connection.specs.Moving.{IsAt, Scene, Settles, Moves, drains_only, converses, Pumps, Rejects, rejects, Rounds, once, again, Converses, calms, starves, refuses, refuses_on, closed_up, deafened, settled_by}
+use Rattle.xns_connection.specs.Story.{Story, GoesOn, IsMoved, IsListed, IsHeld, Runs, is_called, is_stopped, out_of}
+use Rattle.xns_connection.specs.Telling.{EndsLast, IsUnrefused}
 use Rattle.xns_connection.specs.declared.closing.Closing.{Closing}
 use Rattle.xns_connection.specs.declared.conversation.Conversation.{Conversation}
 use Rattle.xns_connection.specs.declared.side.Side.{Side}
 use Rattle.xns_connection.specs.declared.side.Side.TheVariants.{Calls, Answers}
-use Rattle.xns_connection.proofs.Fills.{Below, Fills, HasConversed, Until, at_end, has_conversed}
+use Rattle.xns_connection.proofs.Fills.{Behind, Below, Fills, HasConversed, Until, at_end, has_conversed}
 use Rattle.xns_connection.proofs.Leading.{goes_on, same_messages, stays}
-use Rattle.xns_connection.proofs.Says.{Says, Follows, IsSaid, closed_drained, closes_up, deaf_drained, deaf_follows, follows_then}
-use Rattle.xns_connection.proofs.Tellings.{nothing_said, reads_by, unsaid, on_ok, if_err, deafened as deafens}
+use Rattle.xns_connection.proofs.Says.{EndsSo, IsSaid, Says, closed_drained, closes_up, deaf_drained, deaf_follows, ends_so, ends_then}
+use Rattle.xns_connection.proofs.Tellings.{ReadsOn, reads_by, reads_on, unsaid, on_ok, if_err, deafened as deafens}
 
 -- ---- the side of a scene
 
-fills_of : (x : Scene) (h : Story) → drains x.side x.closing ≡ false → Says x h → Fills x.side x.state h
-fills_of x h free s =
-    let k = nothing_said x.side x.closing free in
-    record { has = s.has; fed = s.all free; given = sym (append-nil h.given) ∙ ap (λ (xs : List Item). h.given ++ xs) (sym k.1) ∙ s.given }
+-- what was put out of closing by a side that is fed on is behind all that it says
+behind : (side : Side) (c : Closing) → ReadsOn side c → EndsLast side c → Behind (closing_items c) side
+behind side c reads last = by c.end_sent side refl reads.end last where
+  items : (b : Bool) → c.end_sent ≡ b → put_if b end_stream ++ [] ≡ closing_items c
+  items b is =
+      ap (λ (a : Bool). put_if a end_stream ++ []) (sym is) ∙ ap (λ (r : Bool). put_if c.end_sent end_stream ++ put_if r end_reply_stream) (sym reads.reply)
+
+  by : (b : Bool) (other : Side) → c.end_sent ≡ b → (c.end_sent && is_called other) ≡ false → EndsLast other c → Behind (closing_items c) other
+  by false other is free last = subst (λ (xs : List Item). Behind xs other) (items false is) tt
+  by true (Calls t) is free last = subst (λ (xs : List Item). Behind xs (Calls t)) (items true is) (last is).1
+  by true (Answers a) is free last = let never = ap (λ (b : Bool). b && true) (sym is) ∙ free in absurd (cc)
+
+fills_of : (x : Scene) (h : Story) → drains x.side x.closing ≡ false → Says x h → Fills (closing_items x.closing) x.side x.state h
+fills_of x h free s = record { has = s.has; fed = s.all free; given = s.given; behind = behind x.side x.closing (reads_on x.side x.closing free) s.last }
 
 none_left : (s : State) (h : Story) → h.fed ≡ take s.handed s.taken → drop (length h.fed) (take s.handed s.taken) ≡ []
 none_left s h fed = ap (λ (xs : List Item). drop (length h.fed) xs) (sym fed) ∙ drop-length h.fed
 
-says_by : (x : Scene) (h m : Story) (next : Side) (v : State) → drains x.side x.closing ≡ false → Says x h → Fills next v m
+-- of a side that is fed on, End is the last
+ends_last : (next : Side) (c : Closing) → c.wanted ≡ true → Behind (closing_items c) next → EndsLast next c
+ends_last next c wanted f = λ sent. (
+  wanted,
+  by next (subst (λ (b : Bool). Behind (put_if b end_stream ++ put_if c.reply_sent end_reply_stream) next) sent f),
+) where
+  by : (side : Side) → Behind (closing_item end_stream ∷ put_if c.reply_sent end_reply_stream) side → out_of side ≡ []
+  by (Calls t) k = k
+  by (Answers a) k = absurd k
+
+says_by : (x : Scene) (h m : Story) (next : Side) (v : State) → drains x.side x.closing ≡ false → Says x h → Fills (closing_items x.closing) next v m
     → Says (record x { side = next; state = v }) m
 says_by x h m next v free s f =
-    let nothing = (nothing_said x.side x.closing free).1 in
     let knows : Knows x.closing [] = subst (Knows x.closing) (none_left x.state h (s.all free)) s.knows in
     record {
       has = f.has;
       fed = ([], append-nil m.fed ∙ f.fed);
       all = λ z. f.fed;
-      given = ap (λ (xs : List Item). m.given ++ xs) nothing ∙ append-nil m.given ∙ f.given;
+      given = f.given;
+      last = λ sent. ends_last next x.closing (s.last sent).0 f.behind sent;
       knows = subst (Knows x.closing) (sym (none_left v m f.fed)) knows;
     }
 
@@ -61,6 +81,29 @@ conversed_fits (starves rounds unlisted) = rounds_fits rounds
 conversed_fits {side} {next} {s} {v} (refuses e p) = pumps_fits side next s v (Err e) p
 conversed_fits (refuses_on {free = other} {next = next} {v = v} {w = w} e rounds still rejected p) = pumps_fits other next v w (Err e) p
 
+-- ---- a side that calls calls on, and one that is called is called on
+
+pumps_called : (side next : Side) (s v : State) (r : Result (Unit {0}) FeedRefusal) → Pumps side s r next v → is_called next ≡ is_called side
+pumps_called (Calls t) (Calls n) s v r p = refl
+pumps_called (Calls t) (Answers b) s v r p = absurd p
+pumps_called (Answers a) (Calls n) s v r p = absurd p
+pumps_called (Answers a) (Answers b) s v r p = refl
+
+rejects_called : {side next : Side} → Rejects side next → is_called next ≡ is_called side
+rejects_called (rejects a m u call unlisted) = refl
+
+rounds_called : {side : Side} {s : State} {next : Side} {v : State} → Rounds side s next v → is_called next ≡ is_called side
+rounds_called {side} {s} {next} {v} (once p) = pumps_called side next s v (Ok tt) p
+rounds_called (again {free = other} {next = next} {v = v} {w = w} r still rejected p) =
+    pumps_called other next v w (Ok tt) p ∙ rejects_called rejected ∙ rounds_called r
+
+conversed_called : {side : Side} {s : State} {next : Side} {v : State} {r : Result (Unit {0}) FeedRefusal} → Converses side s r next v → is_called next ≡ is_called side
+conversed_called (calms rounds listed) = rounds_called rounds
+conversed_called (starves rounds unlisted) = rounds_called rounds
+conversed_called {side} {s} {next} {v} (refuses e p) = pumps_called side next s v (Err e) p
+conversed_called (refuses_on {free = other} {next = next} {v = v} {w = w} e rounds still rejected p) =
+    pumps_called other next v w (Err e) p ∙ rejects_called rejected ∙ rounds_called rounds
+
 -- ---- items move
 
 -- the scene before the side refused an item, and its story
@@ -81,10 +124,10 @@ record HasMoved (x : Scene) (r : Result (Unit {0}) FeedRefusal) (y : Scene) (h :
   until : IfErr r (λ e. Refusal x h e)
   reads : IsUnrefused r → drains x.side x.closing ≡ false → drains y.side y.closing ≡ false
 
-still_reads : (x : Scene) (h : Story) (next : Side) (v : State) (r : Result (Unit {0}) FeedRefusal) → drains x.side x.closing ≡ false
-    → HasConversed x.state v r next h → IsUnrefused r → drains next x.closing ≡ false
-still_reads x h next v (Ok u) free k fine = reads_by x.side next x.closing free k.calm.0
-still_reads x h next v (Err e) free k fine = reads_by x.side next x.closing free (k.short (fine (λ z. cc)))
+still_reads : (x : Scene) (h : Story) (next : Side) (v : State) (r : Result (Unit {0}) FeedRefusal) → is_called next ≡ is_called x.side
+    → drains x.side x.closing ≡ false → HasConversed (closing_items x.closing) x.state v r next h → IsUnrefused r → drains next x.closing ≡ false
+still_reads x h next v (Ok u) called free k fine = reads_by x.side next x.closing called free k.calm.0
+still_reads x h next v (Err e) called free k fine = reads_by x.side next x.closing called free (k.short (fine (λ z. cc)))
 
 has_moved : Below → {x y : Scene} {r : Result (Unit {0}) FeedRefusal} (h : Story) → Says x h → Moves x r y → HasMoved x r y h
 has_moved below {x} {y} {r} h s (drains_only drain) = record {
@@ -96,22 +139,23 @@ has_moved below {x} {y} {r} h s (drains_only drain) = record {
   reads = λ fine free. free;
 }
 has_moved below {x} {y} {r} h s (converses {result = result} {next = next} {v = v} free c) =
-    let k = has_conversed below x.side x.state h (nothing_said x.side x.closing free).0 (fills_of x h free s) c in
+    let k = has_conversed below (closing_items x.closing) x.side x.state h (reads_on x.side x.closing free).going (fills_of x h free s) c in
+    let called = conversed_called c in
     record {
       story = k.story;
       says = says_by x h k.story next v free s k.fills;
       goes = k.goes;
       calm = on_ok _ _ result (λ p z. (p.1, p.2)) k.calm;
-      until = if_err (λ e. Until x.state h e v) (λ e. Refusal x h e) result (λ e p. record {
+      until = if_err (λ e. Until (closing_items x.closing) x.state h e next v) (λ e. Refusal x h e) result (λ e p. record {
         last = record x { side = p.last; state = v };
         story = p.story;
         says = says_by x h p.story p.last v free s p.fills;
         goes = p.goes;
-        still = reads_by x.side p.last x.closing free p.still;
+        still = reads_by x.side p.last x.closing (p.called ∙ called) free p.still;
         held = p.held;
         fits = conversed_fits c;
       }) k.until;
-      reads = λ fine z. still_reads x h next v result free k fine;
+      reads = λ fine z. still_reads x h next v result called free k fine;
     }
 
 moves_closing : {x y : Scene} {r : Result (Unit {0}) FeedRefusal} → Moves x r y → y.closing ≡ x.closing
@@ -143,28 +187,20 @@ pub record HasSettled (x : Scene) (r : Result (Unit {0}) FeedRefusal) (to : Scen
   pub until : IfErr r (λ e. Refusal x h e)
   pub reads : IsUnrefused r → drains x.side x.closing ≡ false → closing_items to.closing ≡ [] → drains to.side to.closing ≡ false
 
-pub goes_follow : {y z : Scene} (s : State) (h m : Story) → Follows y z → GoesOn (at_end s h) (at_end y.state m)
-    → GoesOn (at_end s h) (at_end z.state m)
-goes_follow {y} {z} s h m f g =
-    goes_on (at_end s h) (at_end y.state m) (at_end z.state m) g (same_messages (at_end y.state m) (at_end z.state m) f.runs refl refl refl refl refl)
+pub goes_follow : {v w : State} (s : State) (h m : Story) → Runs v w → GoesOn (at_end s h) (at_end v m) → GoesOn (at_end s h) (at_end w m)
+goes_follow {v} {w} s h m runs g = goes_on (at_end s h) (at_end v m) (at_end w m) g (same_messages (at_end v m) (at_end w m) runs refl refl refl refl refl)
 
 -- what was read is read on, where nothing was put out
 reads_closed : (side : Side) (c d : Closing) → drains side c ≡ false → d.deaf ≡ c.deaf → closing_items d ≡ [] → drains side d ≡ false
 reads_closed side c d free deaf none =
     let k = unsaid d.end_sent d.reply_sent none in
-    let is = parts (is_stopped side) c.end_sent c.reply_sent c.deaf free in
-    ap (λ (b : Bool). b || (d.end_sent || (d.reply_sent || d.deaf))) is.0 ∙ ap (λ (b : Bool). b || (d.reply_sent || d.deaf)) k.0
-    ∙ ap (λ (b : Bool). b || d.deaf) k.1 ∙ deaf ∙ is.1 where
-      parts : (a b c d : Bool) → (a || (b || (c || d))) ≡ false → (a ≡ false) × (d ≡ false)
-      parts true b c d z = absurd (cc)
-      parts false true c d z = absurd (cc)
-      parts false false true d z = absurd (cc)
-      parts false false false d z = (refl, z)
+    let is = reads_on side c free in
+    ap (λ (b : Bool). b || ((d.end_sent && is_called side) || (d.reply_sent || d.deaf))) is.going
+    ∙ ap (λ (b : Bool). (b && is_called side) || (d.reply_sent || d.deaf)) k.0 ∙ ap (λ (b : Bool). b || d.deaf) k.1 ∙ deaf ∙ is.heard
 
 -- one that reads no more does so for good
-never : (mid to : Scene) → Follows (deafened mid) to → drains to.side to.closing ≡ false → ⊥
-never mid to f free =
-    deafens (is_stopped mid.side) mid.closing.end_sent mid.closing.reply_sent (subst (λ (y : Scene). drains y.side y.closing ≡ false) (f.still free) free)
+never : (mid to : Scene) → EndsSo (deafened mid) to → drains to.side to.closing ≡ false → ⊥
+never mid to f free = deafens (is_stopped mid.side) (mid.closing.end_sent && is_called mid.side) mid.closing.reply_sent (f.free free)
 
 pub has_settled : Below → ItemsAreAcceptedOrChangeNothing → {x mid to : Scene} {r : Result (Unit {0}) FeedRefusal} (h : Story) → Says x h
     → Moves x r mid → How r mid to → HasSettled x r to h
@@ -175,11 +211,10 @@ has_settled below law {x} h s moves (good u mid) =
     record {
       story = k.story;
       says = f.says k.story k.says;
-      goes = goes_follow x.state h k.story f k.goes;
+      goes = goes_follow x.state h k.story f.runs k.goes;
       calm = λ some free.
-          let same = f.still free in
-          subst (λ (y : Scene). IsMoved y.side y.state × IsListed y.side) (sym same)
-          (k.calm (subst (λ (y : Scene). drains y.side y.closing ≡ false) same free));
+          let calm = k.calm (f.free free) in
+          (f.moved free calm.0, subst (λ (y : Side). IsListed y) (sym f.side) calm.1);
       until = tt;
       reads = λ fine free none.
           let to : Scene = closed_up mid in
@@ -191,11 +226,11 @@ has_settled below law {x} h s moves (short mid) =
 has_settled below law {x} h s moves (bad e mid other) =
     let k = has_moved below h s moves in
     let p = closes_up below.next law (deafened mid) in
-    let f = follows_then (deaf_follows mid) p.closes.follows in
+    let f = ends_then (ends_so (deaf_follows mid)) p.closes.follows in
     record {
       story = k.story;
       says = f.says k.story k.says;
-      goes = goes_follow x.state h k.story f k.goes;
+      goes = goes_follow x.state h k.story f.runs k.goes;
       calm = λ some free. absurd (never mid (closed_up (deafened mid)) p.closes.follows free);
       until = k.until;
       reads = λ fine free none. absurd (other (let is = fine (λ z. cc) in cc));
@@ -219,7 +254,7 @@ is_settled below law moves (good u mid) =
     record {
       said = λ some. p.said;
       wanted = p.closes.follows.wanted ∙ ap (λ (c : Closing). c.wanted) (moves_closing moves);
-      still = λ free. moves_still moves (subst (λ (y : Scene). drains y.side y.closing ≡ false) (p.closes.follows.still free) free);
+      still = λ free. moves_still moves (p.closes.follows.free free);
     }
 is_settled below law moves (short mid) = record {
   said = λ some. absurd (some refl);

@@ -21,7 +21,7 @@ no_item : (o : Option Item) → is_some o ≡ false → o ≡ None
 no_item None none = refl
 no_item (Some x) none = absurd (cc)
 
-no_items : (xs : List Item) → has_items xs ≡ false → xs ≡ []
+pub no_items : (xs : List Item) → has_items xs ≡ false → xs ≡ []
 no_items [] none = refl
 no_items (x ∷ xs) none = absurd (cc)
 

@@ -15,9 +15,9 @@ use Rattle.xns_spp.specs.Laws.{TheNextItemIsHandedUp}
 use Rattle.xns_spp.specs.Sending.{take_answer, after_take, flush_answer, after_flush}
 use Rattle.xns_spp.specs.State.{State, numbers_of, send_limit}
 use Rattle.xns_spp.specs.declared.item.Item.{Item}
-use Rattle.xns_connection.specs.Story.{Story, SideHas, Runs, start, is_stopped, new_story}
+use Rattle.xns_connection.specs.Story.{Story, SideHas, Runs, start, is_called, is_stopped, new_story}
 use Rattle.xns_connection.specs.Closing.{drains, closing_items, put_if, end_stream, end_reply_stream, noted, asks_end, replies_end, Knows}
-use Rattle.xns_connection.specs.Telling.{Tells, Goes, Rested, owes_end}
+use Rattle.xns_connection.specs.Telling.{EndsLast, Tells, Goes, Rested, owes_end}
 use Rattle.xns_connection.specs.declared.closing.Closing.{Closing}
 use Rattle.xns_connection.specs.declared.closing.TheConstants.Closing.{NONE}
 use Rattle.xns_connection.specs.declared.side.Side.{Side}
@@ -37,6 +37,7 @@ pub record Carries (t u : Conversation) (s v : State) : Type 0 where
   pub fed : Begins (take s.handed s.taken) (take v.handed v.taken)
   pub all : drains u.side u.closing ≡ false → take v.handed v.taken ≡ take s.handed s.taken
   pub given : (g : List Item) → g ++ closing_items t.closing ≡ s.accepted → g ++ closing_items u.closing ≡ v.accepted
+  pub last : EndsLast t.side t.closing → EndsLast u.side u.closing
   pub knows : (fed : List Item) → Begins fed (take s.handed s.taken) → Knows t.closing (drop (length fed) (take s.handed s.taken))
       → Knows u.closing (drop (length fed) (take v.handed v.taken))
 
@@ -59,6 +60,7 @@ carried t u h v same drain c tells = record {
   fed = begins_then h.fed (take h.state.handed h.state.taken) (take v.handed v.taken) tells.fed c.fed;
   all = λ z. tells.all (drain z) ∙ sym (c.all z);
   given = c.given h.given tells.given;
+  last = c.last tells.last;
   knows = c.knows h.fed tells.fed tells.knows;
 }
 
@@ -131,19 +133,23 @@ knows_taken next s (Some x) e f is notes fed begins k =
 
 -- ---- an end's step with the same items
 
-same_said : (t u : Conversation) (s v : State) → closing_items u.closing ≡ closing_items t.closing → KnowsToo t.closing u.closing → v.accepted ≡ s.accepted → v.handed ≡ s.handed → v.taken ≡ s.taken → StandsFor u.endpoint v → Carries t u s v
-same_said t u s v closing too accepted handed taken stands =
+same_said : (t u : Conversation) (s v : State) → (EndsLast t.side t.closing → EndsLast u.side u.closing) → closing_items u.closing ≡ closing_items t.closing → KnowsToo t.closing u.closing → v.accepted ≡ s.accepted → v.handed ≡ s.handed → v.taken ≡ s.taken → StandsFor u.endpoint v → Carries t u s v
+same_said t u s v last closing too accepted handed taken stands =
     let front : take v.handed v.taken ≡ take s.handed s.taken = ap (λ (n : ℕ). take n v.taken) handed ∙ ap (λ (xs : List Item). take s.handed xs) taken in
     record {
       stands = stands;
       fed = ([], append-nil (take s.handed s.taken) ∙ sym front);
       all = λ z. front;
       given = λ g e. ap (λ (xs : List Item). g ++ xs) closing ∙ e ∙ sym accepted;
+      last = last;
       knows = λ fed begins k. knows_still t.closing u.closing s v too front fed k;
     }
 
-pub same_items : (t u : Conversation) (s v : State) → u.closing ≡ t.closing → v.accepted ≡ s.accepted → v.handed ≡ s.handed → v.taken ≡ s.taken → StandsFor u.endpoint v → Carries t u s v
-same_items t u s v closing = same_said t u s v (ap closing_items closing) (knows_same t.closing u.closing closing)
+pub same_last : (side other : Side) (e f : Closing) → other ≡ side → f ≡ e → EndsLast side e → EndsLast other f
+same_last side other e f same closing last = subst (λ (g : Closing). EndsLast other g) (sym closing) (subst (λ (x : Side). EndsLast x e) (sym same) last)
+
+pub same_items : (t u : Conversation) (s v : State) → u.side ≡ t.side → u.closing ≡ t.closing → v.accepted ≡ s.accepted → v.handed ≡ s.handed → v.taken ≡ s.taken → StandsFor u.endpoint v → Carries t u s v
+same_items t u s v same closing = same_said t u s v (same_last t.side u.side t.closing u.closing same closing) (ap closing_items closing) (knows_same t.closing u.closing closing)
 
 -- ---- a packet comes
 
@@ -152,25 +158,33 @@ same_front n xs ys le p = ap (λ (zs : List Item). take n zs) (sym p.1) ∙ take
 
 -- ---- items move
 
-nothing_closing : (stop end reply deaf : Bool) (side : Side) (e : Closing) → is_stopped side ≡ stop → e.end_sent ≡ end → e.reply_sent ≡ reply → (stop || (end || (reply || deaf))) ≡ false → (is_stopped side ≡ false) × (closing_items e ≡ [])
-nothing_closing true end reply deaf side e a b c d = absurd (cc)
-nothing_closing false true reply deaf side e a b c d = absurd (cc)
-nothing_closing false false true deaf side e a b c d = absurd (cc)
-nothing_closing false false false deaf side e a b c d =
-    (a, ap (λ (x : Bool). put_if x end_stream ++ put_if e.reply_sent end_reply_stream) b ∙ ap (λ (x : Bool). put_if x end_reply_stream) c)
+-- what a connection is that reads on
+pub record ReadsOn (side : Side) (e : Closing) : Type 0 where
+  pub going : is_stopped side ≡ false
+  pub end : (e.end_sent && is_called side) ≡ false
+  pub reply : e.reply_sent ≡ false
+  pub heard : e.deaf ≡ false
 
-pub nothing_said : (side : Side) (e : Closing) → drains side e ≡ false → (is_stopped side ≡ false) × (closing_items e ≡ [])
-nothing_said side e d = nothing_closing (is_stopped side) e.end_sent e.reply_sent e.deaf side e refl refl refl d
+pub reads_on : (side : Side) (e : Closing) → drains side e ≡ false → ReadsOn side e
+reads_on side e d = by (is_stopped side) (e.end_sent && is_called side) e.reply_sent e.deaf refl refl refl refl d where
+  by : (a b c f : Bool) → is_stopped side ≡ a → (e.end_sent && is_called side) ≡ b → e.reply_sent ≡ c → e.deaf ≡ f → (a || (b || (c || f))) ≡ false
+      → ReadsOn side e
+  by true b c f p q r s z = absurd (cc)
+  by false true c f p q r s z = absurd (cc)
+  by false false true f p q r s z = absurd (cc)
+  by false false false true p q r s z = absurd (cc)
+  by false false false false p q r s z = record { going = p; end = q; reply = r; heard = s }
 
 rest_free : (a b : Bool) → (a || b) ≡ false → b ≡ false
 rest_free true b z = absurd (cc)
 rest_free false b z = z
 
 -- what was read is read on by another side that has not stopped
-pub reads_by : (side other : Side) (e : Closing) → drains side e ≡ false → is_stopped other ≡ false → drains other e ≡ false
-reads_by side other e d still =
-    let rest : Bool = e.end_sent || (e.reply_sent || e.deaf) in
-    ap (λ (b : Bool). b || rest) still ∙ rest_free (is_stopped side) rest d
+pub reads_by : (side other : Side) (e : Closing) → is_called other ≡ is_called side → drains side e ≡ false → is_stopped other ≡ false → drains other e ≡ false
+reads_by side other e called d still =
+    let rest : Bool = (e.end_sent && is_called side) || (e.reply_sent || e.deaf) in
+    ap (λ (b : Bool). b || ((e.end_sent && is_called other) || (e.reply_sent || e.deaf))) still
+    ∙ ap (λ (b : Bool). (e.end_sent && b) || (e.reply_sent || e.deaf)) called ∙ rest_free (is_stopped side) rest d
 
 pub unsaid : (a b : Bool) → put_if a end_stream ++ put_if b end_reply_stream ≡ [] → (a ≡ false) × (b ≡ false)
 unsaid true b z = absurd (cc)
@@ -186,8 +200,9 @@ same_closing e f end reply =
 
 pub same_drains : (s : Side) (e f : Closing) → f.end_sent ≡ e.end_sent → f.reply_sent ≡ e.reply_sent → f.deaf ≡ e.deaf → drains s f ≡ drains s e
 same_drains s e f end reply deaf =
-    ap (λ (x : Bool). is_stopped s || (x || (f.reply_sent || f.deaf))) end ∙ ap (λ (x : Bool). is_stopped s || (e.end_sent || (x || f.deaf))) reply
-    ∙ ap (λ (x : Bool). is_stopped s || (e.end_sent || (e.reply_sent || x))) deaf
+    ap (λ (x : Bool). is_stopped s || ((x && is_called s) || (f.reply_sent || f.deaf))) end
+    ∙ ap (λ (x : Bool). is_stopped s || ((e.end_sent && is_called s) || (x || f.deaf))) reply
+    ∙ ap (λ (x : Bool). is_stopped s || ((e.end_sent && is_called s) || (e.reply_sent || x))) deaf
 
 -- what was put out, and whether it is deaf, does not depend on what came
 pub record Beside (e f : Closing) : Type 0 where
@@ -207,9 +222,9 @@ beside e f stream is = subst (λ (g : Closing). Beside e g) (sym is) (beside_by 
 -- ---- packets out
 
 -- so do the end, the side and what was put out
-pub marks : (t u : Conversation) → u.side ≡ t.side → closing_items u.closing ≡ closing_items t.closing → KnowsToo t.closing u.closing → (drains u.side u.closing ≡ false → drains t.side t.closing ≡ false) → (t.closing.wanted ≡ true → u.closing.wanted ≡ true) → u.endpoint ≡ t.endpoint → Goes t u
-marks t u same closing too still wanted stay = goes_by t u same still wanted (λ s stands.
-    (s, same_said t u s s closing too refl refl refl (subst (λ (e : Held). StandsFor e s) (sym stay) stands), start))
+pub marks : (t u : Conversation) → u.side ≡ t.side → (EndsLast t.side t.closing → EndsLast u.side u.closing) → closing_items u.closing ≡ closing_items t.closing → KnowsToo t.closing u.closing → (drains u.side u.closing ≡ false → drains t.side t.closing ≡ false) → (t.closing.wanted ≡ true → u.closing.wanted ≡ true) → u.endpoint ≡ t.endpoint → Goes t u
+marks t u same last closing too still wanted stay = goes_by t u same still wanted (λ s stands.
+    (s, same_said t u s s last closing too refl refl refl (subst (λ (e : Held). StandsFor e s) (sym stay) stands), start))
 
 pub on_ok : {X Y : Type 0} (P Q : Type 0) (r : Result X Y) → (P → Q) → OnOk r P → OnOk r Q
 on_ok P Q (Ok x) f h = f h
@@ -265,9 +280,6 @@ new_tells t programs s e side endpoint same closing stands has none empty = reco
   fed = (take s.handed s.taken, refl);
   all = λ z. sym none;
   given = ap closing_items closing ∙ sym empty;
+  last = λ sent. absurd (let never = sym (ap (λ (c : Closing). c.end_sent) closing) ∙ sent in cc);
   knows = knows_same NONE t.closing closing (take s.handed s.taken) (subst (Knows NONE) (sym none) (record { wanted = refl; heard = refl }));
 }
-
-pub never_false : (a : Bool) → (a || true) ≡ false → ⊥
-never_false true z = cc
-never_false false z = cc

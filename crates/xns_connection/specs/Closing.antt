@@ -1,8 +1,8 @@
 -- The closing exchange of a connection (XSIS 028112, Sequenced Packet Protocol, Termination).
-use Rattle.std.specs.Prelude.{◌≡◌, ℕ, List, [], ◌∷◌, ◌++◌, Bool, true, false, ◌||◌, ◌==◌, if◌then◌else◌}
+use Rattle.std.specs.Prelude.{◌≡◌, ℕ, List, [], ◌∷◌, ◌++◌, Bool, true, false, ◌&&◌, ◌||◌, ◌==◌, if◌then◌else◌}
 use Rattle.std.specs.List.{list_any}
 use Rattle.xns_spp.specs.declared.item.Item.{Item}
-use Rattle.xns_connection.specs.Story.{is_stopped}
+use Rattle.xns_connection.specs.Story.{is_called, is_stopped}
 use Rattle.xns_connection.specs.declared.closing.Closing.{Closing}
 use Rattle.xns_connection.specs.declared.side.Side.{Side}
 
@@ -23,9 +23,10 @@ put_if sent stream = if sent then closing_item stream ∷ [] else []
 abbrev pub closing_items : Closing → List Item
 closing_items c = put_if c.end_sent end_stream ++ put_if c.reply_sent end_reply_stream
 
--- what comes is looked at for the closing exchange alone
+-- what comes is looked at for the closing exchange alone: at a side that is called once End is put out, and at one that calls, whose last
+-- answer may still come, once EndReply is
 abbrev pub drains : Side → Closing → Bool
-drains side c = is_stopped side || (c.end_sent || (c.reply_sent || c.deaf))
+drains side c = is_stopped side || ((c.end_sent && is_called side) || (c.reply_sent || c.deaf))
 
 -- what is known of closing after an item of this datastream that came; an EndReply that nobody asked for counts as End and EndReply
 abbrev pub noted : Closing → ℕ → Closing

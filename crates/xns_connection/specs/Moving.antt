@@ -12,7 +12,7 @@ use Rattle.xns_spp.specs.Sending.{after_send, after_take, send_answer, take_answ
 use Rattle.xns_spp.specs.State.{State, IsState}
 use Rattle.xns_spp.specs.declared.item.Item.{Item}
 use Rattle.xns_connection.specs.Closing.{closing_item, drains, end_stream, end_reply_stream, noted}
-use Rattle.xns_connection.specs.Story.{IsListed, IsUnlisted, has_call, has_message, is_stopped, out_of}
+use Rattle.xns_connection.specs.Story.{IsListed, IsUnlisted, has_message, is_stopped, out_of, owes_answer}
 use Rattle.xns_connection.specs.declared.closing.Closing.{Closing}
 use Rattle.xns_connection.specs.declared.conversation.Conversation.{Conversation}
 use Rattle.xns_connection.specs.declared.side.Side.{Side}
@@ -92,9 +92,10 @@ taken_many (suc n) x = taken_one (taken_many n x)
 abbrev pub drained_out : Scene → Scene
 drained_out x = if drains x.side x.closing then taken_many (waiting_count x.state) x else x
 
--- End is to be put out: behind all that is out, and after the answer to a call that waits
+-- End is to be put out, once: behind all that is out, and behind the answer that is owed
 abbrev pub may_end : Scene → Bool
-may_end x = x.closing.wanted && (not (drains x.side x.closing) && (not (has_call x.side) && not (has_items (out_of x.side))))
+may_end x =
+    x.closing.wanted && (not (drains x.side x.closing) && (not x.closing.end_sent && (not (owes_answer x.side) && not (has_items (out_of x.side)))))
 
 -- EndReply is
 abbrev pub may_reply : Scene → Bool

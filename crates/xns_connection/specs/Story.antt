@@ -1,5 +1,5 @@
 -- What one connection has done: the history of its end and of its side.
-use Rattle.std.specs.Prelude.{◌≡◌, ℕ, ◌+◌, List, [], ◌∷◌, ◌++◌, Bool, false, if◌then◌else◌, length, take, slice_get, Option, Some, None, Err}
+use Rattle.std.specs.Prelude.{◌≡◌, ℕ, ◌+◌, List, [], ◌∷◌, ◌++◌, Bool, true, false, if◌then◌else◌, length, take, slice_get, Option, Some, None, Err}
 use Rattle.std.specs.Option.{is_some, option_to_list}
 use Rattle.courier_messages.specs.declared.message.Message.{Message}
 use Rattle.courier_messages.specs.Conversation.{Phase}
@@ -87,10 +87,15 @@ abbrev pub asked_of : Side → Option ℕ
 asked_of (Calls t) = None
 asked_of (Answers a) = a.asked
 
--- a call waits for its answer, or to be handed, or an answer is to go out
-abbrev pub has_call : Side → Bool
-has_call (Calls t) = t.waiting
-has_call (Answers a) = is_busy a
+-- the peer calls
+abbrev pub is_called : Side → Bool
+is_called (Calls t) = false
+is_called (Answers a) = true
+
+-- it owes the peer an answer: a call waits to be handed, or for its answer, or the answer is to go out
+abbrev pub owes_answer : Side → Bool
+owes_answer (Calls t) = false
+owes_answer (Answers a) = is_busy a
 
 -- a call of its own wants its answer
 abbrev pub wants_answer : Side → Bool

@@ -13,14 +13,16 @@ use Rattle.courier_sessions.specs.declared.feed_refusal.FeedRefusal.{FeedRefusal
 use Rattle.courier_sessions.specs.declared.feed_refusal.FeedRefusal.TheVariants.{NoMemory}
 use Rattle.xns_spp.specs.declared.item.Item.{Item}
 use Rattle.xns_connection.specs.Closing.{closing_item, closing_items, drains, end_reply_stream, end_stream, Knows}
-use Rattle.xns_connection.specs.Story.{Story, SideHas, GoesOn, made_on, out_of, has_call, IsMoved, IsListed, IsHeld}
+use Rattle.xns_connection.specs.Story.{Story, SideHas, GoesOn, made_on, out_of, owes_answer, IsMoved, IsListed, IsHeld}
 use Rattle.xns_connection.specs.declared.closing.Closing.{Closing}
 use Rattle.xns_connection.specs.declared.conversation.Conversation.{Conversation}
 use Rattle.xns_connection.specs.declared.owed.Owed.{Owed}
+use Rattle.xns_connection.specs.declared.side.Side.{Side}
 
--- End is to be put out: behind all that is out, and after the answer to a call that waits
+-- End is to be put out, once: behind all that is out, and behind the answer that is owed
 abbrev pub owes_end : Conversation → Bool
-owes_end t = t.closing.wanted && (not (drains t.side t.closing) && (not (has_call t.side) && not (has_items (out_of t.side))))
+owes_end t =
+    t.closing.wanted && (not (drains t.side t.closing) && (not t.closing.end_sent && (not (owes_answer t.side) && not (has_items (out_of t.side)))))
 
 -- it is put out, unless there is no room for it
 abbrev pub HasSaidEnd : Conversation → Type 0
@@ -46,6 +48,10 @@ is_over c s = c.reply_sent && (c.reply_heard && (unacknowledged_count s == 0))
 abbrev pub drained : Story → List Item
 drained h = drop (length h.fed) (take h.state.handed h.state.taken)
 
+-- End was put out only where the program wants an end, and behind all that the side says
+abbrev pub EndsLast : Side → Closing → Type 0
+EndsLast side c = c.end_sent ≡ true → (c.wanted ≡ true) × (out_of side ≡ [])
+
 pub record Tells (conversation : Conversation) (h : Story) : Type 0 where
   pub stands : StandsFor conversation.endpoint h.state
   pub has : SideHas h conversation.side
@@ -53,6 +59,7 @@ pub record Tells (conversation : Conversation) (h : Story) : Type 0 where
   pub fed : Begins h.fed (take h.state.handed h.state.taken)
   pub all : drains conversation.side conversation.closing ≡ false → h.fed ≡ take h.state.handed h.state.taken
   pub given : h.given ++ closing_items conversation.closing ≡ h.state.accepted
+  pub last : EndsLast conversation.side conversation.closing
   -- the others say what is known of the peer's closing
   pub knows : Knows conversation.closing (drained h)
 

@@ -88,12 +88,13 @@ impl Conversation {
         }
     }
 
-    /// Whether what comes is looked at for the closing exchange alone.
+    /// Whether what comes is looked at for the closing exchange alone: at a side that is called behind our End, and at one that calls, whose
+    /// last answer may still come, behind our EndReply.
     fn drains(&self) -> bool
         ensures { result ≡ drains self.now.side self.now.closing }
     {
         self.side.is_stopped()
-            || self.closing.end_sent
+            || (self.closing.end_sent && self.side.is_called())
             || self.closing.reply_sent
             || self.closing.deaf
     }
@@ -146,7 +147,11 @@ impl Conversation {
     fn owes_end(&self) -> bool
         ensures { result ≡ owes_end self.now }
     {
-        self.closing.wanted && !self.drains() && !self.side.has_call() && !self.side.has_out()
+        self.closing.wanted
+            && !self.drains()
+            && !self.closing.end_sent
+            && !self.side.owes_answer()
+            && !self.side.has_out()
     }
 
     /// Puts out an item of the closing exchange, unless there is no room; whether it did.
@@ -173,7 +178,7 @@ impl Conversation {
         }
     }
 
-    /// Asks for an end, once, where that is wanted: behind all that is out, and after the answer to a call that waits.
+    /// Asks for an end, once, where that is wanted: behind all that is out, and behind the answer that is owed to the peer.
     fn say_end(&mut self, alloc: Global)
         ensures packets { self.new.packets ≡ self.old.packets }
         ensures at { (s : State) → StandsFor self.old.endpoint s → IsAt self.new (ended (scene self.old s)) }

@@ -6,7 +6,7 @@ ghost use Rattle.xns_spp.specs.Held.{StandsFor};
 ghost use Rattle.xns_spp.specs.Sending.{waiting_count};
 ghost use Rattle.xns_spp.specs.State.{State};
 ghost use Rattle.xns_connection.specs.Calls.{call_model};
-ghost use Rattle.xns_connection.specs.Story.{IsListed, IsUnlisted, is_stopped, out_of, has_call};
+ghost use Rattle.xns_connection.specs.Story.{IsListed, IsUnlisted, is_called, is_stopped, out_of, owes_answer};
 ghost use Rattle.xns_connection.specs.Story.{has_message, waiting_message, wants_answer};
 ghost use Rattle.xns_connection.specs.Moving.{Converses, Pumps, Rejects};
 ghost use Rattle.xns_connection.specs.Deeds.{side_answered, side_called, side_taken};
@@ -76,12 +76,22 @@ impl Side {
         }
     }
 
-    /// Whether a call waits for its answer, or to be handed, or an answer is to go out.
-    pub fn has_call(&self) -> bool
-        ensures { result ≡ has_call self.now }
+    /// Whether the peer calls.
+    pub fn is_called(&self) -> bool
+        ensures { result ≡ is_called self.now }
     {
         match self {
-            Side::Calls(caller) => caller.is_waiting(),
+            Side::Calls(_) => false,
+            Side::Answers(_) => true,
+        }
+    }
+
+    /// Whether an answer is owed to the peer: a call waits to be handed, or for its answer, or the answer is to go out.
+    pub fn owes_answer(&self) -> bool
+        ensures { result ≡ owes_answer self.now }
+    {
+        match self {
+            Side::Calls(_) => false,
             Side::Answers(server) => server.is_busy(),
         }
     }
@@ -112,6 +122,7 @@ impl Side {
         ensures answer { Answers (side_call_fault self.old (call_model call.now)) result }
         ensures is { result ≡ Ok tt → self.new ≡ side_called self.old (call_model call.now) }
         ensures stopped { is_stopped self.new ≡ is_stopped self.old }
+        ensures called { is_called self.new ≡ is_called self.old }
         ensures unchanged { OnErr result (self.new ≡ self.old) }
     {
         match self {
@@ -131,6 +142,7 @@ impl Side {
         ensures answer { Answers (side_answer_fault self.old answer words.now) result }
         ensures is { result ≡ Ok tt → self.new ≡ side_answered self.old answer words.now }
         ensures stopped { is_stopped self.new ≡ is_stopped self.old }
+        ensures called { is_called self.new ≡ is_called self.old }
         ensures unchanged { OnErr result (self.new ≡ self.old) }
     {
         match self {
@@ -144,6 +156,7 @@ impl Side {
         ensures message { result ≡ waiting_message self.old }
         ensures is { self.new ≡ side_taken self.old }
         ensures stopped { is_stopped self.new ≡ is_stopped self.old }
+        ensures called { is_called self.new ≡ is_called self.old }
         ensures none { result ≡ None → self.new ≡ self.old }
     {
         match self {
