@@ -305,6 +305,7 @@ int main(void) {
     refusals();
     short_buffers();
     tags();
+    close_behind_a_call();
     silent();
     abandoned();
     idle();

@@ -183,6 +183,25 @@ static void answer_that_stays(void) {
     free_both();
 }
 
+/* A side that calls closes behind its call: the answer still comes, and the close behind it, also where both sides ask for it. */
+static void close_behind_a_call(void) {
+    for (int both = 0; both < 2; both++) {
+        struct xns_event call, event;
+        size_t number;
+        open_both(&usual, &number);
+        call = calls(number, 2);
+        CHECK(xns_host_close(&client, now, number) == XNS_OK && xns_host_call(&client, now, number, 7, 1, 1, given, 0) == XNS_CLOSING);
+        if (both) CHECK(xns_host_close(&service, now, call.number) == XNS_OK);
+        for (int i = 0; i < 4; i++) turn();
+        CHECK(xns_host_next_event(&client, &event, words, WORDS, &count) == XNS_NOTHING);
+        CHECK(xns_host_answer(&service, now, call.number, XNS_KIND_RETURN, 0, given, 2) == XNS_OK);
+        hears(number, XNS_KIND_RETURN, 0, 2);
+        is_closed(&client, XNS_CLOSED_ASKED, XNS_OK);
+        is_closed(&service, both ? XNS_CLOSED_ASKED : XNS_CLOSED_BY_PEER, XNS_OK);
+        free_both();
+    }
+}
+
 /* The longest messages. An event whose words have no room stays, and the program may answer a call that stays. */
 static void short_buffers(void) {
     struct xns_event event;
