@@ -197,7 +197,7 @@ static void close_behind_a_call(void) {
         CHECK(xns_host_answer(&service, now, call.number, XNS_KIND_RETURN, 0, given, 2) == XNS_OK);
         hears(number, XNS_KIND_RETURN, 0, 2);
         is_closed(&client, XNS_CLOSED_ASKED, XNS_OK);
-        is_closed(&service, both ? XNS_CLOSED_ASKED : XNS_CLOSED_BY_PEER, XNS_OK);
+        is_closed(&service, XNS_CLOSED_BY_PEER, XNS_OK); /* the client's wish is there before the answer */
         free_both();
     }
 }

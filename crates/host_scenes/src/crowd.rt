@@ -196,7 +196,7 @@ impl Crowd {
         Ok(())
     }
 
-    /// Closes all connections, once each call is answered.
+    /// Closes all connections, behind the calls that are out.
     fn close(&mut self) -> Result<(), HostFault> {
         for number in 0..CONNECTIONS {
             self.client.close(self.now, number)?;

@@ -22,7 +22,7 @@ use host_scenes::crowd::Crowd;
 use host_scenes::partings;
 use host_scenes::play::Play;
 use host_scenes::scene::Scene;
-use host_scenes::waits;
+use host_scenes::{partings, waits};
 use manner::Manner;
 use meeting::Meeting;
 use speed::Made;

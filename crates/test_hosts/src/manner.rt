@@ -54,7 +54,8 @@ impl Manner {
             Manner::ClosesInACall => "a peer that closes in the middle of a call",
             Manner::ReadsLate => "a peer that sends two long calls before it reads an answer",
             Manner::ReadsWhileFull => "the same, but it reads while its end is full",
-            Manner::AgreesAtOnce => "a call, a close behind it, and a peer that agrees without an answer",
+            Manner::AgreesAtOnce =>
+                "a call, a close behind it, and a peer that agrees without an answer",
         }
     }
 }
