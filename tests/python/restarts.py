@@ -10,6 +10,7 @@ chance says of which the server is. Of the packets `--spoiled` is the part that 
 import argparse
 import asyncio
 import collections
+import contextlib
 import os
 import pathlib
 import random
@@ -50,7 +51,7 @@ def serve(port, book):
 
 
 class Lives(threading.Thread):
-    """A server that is killed and started again, after lives and pauses of chance, until it is told to stop: then the last life lasts."""
+    """A server that is killed and started again, after lives and pauses of chance, until it is told to stop. A life begins when it answers."""
 
     def __init__(self, place, book, life, chance):
         super().__init__(daemon=True)
@@ -60,6 +61,7 @@ class Lives(threading.Thread):
     def run(self):
         while True:
             process = subprocess.Popen([*self.chance.choice(self.languages), str(self.place[1]), self.book])
+            self.wait(process)
             is_last = self.stops.wait(self.chance.uniform(0.5, 1.5) * self.life)
             if process.poll() is not None:
                 self.broken = f"the server ended with {process.returncode}"
@@ -69,6 +71,17 @@ class Lives(threading.Thread):
             if is_last:
                 return
             self.stops.wait(self.chance.uniform(0, 0.5) * self.life)
+
+    def wait(self, process):
+        """Waits until the server answers Echo: a busy machine may start it late."""
+        request = xns.echo_request(CLIENT._replace(socket=1024), SERVER._replace(socket=2), b"Hi")
+        with bound() as udp:
+            udp.settimeout(0.1)
+            while process.poll() is None and not self.stops.is_set():
+                udp.sendto(request, self.place)
+                with contextlib.suppress(socket.timeout):
+                    udp.recv(2048)
+                    return
 
 
 class Clients:
