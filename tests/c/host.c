@@ -305,6 +305,7 @@ int main(void) {
     refusals();
     short_buffers();
     tags();
+    opened();
     silent();
     abandoned();
     idle();

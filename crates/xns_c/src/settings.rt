@@ -23,6 +23,8 @@ pub struct XnsSettings {
     pub tries: u8,
     /// Whether Echo requests are left unanswered: 0 is no.
     pub no_echo: u8,
+    /// Whether it is told that a connection of the program's own is open: 0 is no.
+    pub tells_opened: u8,
 }
 
 /// A number of things, or the usual one where it is 0.
@@ -75,6 +77,7 @@ impl XnsSettings {
             tries: tries_in(self.tries, usual.tries),
             strays: usual.strays,
             answers_echo: self.no_echo == 0,
+            tells_opened: self.tells_opened != 0,
         }
     }
 }
