@@ -59,7 +59,7 @@ from ._programs import AbortedError, DeclaredError, Program, Programs, RejectedE
 from ._serving import UNSPECIFIED, Server, serve
 from ._told import (
     LONGEST_ITEM, LONGEST_PACKET, MOST_CALL_WORDS, MOST_MESSAGE_WORDS, MOST_WINDOW, Address, Answer, Call, Closed, Control, Dropped, Event, Header, Item, Kind,
-    Message, NotationReason, Packet, PacketType, Received, Reject, Reply, Result, Stream, Why, aborts, rejects, returns,
+    Message, NotationReason, Opened, Packet, PacketType, Received, Reject, Reply, Result, Stream, Why, aborts, rejects, returns,
 )
 from ._values import Reader, Writer
 
@@ -71,7 +71,7 @@ __all__ = [
     "read_programs", "Programs", "Program", "TypedServer", "DeclaredError", "AbortedError", "RejectedError",
     "ethernet", "nethub", "Carrier", "Ethernet", "NetHub", "serve_async", "AsyncClient",
     "XnsError", "SilentError", "ClosedError", "NotServedError", "ArgumentsError", "NoCallError", "LibraryError", *_OF_RESULTS,
-    "Host", "Event", "Closed", "Endpoint", "Item", "Received", "Packet", "Header", "Message",
+    "Host", "Event", "Opened", "Closed", "Endpoint", "Item", "Received", "Packet", "Header", "Message",
     "Kind", "Reject", "UNSPECIFIED", "Why", "Result", "NotationReason", "Dropped", "PacketType", "Control", "Stream",
     "checksum", "decode", "encode", "echo_reply", "echo_request", "echo_accept", "complain", "error_read", "exchange_read", "exchange_write",
     "exchange_request", "exchange_accept", "exchange_reply", "header_read", "header_write", "message_read", "message_write", "new_identifier", "opening",

@@ -77,7 +77,7 @@ class AsyncClient:
 
     async def __aenter__(self) -> "AsyncClient":
         self._events, self._calls, self._left = asyncio.Queue(), asyncio.Lock(), contextlib.ExitStack()
-        host = self._left.enter_context(Host(self._own, **self._settings))
+        host = self._left.enter_context(Host(self._own, **{**self._settings, "tells_opened": True}))
         self._left.enter_context(not_blocking(self._carrier))
         self._conversation = Conversation(Station(self._carrier, host), self._place, self._own, self._peer)
         self._pump = _Pump(self._conversation.station, self._fetch)

@@ -7,7 +7,7 @@ from ._library import unsigned, words_of
 from ._links import Carrier, checked, not_blocking
 from ._objects import Host
 from ._station import Station, milliseconds
-from ._told import Address, Answer, Closed, Event, Why
+from ._told import Address, Answer, Closed, Event, Opened, Why
 
 
 class TooLate(Exception):
@@ -33,14 +33,9 @@ class Conversation:
     def open(self) -> None:
         """Opens a connection: the next one, where there was another."""
         self.closed: Optional[Closed] = None
-        self.station.heard = None
+        self.is_answered = False  # whether the server has answered the opening
         self._acted = milliseconds()
         self._number = self.station.connect(self._place, self._own, self._peer)
-
-    @property
-    def is_answered(self) -> bool:
-        """Whether the server has answered the opening."""
-        return self.station.heard is not None
 
     @property
     def rested(self) -> int:
@@ -52,7 +47,7 @@ class Conversation:
         and stays."""
         self._acted = milliseconds()
         if self.closed is None:
-            found = next((event for event in self.station.host.events() if event.number == self._number), None)
+            found = self._next()
             if isinstance(found, Closed):
                 self.closed = found
             self.station.send()
@@ -61,6 +56,15 @@ class Conversation:
             if not self.station.host.connections:  # a call that Ctrl-C ended has fetched the event that it is closed
                 self.closed = Closed(self._number, Why.SILENT, None)
         return self.closed
+
+    def _next(self) -> Optional[Event]:
+        """The next event but that the connection is open, which is noted."""
+        for event in self.station.host.events():
+            if event.number == self._number:
+                if not isinstance(event, Opened):
+                    return event
+                self.is_answered = True
+        return None
 
     def put_out(self, program: int, version: int, procedure: int, words: Iterable[int]) -> bool:
         """Puts out a call; false where the answer to the call before is to be fetched first. Why a closed connection takes none, its event says."""
@@ -135,7 +139,7 @@ class Client:
         until_of(timeout)
         until_of(reopens, "reopens")
         self._timeout, self._reopens = timeout, reopens
-        self._host = Host(own, **settings)
+        self._host = Host(own, **{**settings, "tells_opened": True})
         self._station = Station(checked(carrier), self._host)
         self._conversation = Conversation(self._station, place, own, peer)
         with not_blocking(carrier):
@@ -227,9 +231,10 @@ class Client:
                 return event
 
     def _turn(self, until: Optional[int]) -> Optional[Event]:
-        """The next event, where there is one; else it waits, and takes in what came."""
+        """The next event, where there is one; else it waits, and takes in what came, unless it was told just now that the connection is open."""
+        was_answered = self._conversation.is_answered
         event = self._conversation.fetch()
-        if event is None:
+        if event is None and self._conversation.is_answered == was_answered:
             if until is not None and milliseconds() >= until:
                 raise TooLate
             self._station.wait(until)

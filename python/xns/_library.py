@@ -8,10 +8,10 @@ from ctypes import byref, c_bool, c_char, c_int16, c_int32, c_size_t, c_uint8, c
 from typing import Iterable, List, Optional, Tuple
 
 from ._errors import LibraryError, done
-from ._told import MOST_WINDOW, Address, Answer, Call, Closed, Event, Kind, Message, Result, Why
+from ._told import MOST_WINDOW, Address, Answer, Call, Closed, Event, Kind, Message, Opened, Result, Why
 
 _KINDS = list(Kind)  # each at its number
-_EVENT_CALL, _EVENT_ANSWER = 1, 2  # kinds of events; else it is a closed connection
+_EVENT_CALL, _EVENT_ANSWER, _EVENT_OPENED = 1, 2, 4  # kinds of events; else it is a closed connection
 _NEVER_IDLE = 2**32 - 1  # the idle time after which a peer is never asked
 _MOST_SETTINGS = {
     "connections": 65535,
@@ -81,22 +81,20 @@ class RawProgram(ctypes.Structure):
 class RawSettings(ctypes.Structure):
     _fields_ = [
         ("connections", c_size_t), ("window", c_size_t), ("backlog", c_size_t), ("first_wait", c_uint32), ("longest_wait", c_uint32),
-        ("idle", c_uint32), ("tries", c_uint8), ("no_echo", c_uint8), ("least_wait", c_uint16),
+        ("idle", c_uint32), ("tries", c_uint8), ("no_echo", c_uint8), ("least_wait", c_uint16), ("tells_opened", c_uint8),
     ]
 
     @staticmethod
     def of(settings: dict) -> "RawSettings":
         """Those that are given; 0, which stands for the default, is none."""
         settings = dict(settings)
-        answers_echo = settings.pop("answers_echo", True)
-        if not isinstance(answers_echo, bool):
-            raise TypeError(f"answers_echo is no bool: it is of type {type(answers_echo).__name__}")
+        answers_echo, tells_opened = (_yes_or_no(settings.pop(name, usual), name) for name, usual in (("answers_echo", True), ("tells_opened", False)))
         unknown = set(settings) - set(_MOST_SETTINGS)
         if unknown:
             raise TypeError(f"a host has no setting {', '.join(sorted(unknown))}")
         never = {name: _NEVER_IDLE for name, value in settings.items() if name == "idle" and value is None}
         given = {name: within(1, value, _MOST_SETTINGS[name], name) for name, value in {**settings, **never}.items()}
-        return RawSettings(no_echo=flag(not answers_echo), **given)
+        return RawSettings(no_echo=flag(not answers_echo), tells_opened=flag(tells_opened), **given)
 
 
 class RawEvent(ctypes.Structure):
@@ -114,6 +112,8 @@ class RawEvent(ctypes.Structure):
             return Call(self.number, message.program, message.version, message.procedure, words)
         if self.kind == _EVENT_ANSWER:
             return Answer(self.number, _KINDS[message.kind], message.number, words)
+        if self.kind == _EVENT_OPENED:
+            return Opened(self.number)
         closed = Closed(self.number, Why(self.closed), Result(self.fault) if self.fault else None)
         if closed.why == Why.NOT_SERVED:
             closed.error = self.error
@@ -307,6 +307,12 @@ def unsigned(value: int, bits: int, name: str) -> int:
     """The number, which has at most so many bits."""
     number = whole(value, name)
     return number if not number >> bits else within(0, number, (1 << bits) - 1, name)
+
+
+def _yes_or_no(value: bool, name: str) -> bool:
+    if not isinstance(value, bool):
+        raise TypeError(f"{name} is no bool: it is of type {type(value).__name__}")
+    return value
 
 
 def flag(value: bool) -> int:

@@ -176,8 +176,8 @@ class Host(Object):
         until a time is measured (250), `longest_wait` (8000), `least_wait`, by which a measured wait is longer than the time that was measured at
         least (10, or `first_wait` if that is less), and `idle`, after which a peer is asked for a word (10000; None: only while a call waits, after
         that); `tries`, waits without a word of the peer that are borne, beside those shorter than `first_wait` (8); `answers_echo`
-        (True): of the programs at one station one should. `BadArgumentError` where the longest wait is below the first, or the least one
-        above it."""
+        (True): of the programs at one station one should; `tells_opened` (False): an `Opened` tells when the peer of a connection of ours is there.
+        `BadArgumentError` where the longest wait is below the first, or the least one above it."""
         super().__init__()
         given = octets(os.urandom(_SECRET) if secret is None else secret, "secret")
         if len(given) != _SECRET:
@@ -200,7 +200,8 @@ class Host(Object):
         self._done("serve", unsigned(socket_number, 16, "socket_number"), (RawProgram * max(1, len(listed)))(*listed), len(listed))
 
     def connect(self, now: int, via: int, socket_number: int, peer: Address) -> int:
-        """Opens a connection from this socket of ours to the peer, whose side calls; its number. `EveryHostError` to or from the broadcast
+        """Opens a connection from this socket of ours to the peer, whose side calls; its number. By the setting `tells_opened` an `Opened` tells when
+        the peer is there, before all else of the connection. `EveryHostError` to or from the broadcast
         host, `NoSocketError` to or from socket 0, `NoSlotError` where there is no room."""
         number = c_size_t()
         numbers = unsigned(now, 64, "now"), unsigned(via, 64, "via"), unsigned(socket_number, 16, "socket_number")

@@ -9,13 +9,13 @@ from typing import Any, Callable, Dict, Hashable, Optional, Tuple
 from ._errors import NoConnectionError
 from ._links import Carrier
 from ._objects import Host
-from ._told import Address, PacketType
+from ._told import Address
 
 _LONGEST_DATAGRAM = 2048
 _MOST_AT_ONCE = 64  # packets that are taken in before some go out
 _MOST_WAIT = 3_600_000  # milliseconds that are waited at a time: poll takes no number from 2^31 on
 _AGAIN = 1000  # milliseconds after which a carrier without a file is looked at again
-_KIND, _SOURCE = 5, slice(18, 30)  # where the type and the source stand in a packet
+_SOURCE = slice(18, 30)  # where the source stands in a packet
 
 Other = Optional[Callable[[bytes, Any], None]]
 
@@ -77,7 +77,6 @@ class Station:
     def __init__(self, carrier: Carrier, host: Host, other: Other = None) -> None:
         self.carrier, self.host, self._other, self._places = carrier, host, other, Places(host)
         self._files, self._waiting = (None, None), select.poll()
-        self.heard: Optional[int] = None  # when the last packet of a connection came
         self.now = milliseconds()  # of this turn: what comes while a call is carried out is read before anything is due for want of it
 
     def time(self) -> int:
@@ -105,10 +104,7 @@ class Station:
                 continue
             except OSError:  # nothing is there, or the network is down
                 return
-            if self.host.receive(self.now, self._places.number(place, packet[_SOURCE]), packet):
-                if packet[_KIND] == PacketType.SEQUENCED:
-                    self.heard = self.now
-            elif self._other is not None:
+            if not self.host.receive(self.now, self._places.number(place, packet[_SOURCE]), packet) and self._other is not None:
                 self._other(packet, place)
 
     def rest(self, until: Optional[int] = None) -> Optional[int]:

@@ -269,6 +269,17 @@ def rejects(reason: int) -> Reply:
 # An event has the tag of its connection, by `Host.set_tag`, as an attribute; it is no element of the tuple.
 
 
+class _Opened(NamedTuple):
+    number: int
+
+
+class Opened(_Opened):
+    """The peer of the connection with this number, which `Host.connect` opened, has confirmed it. Told by the setting `tells_opened` alone: once, before all
+    else of the connection, or never."""
+
+    tag = 0
+
+
 class _Call(NamedTuple):
     number: int
     program: int
@@ -310,4 +321,4 @@ class Closed(_Closed):
     error: Optional[int] = None
 
 
-Event = Union[Call, Answer, Closed]
+Event = Union[Opened, Call, Answer, Closed]

@@ -328,6 +328,7 @@ int main(void) {
     short_buffers();
     tags();
     close_behind_a_call();
+    opened();
     silent();
     abandoned();
     idle();

@@ -245,6 +245,37 @@ static void short_buffers(void) {
     answer_that_stays();
 }
 
+/* By the setting it is told once, before all else, that a connection of ours is open: also where its call was answered meanwhile; never where the peer is silent,
+ * nor of one that a peer opened. */
+static void opened(void) {
+    const struct xns_settings told = { .tells_opened = 1 }, brief = { .first_wait = 100, .longest_wait = 100, .tries = 1, .tells_opened = UINT8_MAX };
+    struct xns_event event;
+    size_t number;
+    open_both(&told, &number);
+    CHECK(xns_host_set_tag(&client, number, 7) == XNS_OK && carry(&client, NULL, CLIENT_VIA));
+    CHECK(xns_host_next_event(&client, &event, words, WORDS, &count) == XNS_NOTHING);
+    event = await(&client, XNS_EVENT_OPENED);
+    CHECK(event.number == number && event.tag == 7 && count == 0 && event.message.kind == 0 && event.closed == 0 && event.error == 0 && event.fault == 0);
+    CHECK(xns_host_next_event(&client, &event, words, WORDS, &count) == XNS_NOTHING && xns_host_wake(&client) != 0);
+    asks(number, XNS_KIND_RETURN, 0, 3);
+    CHECK(xns_host_close(&client, now, number) == XNS_OK);
+    is_closed(&service, XNS_CLOSED_BY_PEER, XNS_OK);
+    is_closed(&client, XNS_CLOSED_ASKED, XNS_OK);
+    free_both();
+    open_both(&told, &number);
+    event = calls(number, 3);
+    CHECK(xns_host_answer(&service, now, event.number, XNS_KIND_RETURN, 0, given, 3) == XNS_OK);
+    while (carry(&service, &client, SERVICE_VIA) || carry(&client, &service, CLIENT_VIA)) continue;
+    CHECK(xns_host_wake(&client) == 0 && xns_host_next_event(&client, &event, words, 0, &count) == XNS_OK && event.kind == XNS_EVENT_OPENED);
+    CHECK(xns_host_wake(&client) == 0);
+    hears(number, XNS_KIND_RETURN, 0, 3);
+    free_both();
+    open_both(&brief, &number);
+    for (int i = 0; i < 4; i++, now += 100) carry(&client, NULL, CLIENT_VIA);
+    is_closed(&client, XNS_CLOSED_SILENT, XNS_OK);
+    free_both();
+}
+
 /* The tag of a connection is in each event of it, whoever opened it, also in one that stays; the next connection of the number has none. */
 static void tags(void) {
     const struct xns_settings one = { .connections = 1 };

@@ -395,6 +395,34 @@ class HostTest(unittest.TestCase):
                 now = client.wake()
             self.assertEqual(times, [0, 100, 300, 600, 900])
 
+    def test_opened(self):
+        """By the setting it is told once, before all else, that a connection of ours is open; never where the peer is silent, nor of one that a peer opened."""
+        silent = {"first_wait": 100, "longest_wait": 100, "tries": 1}
+        with xns.Host(THERE, tells_opened=True) as self.client, xns.Host(HERE, tells_opened=True) as self.service:
+            self.service.serve(5, [(7, 1, 2)])
+            self.number = self.client.connect(self.now, 3, THERE.socket, HERE._replace(socket=5))
+            self.client.set_tag(self.number, 7)
+            self.assertEqual((list(self.client.events()), len(list(self.client.packets(self.now)))), ([], 1))  # which is lost
+            self.now = 1000
+            opened = self.told(self.client)
+            self.assertIsInstance(opened, xns.Opened)
+            self.assertEqual((opened, opened.tag, list(self.client.events())), (xns.Opened(self.number), 7, []))
+            number = self.call([5])
+            self.service.answer(self.now, number, xns.returns([6]))
+            self.assertEqual(self.told(self.client), xns.Answer(self.number, xns.Kind.RETURN, 0, [6]))
+            second = self.client.connect(self.now, 3, 1025, HERE._replace(socket=5))
+            self.client.call(self.now, second, 7, 2, 1, [5])
+            self.service.answer(self.now, self.told(self.service).number, xns.returns([6]))
+            self.carry()
+            self.assertEqual(self.client.wake(), 0)
+            self.assertEqual(list(self.client.events()), [xns.Opened(second), xns.Answer(second, xns.Kind.RETURN, 0, [6])])
+            self.assertEqual(list(self.service.events()), [])
+        with xns.Host(THERE, tells_opened=True, **silent) as client:
+            number = client.connect(0, 3, 1024, HERE._replace(socket=5))
+            for now in range(0, 400, 100):
+                list(client.packets(now))
+            self.assertEqual(list(client.events()), [xns.Closed(number, xns.Why.SILENT, None)])
+
     def test_attention_amid_a_call(self):
         peer, own = HERE._replace(socket=5), THERE._replace(socket=2000)
         end = xns.Endpoint.initiator(own, 77, peer)
@@ -479,7 +507,7 @@ class HostTest(unittest.TestCase):
         with self.assertRaises(xns.BadArgumentError):
             xns.Host(HERE, least_wait=251)
         xns.Host(HERE, least_wait=250)
-        for wrong in ({"waits": 9}, {"answers_echo": 1}):
+        for wrong in ({"waits": 9}, {"answers_echo": 1}, {"tells_opened": 1}):
             with self.assertRaises(TypeError):
                 xns.Host(HERE, **wrong)
         for secret in (b"", bytes(31), bytes(33)):

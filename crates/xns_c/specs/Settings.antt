@@ -1,5 +1,5 @@
 -- What a host is made with, as C gives it.
-use Rattle.std.specs.Prelude.{ℕ, ◌==◌, min, if◌then◌else◌}
+use Rattle.std.specs.Prelude.{ℕ, not, ◌==◌, min, if◌then◌else◌}
 use Rattle.xns_host.specs.Settings.{usual_settings}
 use Rattle.xns_host.specs.declared.settings.Settings.{Settings}
 use Rattle.xns_c.specs.declared.settings.XnsSettings.{XnsSettings}
@@ -27,6 +27,7 @@ settings_in s = record {
   tries = given_or usual_settings.tries s.tries;
   strays = usual_settings.strays;
   answers_echo = s.no_echo == 0;
+  tells_opened = not (s.tells_opened == 0);
 }
 
 -- a time that does not come

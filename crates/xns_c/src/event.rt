@@ -4,7 +4,7 @@ use crate::message::XnsMessage;
 #[repr(C)]
 #[derive(Clone, Copy)]
 pub struct XnsEvent {
-    /// 1 a call, 2 an answer, 3 that it is closed.
+    /// 1 a call, 2 an answer, 3 that it is closed, 4 that it is open.
     pub kind: u8,
     /// The number of the connection.
     pub number: usize,

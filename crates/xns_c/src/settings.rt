@@ -25,6 +25,8 @@ pub struct XnsSettings {
     pub no_echo: u8,
     /// How much longer a measured wait is than the measured time at least.
     pub least_wait: u16,
+    /// Whether the program is told when a connection that it opened is confirmed: 0 is no.
+    pub tells_opened: u8,
 }
 
 /// A number of things, or the usual one where it is 0.
@@ -86,6 +88,7 @@ impl XnsSettings {
             tries: tries_in(self.tries, usual.tries),
             strays: usual.strays,
             answers_echo: self.no_echo == 0,
+            tells_opened: self.tells_opened != 0,
         }
     }
 }

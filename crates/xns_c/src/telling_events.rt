@@ -22,6 +22,9 @@ const ANSWER: u8 = 2;
 /// A connection is closed.
 const CLOSED: u8 = 3;
 
+/// A connection is open.
+const OPENED: u8 = 4;
+
 /// What stands for the message of an event that has none.
 const NO_MESSAGE: XnsMessage = XnsMessage {
     kind: 0,
@@ -52,6 +55,15 @@ fn event_out(event: &Event) -> XnsEvent
     ensures { result ≡ event_given event.now }
 {
     match event {
+        Event::Opened { number, tag } => XnsEvent {
+            kind: OPENED,
+            number: *number,
+            tag: *tag,
+            message: NO_MESSAGE,
+            closed: 0,
+            error: 0,
+            fault: OK,
+        },
         Event::Call {
             number,
             tag,
@@ -81,6 +93,7 @@ pub fn number_of(event: &Event) -> usize
     ensures { result ≡ event_number event.now }
 {
     match event {
+        Event::Opened { number, .. } => *number,
         Event::Call { number, .. } => *number,
         Event::Answer { number, .. } => *number,
         Event::Closed { number, .. } => *number,
@@ -92,6 +105,7 @@ pub fn set_tag(event: &mut Event, tag: u64)
     ensures { event.new ≡ with_tag tag event.old }
 {
     match event {
+        Event::Opened { tag: told, .. } => *told = tag,
         Event::Call { tag: told, .. } => *told = tag,
         Event::Answer { tag: told, .. } => *told = tag,
         Event::Closed { tag: told, .. } => *told = tag,
@@ -104,7 +118,7 @@ pub fn is_answer(event: &Event) -> bool
 {
     match event {
         Event::Answer { .. } => true,
-        Event::Call { .. } | Event::Closed { .. } => false,
+        Event::Opened { .. } | Event::Call { .. } | Event::Closed { .. } => false,
     }
 }
 
@@ -115,7 +129,7 @@ fn word_count(event: &Event) -> usize
     match event {
         Event::Call { message, .. } => message.word_count(),
         Event::Answer { message, .. } => message.word_count(),
-        Event::Closed { .. } => 0,
+        Event::Opened { .. } | Event::Closed { .. } => 0,
     }
 }
 
@@ -127,7 +141,7 @@ fn put_words(event: &Event, buffer: &mut [u16])
     match event {
         Event::Call { message, .. } => message.put_words(buffer),
         Event::Answer { message, .. } => message.put_words(buffer),
-        Event::Closed { .. } => {}
+        Event::Opened { .. } | Event::Closed { .. } => {}
     }
 }
 
