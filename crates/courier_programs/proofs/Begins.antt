@@ -1,5 +1,6 @@
 -- Texts and tokens of which something was read.
-use Rattle.std.proofs.Common.{◌≡◌, ℕ, zero, suc, ◌-◌, ◌<◌, Bool, true, false, cond, List, [], ◌∷◌, length, nat_le, Result, Ok, Err, IsOk, refl, arith}
+use Rattle.std.proofs.Common.{◌≡◌, ℕ, zero, suc, ◌-◌, ◌<◌, ◌≤◌, Bool, true, false, cond, List, [], ◌∷◌, length, nat_le, Result, Ok, Err, IsOk, refl, arith}
+use Rattle.std.proofs.lemmas.Bool.{leb-true}
 use Rattle.courier_notation.specs.declared.reason.Reason.TheVariants.{TooLong}
 use Rattle.courier_notation.specs.declared.token.Token.{Token}
 use Rattle.courier_notation.specs.Lexing.{HasToken, Lexing, lexed_at, lexed_from, lexeme_in, lexing_of, most_text, most_tokens, nothing_read, skipped, with_lexeme}
@@ -45,6 +46,15 @@ within false fault text lexing is some = absurd (cc)
 pub begins_with_token : (text : List ℕ) (lexing : Lexing) → lexing_of text ≡ Ok lexing → 0 < length lexing.tokens → HasToken text
 unfolding lexing_of
 begins_with_token text lexing is some = within (nat_le (length text) most_text) (length text - most_text, TooLong) text lexing is some
+
+fits_true : (fits : Bool) (fault : Fault) (text : List ℕ) (lexing : Lexing) → cond fits (lexed_from most_tokens nothing_read text) (Err fault) ≡ Ok lexing → fits ≡ true
+fits_true true fault text lexing is = refl
+fits_true false fault text lexing is = absurd (cc)
+
+-- a text of which tokens were read is not too long
+pub lexed_fits : (text : List ℕ) (lexing : Lexing) → lexing_of text ≡ Ok lexing → length text ≤ most_text
+unfolding lexing_of
+lexed_fits text lexing is = leb-true (length text) most_text (fits_true (nat_le (length text) most_text) (length text - most_text, TooLong) text lexing is)
 
 -- ---- programs
 

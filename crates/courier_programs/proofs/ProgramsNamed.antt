@@ -22,7 +22,7 @@ use Rattle.courier_programs.proofs.TypesNamed.{FieldsIn, IsPlainIn, MakesAll, Na
 
 -- ---- what is referred to
 
--- the programs that were read before are so
+-- members and candidates in the programs that were read before have names of their own
 abbrev pub AreBefore : List Program → Type 0
 AreBefore before = AllByRecursion (λ b. AreTypesNamed (resolved_model b)) before
 

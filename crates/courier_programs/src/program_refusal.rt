@@ -11,10 +11,10 @@ use thiserror::Error;
 /// What is wrong with a text.
 #[derive(Clone, Copy, Debug, PartialEq, Eq, Error)]
 pub enum ProgramReason {
-    /// Its tokens, or how they follow one another.
+    /// A token of the text, or how its tokens follow one another.
     #[error("{0}")]
     Notation(Reason),
-    /// One of its names.
+    /// A name of the program.
     #[error("{0}")]
     Name(NameReason),
 }

@@ -1,7 +1,7 @@
 //! Programs read from texts.
 
-ghost use Rattle.std.specs.Prelude.{◌≡◌, IsOk, take};
-ghost use Rattle.courier_notation.specs.Lexing.{HasToken, lexing_view};
+ghost use Rattle.std.specs.Prelude.{◌≡◌, ◌≤◌, IsOk, length, take};
+ghost use Rattle.courier_notation.specs.Lexing.{HasToken, lexing_view, most_text};
 ghost use Rattle.courier_notation.specs.ProgramModels.{program_view};
 ghost use Rattle.courier_notation.specs.Programs.{header_at, program_of};
 ghost use Rattle.courier_notation.specs.Reading.{Gives};
@@ -106,11 +106,12 @@ fn read_lexed(
 /// The program that a text in Courier's notation is, behind the programs that were read before it.
 ///
 /// `Wrong` has the first fault and its place: of the tokens, of the grammar, or of the names. `NoMemory` only
-/// where a growth was refused, and the text begins with a token.
+/// where a growth was refused: the text begins with a token, and has no more bytes than a text may have.
 #[tactic(auto, unfolding(crate::specs::Texts::text_meant))]
 pub fn read_text(alloc: Global, text: &[u8], before: &[Program]) -> Result<Program, ProgramRefusal>
     ensures exact { Reads resolved_model result (text_meant text.now before.now) }
     ensures memory { IfNoMemory result (HasToken text.now) }
+    ensures fits { IfNoMemory result (length text.now ≤ most_text) }
 {
     match lex(alloc, text) {
         Ok(lexed) => read_lexed(alloc, text, before, &lexed),

@@ -29,7 +29,7 @@ pub struct Scope<'a> {
     pub meanings: &'a [(Vec<u8>, Meaning)],
     /// The name that is declared.
     pub own: u32,
-    /// Whether it is a type that is declared.
+    /// Whether a type is declared.
     pub is_type: bool,
 }
 

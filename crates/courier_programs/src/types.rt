@@ -21,7 +21,7 @@ use courier_notation::{Numeric, Reference, WrittenType};
 use courier_texts::Named;
 use std::alloc::Global;
 
-/// Whether the name is one of those.
+/// Whether the name is one of the names that were seen.
 fn has_name(scope: &Scope, seen: &[u32], name: u32) -> bool
     ensures { result ≡ has_name_in (env scope.now) seen.now name }
 {

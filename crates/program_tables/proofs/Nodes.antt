@@ -61,7 +61,7 @@ pub both_empty : {A : Type 0} (xs ys : List A) → xs ++ ys ≡ [] → (xs ≡ [
 both_empty [] ys e = (refl, e)
 both_empty (x ∷ xs) ys e = absurd cc
 
--- what one of them has, all of them have
+-- where one has a part, the parts of all are not empty
 pub one_of_them : {A B C : Type 0} (f : B → List C) (g : A → B) (xs : List A) (i : ℕ) (x : A) (rest : List A) → drop i xs ≡ x ∷ rest → f (g x) ≢ [] → flat_map f (map g xs) ≢ []
 one_of_them f g [] zero x rest here some = λ e. absurd cc
 one_of_them f g [] (suc i) x rest here some = λ e. absurd cc

@@ -39,8 +39,8 @@ pub struct Node {
     pub kind: NodeKind,
     /// What the kind says; 0 where it says nothing.
     pub number: u32,
-    /// How many parts it has, without theirs.
+    /// How many parts the node has. The parts of its parts are not counted.
     pub parts: usize,
-    /// The name that it is declared by; empty where it has none.
+    /// The name that the node is declared by; empty where it has none.
     pub name: Vec<u8>,
 }
