@@ -19,7 +19,6 @@ mod stubborn;
 use abandoned::Abandoned;
 use clocked::{Clocked, Shown};
 use host_scenes::crowd::Crowd;
-use host_scenes::partings;
 use host_scenes::play::Play;
 use host_scenes::scene::Scene;
 use host_scenes::{partings, waits};
