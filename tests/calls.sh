@@ -31,7 +31,7 @@ for capture in "$work"/captures/*.hex; do
 done
 
 # Each line of the page is among them.
-for line in 'hex refused' 'idp refused' 'inner refused' 'flow to' missing call return reject abort 'refused BadVersions' 'refused NoCommonVersion' \
+for line in 'hex refused' 'idp refused' 'inner refused' 'flow to' missing call return reject abort repeats 'refused BadVersions' 'refused NoCommonVersion' \
     'refused OddLength' 'refused ShortMessage' 'refused UnknownKind'; do
     if grep -qhE "^[0-9]+ ([0-9]+[ab] )?$line" "$work"/captures/*.text; then pass; else fail "no capture has a line '$line'"; fi
 done

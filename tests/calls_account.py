@@ -150,6 +150,7 @@ class Flow:
         self.noted = []
         self.given = 0
         self.is_closed = self.has_replied = False
+        self.row, self.is_told = 0, False
 
     def has_begun(self):
         return self.next is not None
@@ -283,9 +284,11 @@ class Connection:
     def take(self, flow, packet):
         other = self.other(flow)
         is_repeat = packet.is_data and flow.is_repeat(packet.sequence)
-        if packet.is_data and not is_repeat and packet.stream in (END, END_REPLY):
-            flow.is_closed = True
-            flow.has_replied = flow.has_replied or packet.stream == END_REPLY
+        if packet.is_data:
+            self.count_repeat(flow, is_repeat)
+            if not is_repeat and packet.stream in (END, END_REPLY):
+                flow.is_closed = True
+                flow.has_replied = flow.has_replied or packet.stream == END_REPLY
         acknowledged = other.number_of(packet.acknowledge)
         is_noted = other.is_noted(acknowledged)
         of_flow, of_other = flow.count_packet(), other.count_packet()
@@ -296,6 +299,12 @@ class Connection:
             self.take_item(flow, packet, acknowledged)
         self.bring_to(flow, of_flow)
         self.settle()
+
+    def count_repeat(self, flow, is_repeat):
+        flow.row = flow.row + 1 if is_repeat else 0
+        if flow.row == ITEMS and not flow.is_told:
+            flow.is_told = True
+            self.say(flow, "repeats")
 
     def take_item(self, flow, packet, acknowledged):
         if not flow.has_begun():

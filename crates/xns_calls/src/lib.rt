@@ -32,6 +32,7 @@ mod packet_lines;
 mod packet_printer;
 mod printer;
 mod queue;
+mod repeats;
 mod scratch;
 mod settling;
 mod shown;
