@@ -4,6 +4,6 @@ set -eu
 cd "$(dirname "$0")/.."
 rt ci
 python3 tests/reading.py --check
-for script in pages program files notation conversations plays refusals c network install captures; do
+for script in pages program files notation conversations calls plays refusals c network install captures; do
     sh "tests/$script.sh"
 done

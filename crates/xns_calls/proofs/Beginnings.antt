@@ -15,7 +15,7 @@ use Rattle.xns_calls.specs.Naming.{Programs}
 use Rattle.xns_calls.specs.Acknowledged.{acknowledged_in, aheads_in, due_in, due_of, effective, given_in, if_begun, nearer, noted}
 use Rattle.xns_calls.specs.Anew.{begins_anew}
 use Rattle.xns_calls.specs.Calls.{after_line, known_from, line_taken, text_from}
-use Rattle.xns_calls.specs.Capture.{Known, after_at, after_in, after_new_flow, after_place, after_sequenced, after_there, forgotten, heading_at, is_behind_in, new_connection, place_of, renewed, renewed_there, scene_in, settled_at, settled_there, taken_in, with_new, with_scene}
+use Rattle.xns_calls.specs.Capture.{Known, after_at, after_in, after_new_flow, after_place, after_sequenced, after_there, forgotten, heading_at, is_behind_in, new_connection, place_of, renewed, renewed_there, repeats_told, scene_in, settled_at, settled_there, taken_in, with_new, with_scene}
 use Rattle.xns_calls.specs.Events.{Event, acknowledged_event, after_events, captured_event}
 use Rattle.xns_calls.specs.Exchange.{Scene, advance_other, advance_own, after_content, after_data, after_packet, after_told, begin_track, begun, behind_last, carried, first_track, new_number, of_other, other_reached, own_reached, reached, seen_from_other, take_number, told_of}
 use Rattle.xns_calls.specs.Input.{Arrival, FlowName, Part, arrival, begins, connection_at, connection_of, ending_events, events_at, events_between, events_from, events_there, field_at, field_between, field_there, first_field_from, is_same, item_events, name_in, next_name, or_later, part_text, parts_text, said_texts, text_in, texts_in, told}
@@ -23,6 +23,7 @@ use Rattle.xns_calls.specs.Numbers.{near}
 use Rattle.xns_calls.specs.Over.{side_in}
 use Rattle.xns_calls.specs.Queue.{last_number}
 use Rattle.xns_calls.specs.Reading.{Told}
+use Rattle.xns_calls.specs.Repeats.{tells_repeats}
 use Rattle.xns_calls.specs.Texts.{flow_line}
 use Rattle.xns_calls.specs.Whole.{flow_text}
 use Rattle.xns_calls.specs.declared.connection.Connection.{Connection}
@@ -35,7 +36,7 @@ use Rattle.xns_calls.proofs.EndReads.{ends_say, other_ends_rest, own_ends_rest}
 use Rattle.xns_calls.proofs.Fits.{Fits, fits, fits_on}
 use Rattle.xns_calls.proofs.Gaps.{IsOrdered, equal_tells, events_ordered, new_ordered}
 use Rattle.xns_calls.proofs.Onwards.{Rests, other_settles, own_settles, settled_says}
-use Rattle.xns_calls.proofs.Happenings.{IsOn, IsPlain, far_texts, in_text, near_events, new_there, none_acknowledged, none_due, none_new, settled_step, settled_text, side_track, stands_own}
+use Rattle.xns_calls.proofs.Happenings.{IsOn, IsPlain, far_texts, in_text, near_events, new_there, none_acknowledged, none_due, none_new, repeated_own, repeated_parts, repeated_text, settled_step, settled_text, side_track, stands_own}
 use Rattle.xns_calls.proofs.Inputs.{events_front, line_is, lines_ran, numbered_line}
 use Rattle.xns_calls.proofs.Parts.{reached_is, reached_said, reached_text, added, behind_text, captured_new, captured_plain, drop_all, flow_append, flow_at, number_tells, other_text, own_text, packet_parts, packet_said, plain, plain_one, said_text_of, scene_text, two_of, two_texts}
 use Rattle.xns_calls.proofs.Numbered.{AllKeep, IsNumbered, keep_more, keep_set, numbered_more, numbered_renewed, numbered_taken, same_number, scene_number}
@@ -368,10 +369,52 @@ met_settled n m i b q before k xs field numbered (inr w) =
           ∙ ap (λ z. line ++ z) (sym (flow_append w.events v.events w.start));
     })
 
+-- one step behind another
+met_behind : (m : ℕ) (b : Bool) (before : List ℕ) (k k' : Known) (xs ys : List Event) (field : Option ℕ) → Awaits m b before k xs None → Met m b k.text k' ys field → Met m b before k' (xs ++ ys) field
+met_behind m b before k k' xs ys field w (inl v) = inl (record {
+  none = v.none;
+  nothing = ap (λ z. z ++ ys) w.nothing ∙ v.nothing;
+  later = v.later;
+  parts = w.parts ++ v.parts;
+  text = joined_text before k.text k'.text w.parts v.parts w.text v.text;
+  own = flat_map-append (text_in (flow_at m b)) w.parts v.parts ∙ ap (λ z. z ++ texts_in (flow_at m b) v.parts) w.own ∙ v.own;
+})
+met_behind m b before k k' xs ys field w (inr v) = inr (record {
+  first = v.first;
+  has = v.has;
+  start = v.start;
+  track = v.track;
+  events = v.events;
+  are = subst (λ es. Fits es (plain v.events)) (sym (ap (λ z. z ++ ys) w.nothing)) v.are;
+  stands = v.stands;
+  heading = v.heading;
+  packet = v.packet;
+  header = v.header;
+  parts = w.parts ++ v.parts;
+  text = joined_text before k.text k'.text w.parts v.parts w.text v.text;
+  own = flat_map-append (text_in (flow_at m b)) w.parts v.parts ∙ ap (λ z. z ++ texts_in (flow_at m b) v.parts) w.own ∙ v.own;
+})
+
+-- ---- the line that tells of repeats
+
+repeats_wait : (n : Origin) (m : ℕ) (b q : Bool) (f : Header) (c : Connection) (k : Known) → AllKeep m b k.connections None → Awaits m b k.text (repeats_told n q f c k) [] None
+repeats_wait n m b q f c k all =
+    let tells = tells_repeats q f c in record {
+      none = all;
+      nothing = refl;
+      later = refl;
+      parts = repeated_parts n c.number q tells;
+      text = ap (λ z. k.text ++ z) (repeated_text n c.number q tells);
+      own = repeated_own n m c.number b q tells;
+    }
+
 at_meets : (n : Origin) (m i : ℕ) (b q : Bool) (packet : PacketModel) (f : Header) (content : List ℕ) (c : Connection) (k : Known) → IsNumbered k.connections k.count → slice_get k.connections i ≡ Some c → AllKeep m b k.connections None
     → Met m b k.text (after_in n i q packet f content c k) (events_between (flow_at m b) (flow_at c.number q) (heading_at n m b) f content (acknowledged_in q f c) (side_in b c).track (due_of b c)) (field_between (flow_at m b) (flow_at c.number q) f)
 at_meets n m i b q packet f content c k numbered there all =
-    met_settled n m i b q k.text (taken_in n i q packet f content c k) _ _ (numbered_taken n i q packet f content c k there numbered) (taken_meets n m i b q packet f content c k there all)
+    let told = repeats_told n q f c k in
+    let k' = taken_in n i q packet f content c told in
+    met_behind m b k.text told (settled_at n i q k') [] _ _ (repeats_wait n m b q f c k all)
+    (met_settled n m i b q told.text k' _ _ (numbered_taken n i q packet f content c told there numbered) (taken_meets n m i b q packet f content c told there all))
 
 -- ---- where its connection stands
 
@@ -455,31 +498,6 @@ forget_waits n m i b flow c k there all = by_number (m == c.number) refl
           text = w.text;
           own = w.far m b e;
         }
-
-met_behind : (m : ℕ) (b : Bool) (before : List ℕ) (k k' : Known) (xs ys : List Event) (field : Option ℕ) → Awaits m b before k xs None → Met m b k.text k' ys field → Met m b before k' (xs ++ ys) field
-met_behind m b before k k' xs ys field w (inl v) = inl (record {
-  none = v.none;
-  nothing = ap (λ z. z ++ ys) w.nothing ∙ v.nothing;
-  later = v.later;
-  parts = w.parts ++ v.parts;
-  text = joined_text before k.text k'.text w.parts v.parts w.text v.text;
-  own = flat_map-append (text_in (flow_at m b)) w.parts v.parts ∙ ap (λ z. z ++ texts_in (flow_at m b) v.parts) w.own ∙ v.own;
-})
-met_behind m b before k k' xs ys field w (inr v) = inr (record {
-  first = v.first;
-  has = v.has;
-  start = v.start;
-  track = v.track;
-  events = v.events;
-  are = subst (λ es. Fits es (plain v.events)) (sym (ap (λ z. z ++ ys) w.nothing)) v.are;
-  stands = v.stands;
-  heading = v.heading;
-  packet = v.packet;
-  header = v.header;
-  parts = w.parts ++ v.parts;
-  text = joined_text before k.text k'.text w.parts v.parts w.text v.text;
-  own = flat_map-append (text_in (flow_at m b)) w.parts v.parts ∙ ap (λ z. z ++ texts_in (flow_at m b) v.parts) w.own ∙ v.own;
-})
 
 place_meets : IsPlain → (n : Origin) (m i : ℕ) (b : Bool) (packet : PacketModel) (f : Header) (content : List ℕ) (c : Connection) (k : Known) → IsNumbered k.connections k.count → slice_get k.connections i ≡ Some c → AllKeep m b k.connections None
     → Met m b k.text (after_at n i (flow_of packet f) packet f content (renewed n i (flow_of packet f) f k)) (events_there (flow_at m b) (heading_at n m b) (packet, f, content) (Some c) k)

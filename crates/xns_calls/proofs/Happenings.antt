@@ -10,15 +10,17 @@ use Rattle.xns_dump.specs.declared.flows.flow.Flow.{Flow}
 use Rattle.xns_calls.specs.Acknowledged.{acknowledged_in, due_in, due_of, given_in, noted}
 use Rattle.xns_calls.specs.Anew.{begins_anew}
 use Rattle.xns_calls.specs.AtEnd.{both_ended}
-use Rattle.xns_calls.specs.Capture.{Known, after_at, after_in, after_new_flow, after_place, after_scene, after_sequenced, after_there, forgotten, heading_at, is_behind_in, new_connection, place_of, renewed, renewed_there, scene_in, settled_at, settled_there, taken_in, with_new, with_scene}
+use Rattle.xns_calls.specs.Capture.{Known, after_at, after_in, after_new_flow, after_place, after_scene, after_sequenced, after_there, forgotten, heading_at, is_behind_in, new_connection, place_of, renewed, renewed_there, repeats_told, scene_in, settled_at, settled_there, taken_in, with_new, with_scene}
 use Rattle.xns_calls.specs.Events.{Event, acknowledged_event, after_event, after_events, brought_if, meanwhile, own_events, with_others}
 use Rattle.xns_calls.specs.Exchange.{Scene, advance_own, advance_track, advanced, after_packet, after_told, behind_last, carried, of_other, other_reached, seen_from_other, told_of, up_to}
-use Rattle.xns_calls.specs.Input.{Part, connection_at, connection_of, ending_events, events_between, events_there, is_same, item_events, name_in, next_name, part_text, parts_text, text_in, texts_in, told}
+use Rattle.xns_calls.specs.Input.{Part, connection_at, connection_of, ending_events, events_between, events_there, is_same, item_events, name_in, next_name, part_text, parts_text, repeated, text_in, texts_in, told}
 use Rattle.xns_calls.specs.Numbers.{near}
 use Rattle.xns_calls.specs.Over.{side_in}
 use Rattle.xns_calls.specs.Queue.{last_number}
 use Rattle.xns_calls.specs.Read.{settled}
 use Rattle.xns_calls.specs.Reading.{Told, brought}
+use Rattle.xns_calls.specs.Repeats.{repeats_text, tells_repeats}
+use Rattle.xns_calls.specs.Texts.{repeats_line}
 use Rattle.xns_calls.specs.Whole.{flow_text}
 use Rattle.xns_calls.specs.declared.connection.Connection.{Connection}
 use Rattle.xns_calls.specs.declared.due.Due.{Due}
@@ -321,14 +323,41 @@ settled_step n m i b q k t numbered on = by_connection (slice_get k.connections 
     by_connection None there = nothing_step m b k t on
     by_connection (Some c) there = there_settled n m i b q c k t numbered there on
 
+-- ---- the line that tells of repeats
+
+-- it is no text of the flow
+pub repeated_parts : Origin → ℕ → Bool → Bool → List Part
+repeated_parts n m q tells = cond tells (repeated n (flow_at m q) ∷ []) []
+
+pub repeated_text : (n : Origin) (m : ℕ) (q tells : Bool) → repeats_text (heading_at n m q) tells ≡ parts_text (repeated_parts n m q tells)
+unfolding repeated_parts
+repeated_text n m q true = sym (append-nil (repeats_line (heading_at n m q)))
+repeated_text n m q false = refl
+
+pub repeated_own : (n : Origin) (m g : ℕ) (b q tells : Bool) → texts_in (flow_at m b) (repeated_parts n g q tells) ≡ []
+unfolding repeated_parts
+repeated_own n m g b q true = refl
+repeated_own n m g b q false = refl
+
+repeats_step : (n : Origin) (m : ℕ) (b q : Bool) (f : Header) (c : Connection) (k : Known) (t : Told) → IsOn m b k t → Stepped m b k (repeats_told n q f c k) t []
+repeats_step n m b q f c k t (inl a) =
+    let tells = tells_repeats q f c in
+    unchanged m b k (repeats_told n q f c k) t (repeated_parts n c.number q tells) (ap (λ z. k.text ++ z) (repeated_text n c.number q tells)) (repeated_own n m c.number b q tells) a refl
+repeats_step n m b q f c k t (inr gone) =
+    let tells = tells_repeats q f c in
+    stays_gone m b k (repeats_told n q f c k) t (repeated_parts n c.number q tells) (ap (λ z. k.text ++ z) (repeated_text n c.number q tells)) (repeated_own n m c.number b q tells)
+    (record { counted = gone.counted; none = gone.none; empty = gone.empty })
+
 pub at_step : (n : Origin) (m i : ℕ) (b q : Bool) (packet : PacketModel) (f : Header) (content : List ℕ) (c : Connection) (k : Known) (t : Told) → IsNumbered k.connections k.count → slice_get k.connections i ≡ Some c → IsOn m b k t
     → Stepped m b k (after_in n i q packet f content c k) t (events_between (flow_at m b) (flow_at c.number q) (heading_at n m b) f content (acknowledged_in q f c) (side_in b c).track (due_of b c))
 at_step n m i b q packet f content c k t numbered there on =
     let happened = events_between (flow_at m b) (flow_at c.number q) (heading_at n m b) f content (acknowledged_in q f c) (side_in b c).track (due_of b c) in
-    let k' = taken_in n i q packet f content c k in
-    subst (Stepped m b k (after_in n i q packet f content c k) t) (append-nil happened)
-    (two_steps m b k k' (settled_at n i q k') t happened [] (taken_step n m i b q packet f content c k t numbered there on)
-    (λ u on'. settled_step n m i b q k' u (numbered_taken n i q packet f content c k there numbered) on'))
+    let told = repeats_told n q f c k in
+    let k' = taken_in n i q packet f content c told in
+    two_steps m b k told (settled_at n i q k') t [] happened (repeats_step n m b q f c k t on)
+    (λ v behind. subst (Stepped m b told (settled_at n i q k') v) (append-nil happened)
+    (two_steps m b told k' (settled_at n i q k') v happened [] (taken_step n m i b q packet f content c told v numbered there behind)
+    (λ u on'. settled_step n m i b q k' u (numbered_taken n i q packet f content c told there numbered) on')))
 
 -- ---- the end of a connection that begins anew
 

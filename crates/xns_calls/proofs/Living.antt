@@ -9,7 +9,7 @@ use Rattle.xns_calls.specs.Naming.{Programs}
 use Rattle.xns_calls.specs.Acknowledged.{due_in, given_in, noted}
 use Rattle.xns_calls.specs.Anew.{begins_anew, begins_items}
 use Rattle.xns_calls.specs.Calls.{known_from, line_taken}
-use Rattle.xns_calls.specs.Capture.{Known, after_at, after_in, after_sequenced, after_there, forgotten, heading_at, is_behind_in, place_of, renewed, renewed_there, scene_in, settled_at, settled_there, taken_in, with_scene}
+use Rattle.xns_calls.specs.Capture.{Known, after_at, after_in, after_sequenced, after_there, forgotten, heading_at, is_behind_in, place_of, renewed, renewed_there, repeats_told, scene_in, settled_at, settled_there, taken_in, with_scene}
 use Rattle.xns_calls.specs.Exchange.{Scene, after_packet}
 use Rattle.xns_calls.specs.Input.{Arrival, arrival}
 use Rattle.xns_calls.specs.Living.{AnswersNothing, IsNotAnswered, is_answered}
@@ -86,9 +86,10 @@ own_stays : (n : Origin) (i number : ℕ) (flow : Flow) (packet : PacketModel) (
 unfolding Stays renewed after_at
 own_stays n i number flow packet f content k other (c, there, is, quiet) =
     let q = is_behind_in flow c in
-    let s = after_packet (heading_at n c.number q) (due_in q f c) packet f content (scene_in q c k) in
+    let told = repeats_told n q f c k in
+    let s = after_packet (heading_at n c.number q) (due_in q f c) packet f content (scene_in q c told) in
     let c' = with_scene q s (noted q f c) in
-    let k' = taken_in n i q packet f content c k in
+    let k' = taken_in n i q packet f content c told in
     let there' : slice_get k'.connections i ≡ Some c' = get_same k.connections i c c' there in
     let z = settled (heading_at n c'.number q) (given_in q c') (scene_in q c' k') in
     let c'' = with_scene q z c' in

@@ -8,7 +8,7 @@ use Rattle.xns_dump.specs.Flows.{flow_of}
 use Rattle.xns_dump.specs.declared.flows.flow.Flow.{Flow}
 use Rattle.xns_calls.specs.Acknowledged.{noted}
 use Rattle.xns_calls.specs.Anew.{begins_anew}
-use Rattle.xns_calls.specs.Capture.{Known, after_at, after_place, after_sequenced, after_there, forgotten, is_behind_in, new_connection, place_of, renewed, renewed_there, settled_at, settled_there, taken_in, with_new, with_scene}
+use Rattle.xns_calls.specs.Capture.{Known, after_at, after_place, after_sequenced, after_there, forgotten, is_behind_in, new_connection, place_of, renewed, renewed_there, repeats_told, settled_at, settled_there, taken_in, with_new, with_scene}
 use Rattle.xns_calls.specs.Exchange.{Scene}
 use Rattle.xns_calls.specs.Over.{side_in}
 use Rattle.xns_calls.specs.declared.connection.Connection.{Connection}
@@ -161,7 +161,9 @@ numbered_there : (n : Origin) (i : ℕ) (flow : Flow) (packet : PacketModel) (f 
     → AreNumbered (after_there n i flow packet f content o k)
 numbered_there n i flow packet f content None k there w = w
 numbered_there n i flow packet f content (Some c) k there w =
-    let q = is_behind_in flow c in numbered_settled n i q (taken_in n i q packet f content c k) (numbered_taken n i q packet f content c k there w)
+    let q = is_behind_in flow c in
+    let told = repeats_told n q f c k in
+    numbered_settled n i q (taken_in n i q packet f content c told) (numbered_taken n i q packet f content c told there w)
 
 numbered_at : (n : Origin) (i : ℕ) (flow : Flow) (packet : PacketModel) (f : Header) (content : List ℕ) (k : Known) → AreNumbered k → AreNumbered (after_at n i flow packet f content k)
 unfolding after_at

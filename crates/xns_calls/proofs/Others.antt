@@ -7,7 +7,7 @@ use Rattle.xns_spp.specs.declared.header.Header.{Header}
 use Rattle.xns_dump.specs.Flows.{flow_of}
 use Rattle.xns_dump.specs.declared.flows.flow.Flow.{Flow}
 use Rattle.xns_calls.specs.Anew.{begins_anew}
-use Rattle.xns_calls.specs.Capture.{Known, after_at, after_new_flow, after_place, after_sequenced, after_there, forgotten, is_behind_in, new_connection, place_of, renewed, renewed_there, settled_at, settled_there, taken_in, with_new}
+use Rattle.xns_calls.specs.Capture.{Known, after_at, after_new_flow, after_place, after_sequenced, after_there, forgotten, is_behind_in, new_connection, place_of, renewed, renewed_there, repeats_told, settled_at, settled_there, taken_in, with_new}
 use Rattle.xns_calls.specs.declared.connection.Connection.{Connection}
 use Rattle.xns_calls.specs.declared.origin.Origin.{Origin}
 
@@ -48,7 +48,7 @@ there_same : (n : Origin) (i j : ℕ) (flow : Flow) (packet : PacketModel) (f : 
     → connection_at i (after_there n j flow packet f content o k) ≡ connection_at i k
 there_same n i j flow packet f content None k other = refl
 there_same n i j flow packet f content (Some c) k other =
-    let q = is_behind_in flow c in settled_same n i j q (taken_in n j q packet f content c k) other ∙ get_set k.connections i j _ other
+    let q = is_behind_in flow c in settled_same n i j q (taken_in n j q packet f content c (repeats_told n q f c k)) other ∙ get_set k.connections i j _ other
 
 at_same : (n : Origin) (i j : ℕ) (flow : Flow) (packet : PacketModel) (f : Header) (content : List ℕ) (k : Known) → (i ≡ j → ⊥)
     → connection_at i (after_at n j flow packet f content k) ≡ connection_at i k

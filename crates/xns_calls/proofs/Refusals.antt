@@ -27,17 +27,18 @@ use Rattle.xns_dump.specs.Layers.Courier.{callee_text}
 use Rattle.xns_calls.specs.Numbers.{most_early}
 use Rattle.xns_calls.specs.Calls.{after_body, after_bytes, after_digits, after_found, after_header, after_line, calls_text, end_count, has_refusal, has_refused, known_from, known_with_end, line_taken, nothing_known, text_from, text_with_end}
 use Rattle.xns_calls.specs.Anew.{begins_anew}
-use Rattle.xns_calls.specs.Capture.{Known, after_at, after_end, after_in, after_place, after_sequenced, after_there, ended_there, forgotten, heading_at, is_behind_in, place_of, renewed, renewed_there, scene_in, settled_at, settled_there, taken_in, with_new}
+use Rattle.xns_calls.specs.Capture.{Known, after_at, after_end, after_in, after_place, after_sequenced, after_there, ended_there, forgotten, heading_at, is_behind_in, place_of, renewed, renewed_there, repeats_told, scene_in, settled_at, settled_there, taken_in, with_new}
 use Rattle.xns_calls.specs.AtEnd.{both_ended, end_turn, ended_of, ended_times, first_in, one_ended, own_ended, read_behind}
 use Rattle.xns_calls.specs.declared.first_kept.FirstKept.{FirstKept}
 use Rattle.xns_calls.specs.Exchange.{Scene, advance_other, advance_own, advance_track, advanced, after_content, after_data, after_new, after_number, after_packet, begin_track, begun, carried, new_number, of_other, other_reached, own_reached, reached, seen_from_other, take_in_track, told_of}
 use Rattle.xns_calls.specs.Reading.{Told, after_heard, brought, brought_over, first_read, first_read_over, item_read, passed, past, read_next, said_item}
 use Rattle.xns_calls.specs.Read.{kept_count, one_read, own_read, read_in_track, read_of, read_times, settled}
+use Rattle.xns_calls.specs.Repeats.{repeats_text, tells_repeats}
 use Rattle.xns_calls.specs.Turns.{next_turn}
 use Rattle.xns_calls.specs.Speech.{heard_of}
 use Rattle.xns_calls.specs.Naming.{Programs, named_abort, named_call, named_return}
 use Rattle.xns_calls.specs.Telling.{answer_line, call_line, call_of, heard_text, is_fault, message_line}
-use Rattle.xns_calls.specs.Texts.{answer_end, answer_front, call_end, call_front, end_text, flow_line, heading_text, line_or_dash, missing_line, refused_line, words_behind}
+use Rattle.xns_calls.specs.Texts.{answer_end, answer_front, call_end, call_front, end_text, flow_line, heading_text, line_or_dash, missing_line, refused_line, repeats_line, words_behind}
 use Rattle.xns_calls.specs.declared.unanswered.Calls.{Calls}
 use Rattle.xns_calls.specs.declared.connection.Connection.{Connection}
 use Rattle.xns_calls.specs.declared.early.Early.{Early}
@@ -120,6 +121,10 @@ module _ (joined : JoinedTextsSayRefused) (only : OnlyRefusalsSayRefused) where
   missing_is : (h : Heading) (a b : ℕ) → IsQuiet (missing_line h a b)
   unfolding missing_line
   missing_is h a b = joined.quiet _ _ (joined.quiet _ _ (joined.quiet _ _ (heading_is h) (joined.quiet (codes " missing ") _ (record { skips = λ ys. refl }) (only.number a))) (joined.quiet (codes " to ") _ (record { skips = λ ys. refl }) (only.number (b - 1)))) (record { skips = λ ys. refl })
+
+  repeats_are : (h : Heading) (p : Bool) → IsQuiet (repeats_text h p)
+  unfolding repeats_line
+  repeats_are h p = cases IsQuiet p (repeats_line h) [] (joined.quiet _ _ (heading_is h) (record { skips = λ ys. refl })) (record { skips = λ ys. refl })
 
   words_are : (name ws : List ℕ) → IsQuiet name → IsQuiet (words_behind name ws)
   words_are name ws h = joined.quiet name _ h (only.words ws)
@@ -399,11 +404,19 @@ module _ (joined : JoinedTextsSayRefused) (only : OnlyRefusalsSayRefused) where
   there_says b n plain i flow p f content None k s = s
   there_says b n plain i flow p f content (Some c) k s = in_says (is_behind_in flow c)
     where
+      told : Bool → Known
+      told q = repeats_told n q f c k
+
+      told_says : (q : Bool) → SaysKnown b (told q)
+      told_says q = says_quiet b k.text _ k.is_refused s (repeats_are (heading_at n c.number q) (tells_repeats q f c))
+
       in_says : (q : Bool) → SaysKnown b (after_in n i q p f content c k)
       in_says true =
-          at_settled b n plain i true (taken_in n i true p f content c k) (packet_says b (heading_at n c.number true) plain (due_in true f c) p f content (scene_in true c k) s)
+          at_settled b n plain i true (taken_in n i true p f content c (told true))
+          (packet_says b (heading_at n c.number true) plain (due_in true f c) p f content (scene_in true c (told true)) (told_says true))
       in_says false =
-          at_settled b n plain i false (taken_in n i false p f content c k) (packet_says b (heading_at n c.number false) plain (due_in false f c) p f content (scene_in false c k) s)
+          at_settled b n plain i false (taken_in n i false p f content c (told false))
+          (packet_says b (heading_at n c.number false) plain (due_in false f c) p f content (scene_in false c (told false)) (told_says false))
 
   at_says : (b : Bool) (n : Origin) (plain : n.programs ≡ None) (i : ℕ) (flow : Flow) (p : PacketModel) (f : Header) (content : List ℕ) (k : Known) → SaysKnown b k → SaysKnown b (after_at n i flow p f content k)
   unfolding after_at

@@ -1,13 +1,14 @@
 -- A packet, where its connection is noted first.
 use Rattle.std.proofs.Common.{◌≡◌, ◌∙◌, ap, sym, refl, ℕ, zero, suc, Bool, true, false, List, [], ◌∷◌, Some}
-use Rattle.std.specs.Prelude.{slice_get, slice_set}
+use Rattle.std.specs.Prelude.{◌++◌, slice_get, slice_set}
 use Rattle.xns_idp.specs.Packet.{PacketModel}
 use Rattle.xns_lines.specs.declared.page.Page.{Page}
 use Rattle.xns_spp.specs.declared.header.Header.{Header}
 use Rattle.xns_dump.specs.declared.flows.flow.Flow.{Flow}
 use Rattle.xns_calls.specs.Acknowledged.{due_in, noted}
-use Rattle.xns_calls.specs.Capture.{Known, after_at, after_in, after_scene, after_there, heading_at, is_behind_in, known, scene_in, settled_at, settled_there, taken_in, wants_at, wants_in, with_scene}
+use Rattle.xns_calls.specs.Capture.{Known, after_at, after_in, after_scene, after_there, heading_at, is_behind_in, known, repeats_told, scene_in, settled_at, settled_there, taken_in, wants_at, wants_in, with_scene}
 use Rattle.xns_calls.specs.Read.{handled, settled}
+use Rattle.xns_calls.specs.Repeats.{repeats_text, tells_repeats}
 use Rattle.xns_calls.specs.Exchange.{Scene, after_packet, scene, wants_memory}
 use Rattle.xns_calls.specs.declared.connection.Connection.{Connection}
 use Rattle.xns_calls.specs.declared.due.Due.{Due}
@@ -26,49 +27,69 @@ read_there : (n : Origin) (i : ℕ) (b : Bool) (k : Known) (c : Connection) → 
 unfolding settled_at
 read_there n i b k c there = ap (λ o. settled_there n i b o k) there
 
-fused : (n : Origin) (i : ℕ) (b : Bool) (packet : PacketModel) (f : Header) (content : List ℕ) (c : Connection) (k : Known) → slice_get k.connections i ≡ Some c
-    → after_in n i b packet f content c k ≡ after_scene i b (noted b f c) (handled (heading_at n c.number b) (due_in b f c) packet f content (scene_in b c k)) k
+pub fused : (n : Origin) (i : ℕ) (b : Bool) (packet : PacketModel) (f : Header) (content : List ℕ) (c : Connection) (k : Known) → slice_get k.connections i ≡ Some c
+    → after_in n i b packet f content c k
+    ≡ after_scene i b (noted b f c) (handled (heading_at n c.number b) (due_in b f c) packet f content (scene_in b c (repeats_told n b f c k))) (repeats_told n b f c k)
 fused n i true packet f content c k there =
-    let s = after_packet (heading_at n c.number true) (due_in true f c) packet f content (scene_in true c k) in
+    let told = repeats_told n true f c k in
+    let s = after_packet (heading_at n c.number true) (due_in true f c) packet f content (scene_in true c told) in
     let c' = with_scene true s (noted true f c) in
     let z = settled (heading_at n c.number true) (due_in true f c).given s in
-    read_there n i true (taken_in n i true packet f content c k) c' (get_same k.connections i c c' there)
+    read_there n i true (taken_in n i true packet f content c told) c' (get_same k.connections i c c' there)
     ∙ ap (λ cs. record k { connections = cs; text = z.text; is_refused = z.is_refused }) (set_set k.connections i c' (with_scene true z (noted true f c)))
 fused n i false packet f content c k there =
-    let s = after_packet (heading_at n c.number false) (due_in false f c) packet f content (scene_in false c k) in
+    let told = repeats_told n false f c k in
+    let s = after_packet (heading_at n c.number false) (due_in false f c) packet f content (scene_in false c told) in
     let c' = with_scene false s (noted false f c) in
     let z = settled (heading_at n c.number false) (due_in false f c).given s in
-    read_there n i false (taken_in n i false packet f content c k) c' (get_same k.connections i c c' there)
+    read_there n i false (taken_in n i false packet f content c told) c' (get_same k.connections i c c' there)
     ∙ ap (λ cs. record k { connections = cs; text = z.text; is_refused = z.is_refused }) (set_set k.connections i c' (with_scene false z (noted false f c)))
 
-pub behind_taken : (n : Origin) (i : ℕ) (flow : Flow) (packet : PacketModel) (f : Header) (content : List ℕ) (cs : List Connection) (count : ℕ) (page page' : Page) (c note : Connection) (due : Due) (first second : Side) (b : Bool)
-    → slice_get cs i ≡ Some c → b ≡ is_behind_in flow c → b ≡ true → note ≡ noted b f c → due ≡ due_in b f c
-    → scene second first page' ≡ handled (heading_at n note.number b) due packet f content (scene note.second note.first page)
-    → known (slice_set cs i (record note { first = first; second = second })) count page' ≡ after_at n i flow packet f content (known cs count page)
+-- the line that tells of repeats is printed first, if there is one
+told_is : (n : Origin) (b : Bool) (f : Header) (c : Connection) (cs : List Connection) (count : ℕ) (page page' : Page)
+    → page'.text.line ≡ page.text.line ++ repeats_text (heading_at n c.number b) (tells_repeats b f c) → page'.is_refused ≡ page.is_refused
+    → known cs count page' ≡ repeats_told n b f c (known cs count page)
+told_is n b f c cs count page page' text refused =
+    let k : Known = known cs count page' in
+    ap (λ x. record k { text = x }) text
+    ∙ ap (λ x. record k { text = page.text.line ++ repeats_text (heading_at n c.number b) (tells_repeats b f c); is_refused = x }) refused
+
+pub behind_taken : (n : Origin) (i : ℕ) (flow : Flow) (packet : PacketModel) (f : Header) (content : List ℕ) (cs : List Connection) (count : ℕ) (page page' page'' : Page) (c note : Connection) (due : Due) (first second : Side) (b : Bool)
+    → slice_get cs i ≡ Some c → b ≡ is_behind_in flow c → b ≡ true
+    → page'.text.line ≡ page.text.line ++ repeats_text (heading_at n c.number b) (tells_repeats b f c) → page'.is_refused ≡ page.is_refused
+    → note ≡ noted b f c → due ≡ due_in b f c
+    → scene second first page'' ≡ handled (heading_at n c.number b) due packet f content (scene note.second note.first page')
+    → known (slice_set cs i (record note { first = first; second = second })) count page'' ≡ after_at n i flow packet f content (known cs count page)
 unfolding after_at
-behind_taken n i flow packet f content cs count page page' c note due first second false there side is noted_is due_is e = (cc)
-behind_taken n i flow packet f content cs count page page' c note due first second true there side is noted_is due_is e =
+behind_taken n i flow packet f content cs count page page' page'' c note due first second false there side is text refused noted_is due_is e = (cc)
+behind_taken n i flow packet f content cs count page page' page'' c note due first second true there side is text refused noted_is due_is e =
     let k = known cs count page in
-    ap (λ (x : Connection). known (slice_set cs i (record x { first = first; second = second })) count page') noted_is
-    ∙ ap (λ (s : Scene). after_scene i true (noted true f c) s k)
-    (e ∙ ap (λ d. handled (heading_at n note.number true) d packet f content (scene note.second note.first page)) due_is
-    ∙ ap (λ (x : Connection). handled (heading_at n x.number true) (due_in true f c) packet f content (scene x.second x.first page)) noted_is)
+    ap (λ (x : Connection). known (slice_set cs i (record x { first = first; second = second })) count page'') noted_is
+    ∙ ap (λ (s : Scene). after_scene i true (noted true f c) s (known cs count page'))
+    (e ∙ ap (λ d. handled (heading_at n c.number true) d packet f content (scene note.second note.first page')) due_is
+    ∙ ap (λ (x : Connection). handled (heading_at n c.number true) (due_in true f c) packet f content (scene x.second x.first page')) noted_is)
+    ∙ ap (λ (x : Known). after_scene i true (noted true f c) (handled (heading_at n c.number true) (due_in true f c) packet f content (scene_in true c x)) x)
+    (told_is n true f c cs count page page' text refused)
     ∙ sym (fused n i true packet f content c k there)
     ∙ ap (λ p. after_in n i p packet f content c k) side
     ∙ sym (ap (λ o. after_there n i flow packet f content o k) there)
 
-pub first_taken : (n : Origin) (i : ℕ) (flow : Flow) (packet : PacketModel) (f : Header) (content : List ℕ) (cs : List Connection) (count : ℕ) (page page' : Page) (c note : Connection) (due : Due) (first second : Side) (b : Bool)
-    → slice_get cs i ≡ Some c → b ≡ is_behind_in flow c → b ≡ false → note ≡ noted b f c → due ≡ due_in b f c
-    → scene first second page' ≡ handled (heading_at n note.number b) due packet f content (scene note.first note.second page)
-    → known (slice_set cs i (record note { first = first; second = second })) count page' ≡ after_at n i flow packet f content (known cs count page)
+pub first_taken : (n : Origin) (i : ℕ) (flow : Flow) (packet : PacketModel) (f : Header) (content : List ℕ) (cs : List Connection) (count : ℕ) (page page' page'' : Page) (c note : Connection) (due : Due) (first second : Side) (b : Bool)
+    → slice_get cs i ≡ Some c → b ≡ is_behind_in flow c → b ≡ false
+    → page'.text.line ≡ page.text.line ++ repeats_text (heading_at n c.number b) (tells_repeats b f c) → page'.is_refused ≡ page.is_refused
+    → note ≡ noted b f c → due ≡ due_in b f c
+    → scene first second page'' ≡ handled (heading_at n c.number b) due packet f content (scene note.first note.second page')
+    → known (slice_set cs i (record note { first = first; second = second })) count page'' ≡ after_at n i flow packet f content (known cs count page)
 unfolding after_at
-first_taken n i flow packet f content cs count page page' c note due first second true there side is noted_is due_is e = (cc)
-first_taken n i flow packet f content cs count page page' c note due first second false there side is noted_is due_is e =
+first_taken n i flow packet f content cs count page page' page'' c note due first second true there side is text refused noted_is due_is e = (cc)
+first_taken n i flow packet f content cs count page page' page'' c note due first second false there side is text refused noted_is due_is e =
     let k = known cs count page in
-    ap (λ (x : Connection). known (slice_set cs i (record x { first = first; second = second })) count page') noted_is
-    ∙ ap (λ (s : Scene). after_scene i false (noted false f c) s k)
-    (e ∙ ap (λ d. handled (heading_at n note.number false) d packet f content (scene note.first note.second page)) due_is
-    ∙ ap (λ (x : Connection). handled (heading_at n x.number false) (due_in false f c) packet f content (scene x.first x.second page)) noted_is)
+    ap (λ (x : Connection). known (slice_set cs i (record x { first = first; second = second })) count page'') noted_is
+    ∙ ap (λ (s : Scene). after_scene i false (noted false f c) s (known cs count page'))
+    (e ∙ ap (λ d. handled (heading_at n c.number false) d packet f content (scene note.first note.second page')) due_is
+    ∙ ap (λ (x : Connection). handled (heading_at n c.number false) (due_in false f c) packet f content (scene x.first x.second page')) noted_is)
+    ∙ ap (λ (x : Known). after_scene i false (noted false f c) (handled (heading_at n c.number false) (due_in false f c) packet f content (scene_in false c x)) x)
+    (told_is n false f c cs count page page' text refused)
     ∙ sym (fused n i false packet f content c k there)
     ∙ ap (λ p. after_in n i p packet f content c k) side
     ∙ sym (ap (λ o. after_there n i flow packet f content o k) there)

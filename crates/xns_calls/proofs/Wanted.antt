@@ -12,6 +12,7 @@ use Rattle.xns_calls.specs.Anew.{begins_anew}
 use Rattle.xns_calls.specs.AtEnd.{end_turn}
 use Rattle.xns_calls.specs.Capture.{Known, is_behind_in, scene_in, wants_at, wants_end, wants_in, wants_there}
 use Rattle.xns_calls.specs.Exchange.{Scene, advance_other, advance_own, after_content, after_data, after_number, after_packet, begin_track, begun, brings_data, brings_new, brings_on, carried, new_number, other_reached, own_reached, reached, scene, wants_memory, wants_to_take}
+use Rattle.xns_calls.specs.Repeats.{tells_repeats}
 use Rattle.xns_calls.specs.Turns.{next_turn}
 use Rattle.xns_calls.specs.declared.connection.Connection.{Connection}
 use Rattle.xns_dump.specs.declared.flows.flow.Flow.{Flow}
@@ -59,12 +60,21 @@ pub in_wants : (i : ℕ) (flow : Flow) (f : Header) (connection : Connection) (k
 in_wants i flow f connection k at e =
     ap (λ o. wants_there flow f o k) at ∙ or_right (begins_anew f connection) (wants_in (is_behind_in flow connection) f connection k) e
 
+-- it tells of repeats
+pub tells_wants : (b : Bool) (f : Header) (connection : Connection) (k : Known) → tells_repeats b f connection ≡ true → wants_in b f connection k ≡ true
+tells_wants b f connection k e =
+    or_left (tells_repeats b f connection) (is_some (ahead_of b f connection) || wants_memory (due_in b f connection) f (scene_in b connection k)) e
+
 -- what it acknowledges is kept
 pub ahead_wants : (b : Bool) (f : Header) (connection : Connection) (k : Known) → is_some (ahead_of b f connection) ≡ true → wants_in b f connection k ≡ true
-ahead_wants b f connection k e = or_left (is_some (ahead_of b f connection)) (wants_memory (due_in b f connection) f (scene_in b connection k)) e
+ahead_wants b f connection k e =
+    or_right (tells_repeats b f connection) (is_some (ahead_of b f connection) || wants_memory (due_in b f connection) f (scene_in b connection k))
+    (or_left (is_some (ahead_of b f connection)) (wants_memory (due_in b f connection) f (scene_in b connection k)) e)
 
 pub memory_wants : (b : Bool) (f : Header) (connection : Connection) (k : Known) → wants_memory (due_in b f connection) f (scene_in b connection k) ≡ true → wants_in b f connection k ≡ true
-memory_wants b f connection k e = or_right (is_some (ahead_of b f connection)) (wants_memory (due_in b f connection) f (scene_in b connection k)) e
+memory_wants b f connection k e =
+    or_right (tells_repeats b f connection) (is_some (ahead_of b f connection) || wants_memory (due_in b f connection) f (scene_in b connection k))
+    (or_right (is_some (ahead_of b f connection)) (wants_memory (due_in b f connection) f (scene_in b connection k)) e)
 
 -- so does the end of a connection of which a flow keeps items
 pub end_wants : (connection : Connection) (o : Option Connection) → o ≡ Some connection → is_some (end_turn connection.first.track connection.second.track) ≡ true → wants_end o ≡ true

@@ -10,6 +10,7 @@ use Rattle.xns_calls.specs.declared.given.Given.{Given}
 use Rattle.xns_calls.specs.declared.track.Track.{Track}
 use Rattle.xns_calls.specs.Numbers.{near}
 use Rattle.xns_calls.specs.Over.{closing_with, side_in, with_closing}
+use Rattle.xns_calls.specs.Repeats.{repeats_with, with_repeats}
 
 -- ---- what is kept of a flow: acknowledgements that were captured ahead of its items
 
@@ -122,5 +123,6 @@ with_number false number connection = record connection { second_ahead = with_ah
 -- what is kept beside the flows once a packet of one of them was captured
 abbrev pub noted : Bool → Header → Connection → Connection
 noted is_behind f connection =
-    with_closing is_behind (closing_with is_behind f connection)
-    (with_number is_behind (ahead_of is_behind f connection) (nearer_by_one connection))
+    with_repeats is_behind (repeats_with is_behind f connection)
+    (with_closing is_behind (closing_with is_behind f connection)
+    (with_number is_behind (ahead_of is_behind f connection) (nearer_by_one connection)))

@@ -28,7 +28,7 @@ use Rattle.xns_calls.specs.Numbers.{near}
 use Rattle.xns_calls.specs.Origins.{line_origin}
 use Rattle.xns_calls.specs.Over.{side_in}
 use Rattle.xns_calls.specs.Telling.{message_line}
-use Rattle.xns_calls.specs.Texts.{flow_line, missing_line, refused_line}
+use Rattle.xns_calls.specs.Texts.{flow_line, missing_line, refused_line, repeats_line}
 use Rattle.xns_calls.specs.TimeTexts.{time_text}
 use Rattle.xns_calls.specs.Whole.{SaysConversation, of_courier}
 use Rattle.xns_calls.specs.declared.connection.Connection.{Connection}
@@ -176,15 +176,17 @@ said_text h (refuses fault) = refused_line h fault
 abbrev pub said_texts : Heading → List Said → List ℕ
 said_texts h said = flat_map (said_text h) said
 
--- what is said of a flow at a line of the input, or why that line or its packet was refused
+-- what is said of a flow at a line of the input, that 64 repeats of it came in a row, or why that line or its packet was refused
 pub data Part : Type 0 where
   told : Origin → FlowName → List Said → Part
+  repeated : Origin → FlowName → Part
   bad_hex : ℕ → FromHexError → Part
   bad_packet : Origin → IdpFault → Part
   bad_header : Origin → SppFault → Part
 
 abbrev pub part_text : Part → List ℕ
 part_text (told n q said) = said_texts (heading_at n q.connection q.is_behind) said
+part_text (repeated n q) = repeats_line (heading_at n q.connection q.is_behind)
 part_text (bad_hex n error) = hex_refusal n error
 part_text (bad_packet n fault) = time_text n.time ++ idp_refusal n.number fault
 part_text (bad_header n fault) = time_text n.time ++ header_refusal n.number fault
@@ -192,10 +194,11 @@ part_text (bad_header n fault) = time_text n.time ++ header_refusal n.number fau
 abbrev pub parts_text : List Part → List ℕ
 parts_text parts = flat_map part_text parts
 
--- what a part says of a flow
+-- what a part says of a flow, but for its repeats
 abbrev pub text_in : FlowName → Part → List ℕ
 text_in p (told n q said) =
     if p.connection == q.connection then (if is_same p.is_behind q.is_behind then said_texts (heading_at n q.connection q.is_behind) said else []) else []
+text_in p (repeated n q) = []
 text_in p (bad_hex n error) = []
 text_in p (bad_packet n fault) = []
 text_in p (bad_header n fault) = []

@@ -1,5 +1,5 @@
 -- What the laws say: of what is heard, and of items that had not come.
-use Rattle.std.specs.Prelude.{◌≡◌, ◌≢◌, ℕ, ◌+◌, ◌%◌, ◌≤◌, ◌<◌, ◌⊎◌, List, Option, [], ◌++◌, ◌||◌, false, length, map, option_map, slice_get, IfOk, codes, None, Some}
+use Rattle.std.specs.Prelude.{◌≡◌, ◌≢◌, ℕ, ◌+◌, ◌%◌, ◌≤◌, ◌<◌, ◌⊎◌, Bool, List, Option, [], ◌∷◌, ◌++◌, ◌&&◌, ◌||◌, not, false, length, map, option_map, slice_get, IfOk, codes, None, Some}
 use Rattle.std.specs.Ordering.{is_eq}
 use Rattle.xns_idp.specs.Packet.{PacketModel}
 use Rattle.xns_spp.specs.Ends.{most_pending}
@@ -29,6 +29,7 @@ use Rattle.xns_calls.specs.Living.{IsNotAnswered, is_answered}
 use Rattle.xns_calls.specs.Naming.{Programs}
 use Rattle.xns_calls.specs.Numbers.{near}
 use Rattle.xns_calls.specs.Reading.{Told}
+use Rattle.xns_calls.specs.Repeats.{has_row, repeats_of, tells_next}
 use Rattle.xns_calls.specs.Whole.{IsWhole, SaysConversation, flow_text, of_courier}
 use Rattle.xns_calls.specs.declared.carried.Carried.{Carried}
 use Rattle.xns_calls.specs.declared.connection.Connection.{Connection}
@@ -102,6 +103,11 @@ RepeatsSayNothing = (events : List Event) (h : Heading) (number : ℕ) (item : C
     → (number < t.track.next) ⊎ IsAmong number (captured_in events [])
     → after_event (captured h number item) (after_events events t) ≡ after_events events t
 
+-- of the items of a flow the line that tells of repeats is printed with the first one that ends 64 repeats in a row, and with no other
+abbrev pub RepeatsAreToldOnce : Type 0
+RepeatsAreToldOnce = (is_repeat : Bool) (before : List Bool)
+    → (is_repeat && tells_next (repeats_of before)) ≡ (has_row (is_repeat ∷ before) && not (has_row before))
+
 -- no item is passed over but before one that is captured: the next item is never more than one behind the last that is, and where no item
 -- behind the
 -- next one is captured, an event says what it says without the line of missing items
@@ -123,7 +129,7 @@ WholeFlowsSayTheirConversation = (items : List Item) (events : List Event) (fiel
     (flow_text (events ++ acknowledged_event h (behind_last (Some (after_events events t).track))) t)
 
 -- of an input with whatever lines and flows: where each item of a flow stands in it so, its text tells of that flow that it begins and then
--- its conversation, and nothing else up to the first fault
+-- its conversation, and nothing else up to the first fault but that repeats came in a row
 abbrev pub InputsTellTheirConversations : Type 0
 InputsTellTheirConversations = (programs : Programs) (input : List ℕ) (p : FlowName) (items : List Item) (field : ℕ)
     → first_field programs p (lines_of input) ≡ Some field → field < most_pending → IsWhole items (events_in programs p (lines_of input))

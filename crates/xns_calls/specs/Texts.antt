@@ -39,6 +39,10 @@ unfoldable pub missing_line : Heading → ℕ → ℕ → List ℕ
 missing_line heading first behind = heading_text heading ++ (codes " missing " ++ decimal first) ++ (codes " to " ++ decimal (behind - 1))
     ++ codes "\n"
 
+-- 64 repeats of the flow came in a row
+unfoldable pub repeats_line : Heading → List ℕ
+repeats_line heading = heading_text heading ++ codes " repeats\n"
+
 -- words behind what they are
 abbrev pub words_behind : List ℕ → List ℕ → List ℕ
 words_behind name words = name ++ words_text words

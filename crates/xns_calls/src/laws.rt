@@ -3,7 +3,7 @@ ghost use Rattle.xns_calls.specs.InOrder.{KeptItemsAreReadInTurn};
 ghost use Rattle.xns_calls.specs.Laws.{AcknowledgementsWait, AnItemIsAnEvent, CapturesSayWhatLinesSay, ConnectionsHaveNumbers, HeardMessagesArePrinted, InputsTellTheirConversations};
 ghost use Rattle.xns_calls.specs.Laws.{LivingConnectionsAreKept, MissingItemsAreBeforeCapturedOnes, NothingIsMissing};
 ghost use Rattle.xns_calls.specs.Laws.{NumbersAreReadBack, OneKeyServesBothDirections, OtherConnectionsStay, PacketsAreEvents};
-ghost use Rattle.xns_calls.specs.Laws.{RepeatsSayNothing, TheAnswerSaysRefused, WhatIsHeardIsTheConversation};
+ghost use Rattle.xns_calls.specs.Laws.{RepeatsAreToldOnce, RepeatsSayNothing, TheAnswerSaysRefused, WhatIsHeardIsTheConversation};
 ghost use Rattle.xns_calls.specs.Laws.{WholeFlowsSayTheirConversation};
 
 use courier_messages::laws::{conversation_is_read_sign_by_sign, one_item_more, signs_run_on};
@@ -76,9 +76,14 @@ pub fn nothing_is_missing()
     ensures { NothingIsMissing }
 {}
 
-/// An item that was captured before changes nothing and says nothing.
+/// An item that was captured before changes nothing of its flow and says nothing of it.
 pub fn repeats_say_nothing()
     ensures { RepeatsSayNothing }
+{}
+
+/// The line that tells of a flow's repeats is printed with the first item that ends 64 repeats in a row, and with no other.
+pub fn repeats_are_told_once()
+    ensures { RepeatsAreToldOnce }
 {}
 
 /// Items are said to be missing only where a later one was captured.
@@ -99,7 +104,7 @@ pub fn whole_flows_say_their_conversation()
 
 /// So it is in the text of a whole input, whatever other lines and flows it has. The text is made of parts, each of one flow
 /// or of a line that was refused. Those of such a flow say that it begins, and then the messages of its conversation, in
-/// order, up to the first fault. Without a fault nothing else is said of it, so no item is called missing.
+/// order, up to the first fault. Without a fault nothing else is said of it but that 64 repeats came in a row, so no item is called missing.
 pub fn inputs_tell_their_conversations()
     ensures { InputsTellTheirConversations }
 {

@@ -34,6 +34,7 @@ mod packet_printer;
 mod plain_lines;
 mod printer;
 mod queue;
+mod repeats;
 mod scratch;
 mod settling;
 mod shown;

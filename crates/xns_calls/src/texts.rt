@@ -9,7 +9,7 @@ ghost use Rattle.xns_dump.specs.Layers.Courier.{callee_text};
 ghost use Rattle.xns_calls.specs.Naming.{named_or, reason_name, shown_model, unread_text};
 ghost use Rattle.xns_calls.specs.Telling.{answer_line, call_line};
 ghost use Rattle.xns_calls.specs.Texts.{answer_end, answer_front, call_end, call_front, end_text, flow_line, heading_text, missing_line};
-ghost use Rattle.xns_calls.specs.Texts.{reason_text, refused_line, words_behind};
+ghost use Rattle.xns_calls.specs.Texts.{reason_text, refused_line, repeats_line, words_behind};
 
 use crate::heading::Heading;
 use crate::origin::ShownTime;
@@ -97,6 +97,15 @@ pub fn append_missing_line(
     append_item_number(report, b" missing ", missing.start)?;
     append_item_number(report, b" to ", missing.end.saturating_sub(1))?;
     report.append(b"\n")
+}
+
+/// Appends the line that tells of 64 repeats in a row.
+#[tactic(auto, unfolding(crate::specs::Texts::repeats_line))]
+pub fn append_repeats_line(report: &mut Report, heading: Heading<'_>) -> Result<(), AllocError>
+    ensures { Adds result report.old report.new (repeats_line heading.entry) }
+{
+    append_heading(report, heading)?;
+    report.append(b" repeats\n")
 }
 
 /// Appends a name and the number of an item.
