@@ -269,7 +269,8 @@ static void made_anew(void) {
     free_both();
 }
 
-/* A client that is made anew complains at the socket from which it has connected, also of what the service says to the connection of before; and at no other. */
+/* A client that is made anew complains at the socket from which it has connected, also of what the service says to the connection of before, and at no
+ * other socket. */
 static void client_anew(void) {
     static const uint8_t other[32] = { 3 };
     uint8_t packet[XNS_LONGEST_PACKET];

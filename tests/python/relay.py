@@ -42,8 +42,8 @@ def send_all_kinds(place, own, server):
 
 
 class Relay(threading.Thread):
-    """Brings each client's datagrams to the server and back. Of so many, as 10 or 2.5, one is dropped, repeated, delayed or corrupted; none where that is 0. After
-    `dies_after` datagrams none goes on, and each client is sent stray bytes every 0.3 seconds."""
+    """Brings each client's datagrams to the server and back. Of so many, as 10 or 2.5, one is dropped, repeated, delayed or corrupted; none where that is 0.
+    After `dies_after` datagrams none goes on, and each client is sent stray bytes every 0.3 seconds."""
 
     STRAY = 0.3
     MOST_DELAY = 0.05
