@@ -11,8 +11,8 @@ use crate::origin::Origin;
 use crate::scratch::Scratch;
 use crate::shown::Shown;
 use crate::texts::{
-    append_answer_end, append_answer_front, append_arguments, append_call_end, append_call_front,
-    append_error, append_refused_line, append_results,
+    append_answer_end, append_answer_front, append_call, append_error, append_refused_line,
+    append_return,
 };
 use crate::unanswered::Calls;
 use crate::waiting::Waiting;
@@ -57,7 +57,7 @@ pub fn tell_whole(
     let head = message.head();
     let alloc = scratch.alloc;
     let words = scratch.words_of_whole(message)?;
-    tell_words(alloc, report, heading, calls, head, words)
+    tell_words(alloc, report, &heading, calls, head, words)
 }
 
 /// Prints a message. A call waits for its answer then, and the call of an answer no longer.
@@ -73,20 +73,20 @@ fn tell_message(
 {
     let alloc = scratch.alloc;
     let words = scratch.words_of(message)?;
-    tell_words(alloc, report, heading, calls, message.head(), words)
+    tell_words(alloc, report, &heading, calls, message.head(), words)
 }
 
 /// Prints the message of these words.
 fn tell_words(
     alloc: Global,
     report: &mut Report,
-    heading: Heading<'_>,
+    heading: &Heading<'_>,
     calls: &mut Calls,
     head: Head,
     words: &[u16],
 ) -> Result<(), AllocError>
-    ensures text { Adds result report.old report.new (message_line heading.entry calls.old (with_words head words.now)) }
-    ensures calls { OnOk result (calls.new ≡ after_message heading.entry calls.old (with_words head words.now)) }
+    ensures text { Adds result report.old report.new (message_line heading.now calls.old (with_words head words.now)) }
+    ensures calls { OnOk result (calls.new ≡ after_message heading.now calls.old (with_words head words.now)) }
 {
     let Origin {
         number,
@@ -109,16 +109,23 @@ fn tell_words(
                 time,
             });
             let shown = name_call(alloc, programs, program, version, procedure, words)?;
-            append_call_front(report, heading, transaction)?;
-            append_arguments(report, program, version, procedure, words, &shown)?;
-            append_call_end(report, &shown)
+            append_call(
+                report,
+                heading,
+                transaction,
+                program,
+                version,
+                procedure,
+                words,
+                &shown,
+            )
         }
         Head::Reject {
             transaction,
             reason,
         } => {
             let of = answer(calls, transaction);
-            append_answer_front(report, heading, b" reject ", transaction, of)?;
+            append_answer_front(report, *heading, b" reject ", transaction, of)?;
             append_error(
                 report,
                 b" reason ",
@@ -132,14 +139,12 @@ fn tell_words(
         Head::Return { transaction } => {
             let of = answer(calls, transaction);
             let shown = name_return(alloc, programs, of, words)?;
-            append_answer_front(report, heading, b" return ", transaction, of)?;
-            append_results(report, words, &shown)?;
-            append_answer_end(report, of, time, &shown)
+            append_return(report, heading, transaction, &of, words, &shown)
         }
         Head::Abort { transaction, error } => {
             let of = answer(calls, transaction);
             let shown = name_abort(alloc, programs, of, error, words)?;
-            append_answer_front(report, heading, b" abort ", transaction, of)?;
+            append_answer_front(report, *heading, b" abort ", transaction, of)?;
             append_error(report, b" error ", error, b" args ", words, &shown)?;
             append_answer_end(report, of, time, &shown)
         }

@@ -7,11 +7,14 @@ ghost use Rattle.xns_lines.specs.Report.{Adds};
 ghost use Rattle.xns_lines.specs.Text.{hex_word};
 ghost use Rattle.xns_dump.specs.Layers.Courier.{callee_text};
 ghost use Rattle.xns_calls.specs.Naming.{named_or, reason_name, shown_model, unread_text};
+ghost use Rattle.xns_calls.specs.Telling.{answer_line, call_line};
 ghost use Rattle.xns_calls.specs.Texts.{answer_end, answer_front, call_end, call_front, end_text, flow_line, heading_text, missing_line};
 ghost use Rattle.xns_calls.specs.Texts.{reason_text, refused_line, words_behind};
 
 use crate::heading::Heading;
+use crate::line_end::LineEnd;
 use crate::origin::ShownTime;
+use crate::plain_lines::{append_plain_call, append_plain_return, is_plain, write_name};
 use crate::shown::Shown;
 use crate::time_texts::{append_time, append_took};
 use crate::waiting::Waiting;
@@ -32,18 +35,13 @@ fn append_heading(report: &mut Report, heading: Heading<'_>) -> Result<(), Alloc
     ensures { Adds result report.old report.new (heading_text heading.entry) }
 {
     append_time(report, heading.origin.time)?;
-    append_decimal(report, heading.origin.number)?;
-    report.append(b" ")?;
-    append_decimal(report, heading.connection)?;
-    if heading.is_behind {
-        report.append(b"b")
-    } else {
-        report.append(b"a")
-    }
+    let mut end = LineEnd::new();
+    write_name(&mut end, &heading);
+    report.append(end.as_slice())
 }
 
 /// Appends the line of a flow that begins.
-#[tactic(auto, unfolding(crate::specs::Texts::flow_line))]
+#[tactic(auto, unfolding(crate::specs::Texts::flow_line, crate::specs::Texts::heading_text))]
 pub fn append_flow_line(
     report: &mut Report,
     heading: Heading<'_>,
@@ -52,11 +50,13 @@ pub fn append_flow_line(
 ) -> Result<(), AllocError>
     ensures { Adds result report.old report.new (flow_line heading.entry (packet_model packet.now) header.now) }
 {
-    // The ends are written before the heading, so that they are in memory by the time they are copied.
     let mut ends = [0; 84];
     write_ends(packet, header, &mut ends);
-    append_heading(report, heading)?;
-    report.append(&ends)
+    let mut end = LineEnd::new();
+    end.write(&ends);
+    write_name(&mut end, &heading);
+    append_time(report, heading.origin.time)?;
+    report.append(end.as_slice())
 }
 
 /// Writes both ends of a flow, up to the end of the line.
@@ -107,7 +107,7 @@ fn append_item_number(report: &mut Report, name: &[u8], number: u64) -> Result<(
 
 /// Appends what a call begins with.
 #[tactic(auto, unfolding(crate::specs::Texts::call_front))]
-pub fn append_call_front(
+fn append_call_front(
     report: &mut Report,
     heading: Heading<'_>,
     transaction: u16,
@@ -120,7 +120,7 @@ pub fn append_call_front(
 
 /// Appends why a call is not named, and ends its line.
 #[tactic(auto, unfolding(crate::specs::Texts::call_end))]
-pub fn append_call_end(report: &mut Report, shown: &Shown) -> Result<(), AllocError>
+fn append_call_end(report: &mut Report, shown: &Shown) -> Result<(), AllocError>
     ensures { Adds result report.old report.new (call_end (shown_model shown.now)) }
 {
     append_unread(report, shown)?;
@@ -128,7 +128,7 @@ pub fn append_call_end(report: &mut Report, shown: &Shown) -> Result<(), AllocEr
 }
 
 /// Appends what a call says: by name, or the numbers and the words.
-pub fn append_arguments(
+fn append_arguments(
     report: &mut Report,
     program: u32,
     version: u16,
@@ -146,8 +146,59 @@ pub fn append_arguments(
     append_words(report, b" args ", words)
 }
 
+/// Appends the line of a call.
+pub fn append_call(
+    report: &mut Report,
+    heading: &Heading<'_>,
+    transaction: u16,
+    program: u32,
+    version: u16,
+    procedure: u16,
+    words: &[u16],
+    shown: &Shown,
+) -> Result<(), AllocError>
+    ensures { Adds result report.old report.new (call_line heading.now transaction
+        (callee_text program version procedure ++ words_behind (codes " args ") words.now) (shown_model shown.now)) }
+{
+    if is_plain(heading.origin.time, words, shown) {
+        return append_plain_call(
+            report,
+            heading,
+            transaction,
+            program,
+            version,
+            procedure,
+            words,
+        );
+    }
+    append_call_front(report, *heading, transaction)?;
+    append_arguments(report, program, version, procedure, words, shown)?;
+    append_call_end(report, shown)
+}
+
+/// Appends the line of a return.
+pub fn append_return(
+    report: &mut Report,
+    heading: &Heading<'_>,
+    transaction: u16,
+    of: &Option<Waiting>,
+    words: &[u16],
+    shown: &Shown,
+) -> Result<(), AllocError>
+    ensures { Adds result report.old report.new (answer_line heading.now (codes " return ") transaction of.now
+        (words_behind (codes " results ") words.now) (shown_model shown.now)) }
+{
+    let time = heading.origin.time;
+    if is_plain(time, words, shown) {
+        return append_plain_return(report, heading, transaction, of, words);
+    }
+    append_answer_front(report, *heading, b" return ", transaction, *of)?;
+    append_results(report, words, shown)?;
+    append_answer_end(report, *of, time, shown)
+}
+
 /// Appends what a return says: by name, or the words.
-pub fn append_results(report: &mut Report, words: &[u16], shown: &Shown) -> Result<(), AllocError>
+fn append_results(report: &mut Report, words: &[u16], shown: &Shown) -> Result<(), AllocError>
     ensures { Adds result report.old report.new (named_or (words_behind (codes " results ") words.now) (shown_model shown.now)) }
 {
     if let Shown::Named(text) = shown {
