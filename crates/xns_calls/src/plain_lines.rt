@@ -1,12 +1,12 @@
 //! The lines of calls and returns that have no times, no names and few words: each is written into memory of its own, from its end to its
 //! front, and appended as a whole.
-ghost use Rattle.std.specs.Prelude.{◌≡◌, ◌×◌, ◌+◌, ◌≤◌, ◌++◌, codes, length, None, true};
+ghost use Rattle.std.specs.Prelude.{◌≡◌, ◌+◌, ◌*◌, ◌≤◌, ◌++◌, codes, length, None, true};
 ghost use Rattle.std.specs.Fmt.{decimal};
 ghost use Rattle.xns_dump.specs.Layers.Courier.{callee_text};
 ghost use Rattle.xns_lines.specs.Report.{Adds};
 ghost use Rattle.xns_calls.specs.Naming.{shown_model};
 ghost use Rattle.xns_calls.specs.Telling.{answer_line, call_line};
-ghost use Rattle.xns_calls.specs.Texts.{heading_text, line_or_dash, words_behind};
+ghost use Rattle.xns_calls.specs.Texts.{heading_text, letter, line_or_dash, words_behind};
 ghost use Rattle.xns_calls.specs.declared.origin.ShownTime.TheVariants.{Hidden};
 
 use crate::heading::Heading;
@@ -31,7 +31,29 @@ pub fn is_plain(time: ShownTime, words: &[u16], shown: &Shown) -> bool
     }
 }
 
+/// The letter of a flow in its connection.
+#[inline(always)]
+fn letter_of(is_behind: bool) -> &'static [u8]
+    ensures text { result.now ≡ letter is_behind }
+    ensures one { length result.now ≡ 1 }
+{
+    if is_behind { b"b" } else { b"a" }
+}
+
 /// Writes the number of the line or frame, and the name of the flow.
+#[inline(always)]
+pub fn write_name(end: &mut LineEnd, heading: &Heading<'_>)
+    requires { 42 + length end.old ≤ 256 }
+    ensures { end.new ≡ decimal heading.now.origin.number ++ codes " " ++ decimal heading.now.connection
+        ++ letter heading.now.is_behind ++ end.old }
+{
+    end.write(letter_of(heading.is_behind));
+    end.write_decimal(heading.connection as u64);
+    end.write(b" ");
+    end.write_decimal(heading.origin.number as u64);
+}
+
+/// Writes what a line without a time begins with.
 #[inline(always)]
 #[tactic(auto, unfolding(crate::specs::Texts::heading_text, crate::specs::TimeTexts::time_text))]
 fn write_heading(end: &mut LineEnd, heading: &Heading<'_>)
@@ -39,10 +61,7 @@ fn write_heading(end: &mut LineEnd, heading: &Heading<'_>)
     requires fits { 42 + length end.old ≤ 256 }
     ensures { end.new ≡ heading_text heading.now ++ end.old }
 {
-    end.write(if heading.is_behind { b"b" } else { b"a" });
-    end.write_decimal(heading.connection as u64);
-    end.write(b" ");
-    end.write_decimal(heading.origin.number as u64);
+    write_name(end, heading);
 }
 
 /// Writes a name and a number.
@@ -56,11 +75,11 @@ fn write_field(end: &mut LineEnd, name: &[u8], number: u64)
     end.write(name);
 }
 
-/// Writes at most 16 words, behind what they are, and ends the line.
+/// Writes words, behind what they are, and ends the line.
 fn write_last_words(end: &mut LineEnd, name: &[u8], words: &[u16])
-    requires { (length name.now ≤ 9) × (length words.now ≤ 16) × (length end.old ≤ 0) }
-    ensures text { end.new ≡ words_behind name.now words.now ++ codes "\n" }
-    ensures bound { length end.new ≤ 91 }
+    requires { length name.now + 5 * length words.now + 2 + length end.old ≤ 256 }
+    ensures text { end.new ≡ words_behind name.now words.now ++ codes "\n" ++ end.old }
+    ensures bound { length end.new ≤ length name.now + 5 * length words.now + 2 + length end.old }
 {
     end.write(b"\n");
     end.write_words(words);
@@ -69,11 +88,10 @@ fn write_last_words(end: &mut LineEnd, name: &[u8], words: &[u16])
 
 /// Writes what is called.
 #[inline(always)]
-#[tactic(auto, unfolding(xns_dump::specs::Layers::Courier::callee_text))]
 fn write_callee(end: &mut LineEnd, program: u32, version: u16, procedure: u16)
-    requires { length end.old ≤ 91 }
+    requires { 89 + length end.old ≤ 256 }
     ensures text { end.new ≡ callee_text program version procedure ++ end.old }
-    ensures bound { length end.new ≤ 180 }
+    ensures bound { length end.new ≤ 89 + length end.old }
 {
     write_field(end, b" procedure ", u64::from(procedure));
     write_field(end, b" version ", u64::from(version));
@@ -107,9 +125,9 @@ pub fn append_plain_call(
 /// Writes the number of the line or frame of a call, or a dash.
 #[inline(always)]
 fn write_line_or_dash(end: &mut LineEnd, of: &Option<Waiting>)
-    requires { length end.old ≤ 91 }
+    requires { 20 + length end.old ≤ 256 }
     ensures text { end.new ≡ line_or_dash of.now ++ end.old }
-    ensures bound { length end.new ≤ 111 }
+    ensures bound { length end.new ≤ 20 + length end.old }
 {
     match of {
         Some(waiting) => end.write_decimal(waiting.number as u64),

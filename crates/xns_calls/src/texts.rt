@@ -12,8 +12,9 @@ ghost use Rattle.xns_calls.specs.Texts.{answer_end, answer_front, call_end, call
 ghost use Rattle.xns_calls.specs.Texts.{reason_text, refused_line, repeats_line, words_behind};
 
 use crate::heading::Heading;
+use crate::line_end::LineEnd;
 use crate::origin::ShownTime;
-use crate::plain_lines::{append_plain_call, append_plain_return, is_plain};
+use crate::plain_lines::{append_plain_call, append_plain_return, is_plain, write_name};
 use crate::shown::Shown;
 use crate::time_texts::{append_time, append_took};
 use crate::waiting::Waiting;
@@ -34,18 +35,13 @@ fn append_heading(report: &mut Report, heading: Heading<'_>) -> Result<(), Alloc
     ensures { Adds result report.old report.new (heading_text heading.entry) }
 {
     append_time(report, heading.origin.time)?;
-    append_decimal(report, heading.origin.number)?;
-    report.append(b" ")?;
-    append_decimal(report, heading.connection)?;
-    if heading.is_behind {
-        report.append(b"b")
-    } else {
-        report.append(b"a")
-    }
+    let mut end = LineEnd::new();
+    write_name(&mut end, &heading);
+    report.append(end.as_slice())
 }
 
 /// Appends the line of a flow that begins.
-#[tactic(auto, unfolding(crate::specs::Texts::flow_line))]
+#[tactic(auto, unfolding(crate::specs::Texts::flow_line, crate::specs::Texts::heading_text))]
 pub fn append_flow_line(
     report: &mut Report,
     heading: Heading<'_>,
@@ -54,11 +50,13 @@ pub fn append_flow_line(
 ) -> Result<(), AllocError>
     ensures { Adds result report.old report.new (flow_line heading.entry (packet_model packet.now) header.now) }
 {
-    // The ends are written before the heading, so that they are in memory by the time they are copied.
     let mut ends = [0; 84];
     write_ends(packet, header, &mut ends);
-    append_heading(report, heading)?;
-    report.append(&ends)
+    let mut end = LineEnd::new();
+    end.write(&ends);
+    write_name(&mut end, &heading);
+    append_time(report, heading.origin.time)?;
+    report.append(end.as_slice())
 }
 
 /// Writes both ends of a flow, up to the end of the line.
