@@ -114,6 +114,7 @@ class NetTest(unittest.TestCase):
                             for _ in range(100):
                                 client.wait(0.1)
                                 client.call(7, 1, 1, [1])
+                    serving.process.wait(30)
                 self.assertEqual((serving.status, serving.told), (0, ("", "")))
         with bound() as nobody:
             calling = started("call", SERVER, "7", "1", "1", "--udp", str(nobody.getsockname()[1]))
