@@ -171,7 +171,7 @@ packet_none h due packet f content s none =
     let known = other_reached h due.other s in
     own_reached_none h due.own (after_content h due.acknowledged packet f content known) (content_none h due.acknowledged packet f content known (reached_none h due.other s none))
 
--- nor does it begin where items are read
+-- a flow that has not begun does not begin either where items are read
 read_other_none : (h : Heading) (s : Scene) → s.other ≡ no_side → (own_read h s).other ≡ no_side
 unfolding own_read
 read_other_none h s none = by_track s.own.track

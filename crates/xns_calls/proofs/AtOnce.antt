@@ -81,7 +81,7 @@ taken_once h n item t at none =
     let same : brought h (n - most_early) t ≡ t = brought_same h (n - most_early) t (new_ordered t none) (omega (arith, at)) in
     ap (λ p. cond p t (item_taken h n item t)) old ∙ ap (with_kept_item n item) same ∙ ap (λ es. with_early es t) (ap (kept n item) none)
 
--- and it is read
+-- the only item that is kept is read, where it comes next
 first_once : (h : Heading) (e : Early) (t : Told) → t.track.next ≡ e.number → t.track.early ≡ [] → first_read h (with_early (e ∷ []) t) ≡ read_next h (e.number + 1) e.item.item t
 unfolding item_read
 first_once h e t at none =
@@ -227,7 +227,7 @@ on_ok_begun (Ok x) h due packet f content s b u first is e =
     e ∙ ap (handled h due packet f content) is ∙ begun_first h due packet f content s (not_true (is_system f) kind.0) both.1
 on_ok_begun (Err x) h due packet f content s b u first is e = tt
 
--- it wants memory
+-- a data packet that begins its flow wants memory
 pub first_wants : (due : Due) (f : Header) (own other : Side) (page : Page) → begins_first f own.track other.track ≡ true → wants_memory due f (scene own other page) ≡ true
 first_wants due f own other page first =
     let both = both_true (not (is_system f) && not (is_some own.track)) (keeps_none other.track) first in

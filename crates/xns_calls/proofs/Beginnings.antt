@@ -59,7 +59,7 @@ first_early field = over (nat_lt field most_pending)
 begun_ordered : (field : ℕ) (t : Told) → t.track ≡ first_track field → IsOrdered t
 begun_ordered field t is = new_ordered t (ap (λ (x : Track). x.early) is ∙ first_early field)
 
--- it does not begin
+-- the flow does not begin
 record Awaits (m : ℕ) (b : Bool) (before : List ℕ) (k : Known) (happened : List Event) (field : Option ℕ) : Type 0 where
   none : AllKeep m b k.connections None
   nothing : happened ≡ []
@@ -68,7 +68,7 @@ record Awaits (m : ℕ) (b : Bool) (before : List ℕ) (k : Known) (happened : L
   text : k.text ≡ before ++ parts_text parts
   own : texts_in (flow_at m b) parts ≡ []
 
--- it begins
+-- the flow begins
 record Starts (m : ℕ) (b : Bool) (before : List ℕ) (k : Known) (happened : List Event) (field : Option ℕ) : Type 0 where
   first : ℕ
   has : field ≡ Some first
@@ -142,7 +142,7 @@ own_waits n i b packet f content c k all none e =
           (own_text n m b (packet_said n m b due packet f content s) ∙ sym (said_text_of n m b due packet f content s) ∙ ap (λ (x : Scene). drop (length known.text) x.text) same ∙ drop_all known.text);
     }
 
--- and a data packet of its own, with which it begins
+-- a data packet of its own, with which the flow begins
 data_new : (h : Heading) (a : Option ℕ) (packet : PacketModel) (f : Header) (content : List ℕ) (s : Scene) → s.own.track ≡ None → after_data h a packet f content s ≡ take_number h f (carried h a f content) (begin_track h packet f None s)
 unfolding after_data begun
 data_new h a packet f content s none = ap (λ o. take_number h f (carried h a f content) (begin_track h packet f o s)) none

@@ -108,7 +108,7 @@ moved_acks bound h None t upto below = (tt, below)
 moved_acks bound h (Some n) t upto below =
     ((upto_below bound n t.track.early upto below, tt), brought_if_below bound h (up_to (last_number t.track.early) (Some n)) t below)
 
--- it is brought to a number, at most the one behind the last item that it keeps
+-- the flow is brought to a number, at most the one behind the last item that it keeps
 moves : (n : Origin) (m : ℕ) (b : Bool) (o : Option ℕ) (s : Scene) (t : Told) → s.own.track ≡ Some t.track → t ≡ told_of t.track s → up_to (last_number t.track.early) o ≡ o
     → Ends m b s (advance_own (heading_at n m b) o s) t
 moves n m b o s t track is upto =
@@ -142,7 +142,7 @@ others n m b o s t track =
       own = ap (λ z. z ++ []) (other_text n m b (moved_said n m (not b) o x));
     }
 
--- it reads its first item, once the flow behind is brought to what has to be read before
+-- the flow reads its first item, once the flow behind is brought to what has to be read before
 own_reads : (n : Origin) (m : ℕ) (b : Bool) (s : Scene) (t : Told) → s.own.track ≡ Some t.track → t ≡ told_of t.track s → IsOrdered t → Ends m b s (own_ended (heading_at n m b) s) t
 unfolding own_ended
 own_reads n m b s t track is ordered = subst (λ o. Ends m b s (read_behind h (first_in o) s) t) (sym track) (by_early t.track.early refl)

@@ -90,7 +90,7 @@ acks_reach bound (acknowledged h n ∷ more) before a late = (λ m le lt. late m
 acks_reach bound (read h ∷ more) before a late = absurd a
 acks_reach bound (meanwhile calls text is_refused ∷ more) before a late = acks_reach bound more before a late
 
--- they fit where all below that number is acknowledged
+-- acknowledgements of numbers up to a bound fit in the place of one of all below the bound
 pub acks_fit : (h : Heading) (o : Option ℕ) (events : List Event) → AreAcks (bound_of o) events → Fits (acknowledged_event h o) (plain events)
 acks_fit h o events a = record {
   of = λ items none. acks_of (bound_of o) items events a;

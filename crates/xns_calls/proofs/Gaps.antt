@@ -340,7 +340,7 @@ any_tells m (e ∷ rest) test = one_of (e.number == m) refl test (any_tells m re
     one_of true is all more = inl (equal_tells e.number m is)
     one_of false is all more = inr (more all)
 
--- and a repeat is known
+-- a repeat is known
 known_repeat : (m : ℕ) (t : Told) → is_repeat m t.track ≡ true → IsKnown m t
 known_repeat m t old = one_of (nat_lt m t.track.next) refl old
   where

@@ -51,7 +51,7 @@ pub record IsAt (m : ℕ) (b : Bool) (k : Known) (t : Told) : Type 0 where
   pub is : t ≡ told_of t.track (scene_in b connection k)
   pub ordered : IsOrdered t
 
--- its connection was forgotten, and nothing is kept any more
+-- the flow's connection was forgotten, and nothing of it is kept any more
 pub record IsGone (m : ℕ) (k : Known) (t : Told) : Type 0 where
   pub counted : m ≤ k.count
   pub none : (i : ℕ) (c : Connection) → slice_get k.connections i ≡ Some c → c.number ≡ m → ⊥
@@ -66,7 +66,7 @@ pub stands_own : (i : ℕ) (b : Bool) (f : Header) (c : Connection) (s : Scene) 
 stands_own i true f c s k e u ordered track is = record { place = i; connection = with_scene true s (noted true f c); there = get_same k.connections i c (with_scene true s (noted true f c)) e; number = refl; track = track; is = is; ordered = ordered }
 stands_own i false f c s k e u ordered track is = record { place = i; connection = with_scene false s (noted false f c); there = get_same k.connections i c (with_scene false s (noted false f c)) e; number = refl; track = track; is = is; ordered = ordered }
 
--- and behind one of the flow behind it
+-- behind a packet of the flow behind it
 pub stands_behind : (i : ℕ) (q : Bool) (f : Header) (c : Connection) (s : Scene) (k : Known) → slice_get k.connections i ≡ Some c → (u : Told) → IsOrdered u → s.other.track ≡ Some u.track
     → u ≡ told_of u.track (seen_from_other s) → IsAt c.number (not q) (after_scene i q (noted q f c) s k) u
 stands_behind i true f c s k e u ordered track is = record { place = i; connection = with_scene true s (noted true f c); there = get_same k.connections i c (with_scene true s (noted true f c)) e; number = refl; track = track; is = is; ordered = ordered }
@@ -325,7 +325,7 @@ settled_step n m i b q k t numbered on = by_connection (slice_get k.connections 
 
 -- ---- the line that tells of repeats
 
--- it is no text of the flow
+-- the line that tells of repeats is no text of the flow
 pub repeated_parts : Origin → ℕ → Bool → Bool → List Part
 repeated_parts n m q tells = cond tells (repeated n (flow_at m q) ∷ []) []
 
@@ -471,7 +471,7 @@ new_there plain n i flow packet f content number k there =
     let c = new_connection number flow in
     ap (λ o. after_there n i flow packet f content o k) there ∙ ap (λ p. after_in n i (not p) packet f content c k) (plain flow)
 
--- its first packet is nothing to a flow that has begun before
+-- the first packet of a connection is nothing to a flow that has begun before
 pub fresh_step : IsPlain → (n : Origin) (m i : ℕ) (b : Bool) (flow : Flow) (packet : PacketModel) (f : Header) (content : List ℕ) (number : ℕ) (k : Known) (t : Told) → IsNumbered k.connections k.count
     → slice_get k.connections i ≡ Some (new_connection number flow) → IsOn m b k t
     → Stepped m b k (after_at n i flow packet f content k) t (events_between (flow_at m b) (flow_at number false) (heading_at n m b) f content None None None)

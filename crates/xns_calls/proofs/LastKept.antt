@@ -76,7 +76,7 @@ upto_below bound n es upto below = by_last (last_number es) refl upto
         let same : min n (last + 1) ≡ n = (cc) in
         let under : last < bound = last_under bound es last below at in omega (arith, same, under)
 
--- that behind the first item is
+-- the number behind the first item is at most the one behind the last
 pub first_upto : (t : Told) (e : Early) (rest : List Early) → t.track.early ≡ e ∷ rest → IsOrdered t → up_to (last_number t.track.early) (Some (e.number + 1)) ≡ Some (e.number + 1)
 first_upto t e rest at ordered = by_last (last_number t.track.early) refl
   where

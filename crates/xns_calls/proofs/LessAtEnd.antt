@@ -30,7 +30,7 @@ brought_less : (h : Heading) (n : ℕ) (t : Told) → length (early_of (brought 
 unfolding brought
 brought_less h n t = over_less h n t.track.early t refl
 
--- and where it is brought behind its first item, an item less
+-- a flow that is brought behind its first item keeps an item less
 first_less : (h : Heading) (e : Early) (rest : List Early) (t : Told) → early_of t ≡ e ∷ rest → length (early_of (brought h (e.number + 1) t)) ≤ length rest
 unfolding brought
 first_less h e rest t at =

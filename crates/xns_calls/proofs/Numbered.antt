@@ -33,7 +33,7 @@ set_cases (x ∷ xs) (suc i) (suc j) y d e = by_case (set_cases xs i j y d e)
     by_case (inl (same, is)) = inl (ap suc same, is)
     by_case (inr (other, is)) = inr (λ same. other (omega (arith, same)), is)
 
--- and in one with an element more
+-- where an element of a list with one more behind it stands
 pub more_cases : (xs : List Connection) (j : ℕ) (y d : Connection) → slice_get (xs ++ y ∷ []) j ≡ Some d → ((j ≡ length xs) × (d ≡ y)) ⊎ ((j < length xs) × (slice_get xs j ≡ Some d))
 more_cases [] zero y d e = inl (refl, let same : d ≡ y = (cc) in same)
 more_cases [] (suc j) y d e = (cc)

@@ -57,7 +57,7 @@ pub record Ran (m : ℕ) (b : Bool) (s s' : Scene) (t : Told) : Type 0 where
 stays : (m : ℕ) (b : Bool) (s : Scene) (t : Told) → s.own.track ≡ Some t.track → t ≡ told_of t.track s → Ran m b s s t
 stays m b s t track is = record { events = []; are = refl; track = track; is = is; parts = []; text = sym (append-nil s.text); own = refl }
 
--- it reads
+-- the flow reads its first item
 reads : (n : Origin) (m : ℕ) (b : Bool) (s : Scene) (t : Told) → s.own.track ≡ Some t.track → t ≡ told_of t.track s → Ran m b s (own_read (heading_at n m b) s) t
 reads n m b s t track is =
     let h = heading_at n m b in

@@ -73,7 +73,7 @@ packet_other h due packet f content s =
     let known = other_reached h due.other s in
     reached_other h due.own (after_content h due.acknowledged packet f content known) ∙ content_other h due.acknowledged packet f content known
 
--- ---- what takes effect with it
+-- ---- what takes effect with a packet
 
 advance_event : (h : Heading) (o : Option ℕ) (s : Scene) (track : Track) → s.other.track ≡ Some track
     → advance_other h o s ≡ seen_from_other (after_told (brought_if (of_other h) o (told_of track (seen_from_other s))) (seen_from_other s))

@@ -52,7 +52,7 @@ flow_append (e ∷ xs) ys t =
     ap (λ z. new_text e t ++ z) (flow_append xs ys (after_event e t))
     ∙ sym (append_assoc (new_text e t) (flow_text xs (after_event e t)) (flow_text ys (after_events xs (after_event e t))))
 
--- so do an item, and what takes effect behind it
+-- what an item prints, and what takes effect behind it, is what is new in the text
 pub both_new : (p : Bool) (h : Heading) (o : Option ℕ) (item : Carried) (a : Option ℕ) (t : Told)
     → flow_text (cond p [] (captured_event h o item) ++ acknowledged_event h a) t ≡ drop (length t.text) (after_events (cond p [] (captured_event h o item) ++ acknowledged_event h a) t).text
 both_new p h o item a t =

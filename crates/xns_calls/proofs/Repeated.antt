@@ -22,17 +22,17 @@ unfolding Keeps
 keeps [] = inr (refl, refl, omega arith)
 keeps (true ∷ items) = by_row (keeps items)
   where
-    row : ℕ
-    row = in_a_row items + 1
+    so_far : ℕ
+    so_far = in_a_row items + 1
 
-    by_count : (p : Bool) → nat_lt row 64 ≡ p → has_row items ≡ false → repeats_of items ≡ InARow (in_a_row items) → Keeps (true ∷ items)
+    by_count : (p : Bool) → nat_lt so_far 64 ≡ p → has_row items ≡ false → repeats_of items ≡ InARow (in_a_row items) → Keeps (true ∷ items)
     by_count true e none is =
-        inr (ap (λ p. not p || has_row items) e ∙ none, ap one_more is ∙ ap (λ p. cond p (InARow row) Told) e, less_true row e)
-    by_count false e none is = inl (ap (λ p. not p || has_row items) e, ap one_more is ∙ ap (λ p. cond p (InARow row) Told) e)
+        inr (ap (λ p. not p || has_row items) e ∙ none, ap one_more is ∙ ap (λ p. cond p (InARow so_far) Told) e, less_true so_far e)
+    by_count false e none is = inl (ap (λ p. not p || has_row items) e, ap one_more is ∙ ap (λ p. cond p (InARow so_far) Told) e)
 
     by_row : Keeps items → Keeps (true ∷ items)
-    by_row (inl (told, is)) = inl (ap (λ p. not (nat_lt row 64) || p) told ∙ or_true (not (nat_lt row 64)), ap one_more is)
-    by_row (inr (none, is, few)) = by_count (nat_lt row 64) refl none is
+    by_row (inl (told, is)) = inl (ap (λ p. not (nat_lt so_far 64) || p) told ∙ or_true (not (nat_lt so_far 64)), ap one_more is)
+    by_row (inr (none, is, few)) = by_count (nat_lt so_far 64) refl none is
 keeps (false ∷ items) = by_row (keeps items)
   where
     by_row : Keeps items → Keeps (false ∷ items)

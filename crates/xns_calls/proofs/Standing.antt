@@ -69,7 +69,7 @@ anew_wants at flow f k e = by_connection (slice_get k.connections at) e
     by_connection None is = (cc)
     by_connection (Some c) is = or_left (begins_anew f c) (wants_in (is_behind_in flow c) f c k) is
 
--- nor does one that begins a connection
+-- a connection that has just begun does not begin anew
 and_false : (p : Bool) → (p && false) ≡ false
 and_false true = refl
 and_false false = refl
@@ -91,7 +91,7 @@ after_nowhere n packet f content k flow is e =
     ap (λ q. after_place n q packet f content (place_of q k.connections) k) (sym is)
     ∙ ap (λ o. after_place n flow packet f content o k) e
 
--- a system packet of it begins none
+-- a system packet of a flow without a connection begins none
 pub after_system : (n : Origin) (packet : PacketModel) (f : Header) (content : List ℕ) (k : Known) (flow : Flow) → flow ≡ flow_of packet f
     → place_of flow k.connections ≡ None → is_system f ≡ true → after_sequenced n packet f content k ≡ k
 after_system n packet f content k flow is e system =

@@ -22,7 +22,7 @@ set_set [] i c d = refl
 set_set (x ∷ cs) zero c d = refl
 set_set (x ∷ cs) (suc i) c d = ap (λ xs. x ∷ xs) (set_set cs i c d)
 
--- what is read then is read of the same connection
+-- what is read at a connection's place is read of that connection
 read_there : (n : Origin) (i : ℕ) (b : Bool) (k : Known) (c : Connection) → slice_get k.connections i ≡ Some c → settled_at n i b k ≡ settled_there n i b (Some c) k
 unfolding settled_at
 read_there n i b k c there = ap (λ o. settled_there n i b o k) there

@@ -54,18 +54,18 @@ pub other_wants : (due : Due) (f : Header) (own other : Side) (page : Page) → 
 other_wants due f own other page e =
     or_left (brings_on due (scene own other page)) (brings_data f own.track) (or_left (is_some (reached other.track due.other)) (is_some (reached own.track due.own)) e)
 
--- so does one to the connection at a place
+-- a packet to the connection at a place wants memory where that connection does
 pub in_wants : (i : ℕ) (flow : Flow) (f : Header) (connection : Connection) (k : Known) → slice_get k.connections i ≡ Some connection
     → wants_in (is_behind_in flow connection) f connection k ≡ true → wants_at i flow f k ≡ true
 in_wants i flow f connection k at e =
     ap (λ o. wants_there flow f o k) at ∙ or_right (begins_anew f connection) (wants_in (is_behind_in flow connection) f connection k) e
 
--- it tells of repeats
+-- a packet that tells of repeats wants memory
 pub tells_wants : (b : Bool) (f : Header) (connection : Connection) (k : Known) → tells_repeats b f connection ≡ true → wants_in b f connection k ≡ true
 tells_wants b f connection k e =
     or_left (tells_repeats b f connection) (is_some (ahead_of b f connection) || wants_memory (due_in b f connection) f (scene_in b connection k)) e
 
--- what it acknowledges is kept
+-- a packet wants memory where what it acknowledges is kept
 pub ahead_wants : (b : Bool) (f : Header) (connection : Connection) (k : Known) → is_some (ahead_of b f connection) ≡ true → wants_in b f connection k ≡ true
 ahead_wants b f connection k e =
     or_right (tells_repeats b f connection) (is_some (ahead_of b f connection) || wants_memory (due_in b f connection) f (scene_in b connection k))
@@ -76,7 +76,7 @@ memory_wants b f connection k e =
     or_right (tells_repeats b f connection) (is_some (ahead_of b f connection) || wants_memory (due_in b f connection) f (scene_in b connection k))
     (or_right (is_some (ahead_of b f connection)) (wants_memory (due_in b f connection) f (scene_in b connection k)) e)
 
--- so does the end of a connection of which a flow keeps items
+-- the end of a connection of which a flow keeps items wants memory
 pub end_wants : (connection : Connection) (o : Option Connection) → o ≡ Some connection → is_some (end_turn connection.first.track connection.second.track) ≡ true → wants_end o ≡ true
 end_wants connection o at e = ap wants_end at ∙ e
 

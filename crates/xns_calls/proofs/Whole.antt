@@ -154,7 +154,7 @@ one_went items h e rest t hs same first are s =
     let w = subst (λ n. Went items left (read_next h (n + 1) e.item.item left) hs) (sym first) read in
     record { told = w.told; text = w.text; stands = w.stands; kept = w.kept }
 
--- and those below a number, where none of them is missing
+-- the items below a number are read, where none of them is missing
 below_went : (items : List Item) (h : Heading) (n : ℕ) (es : List Early) (t : Told) (hs : List Heard) → early_of t ≡ es → AreKept (next_of t) n es → AreFrom (next_of t) es → AreItems items es → Stands items t hs
     → Went items t (read_below_over h n es t) hs
 below_went items h n [] t hs same all from are s = stayed items t hs (subst (AreItems items) (sym same) tt) s
@@ -177,7 +177,7 @@ below_went items h n (e ∷ rest) t hs same all from are s =
     u : Told
     u = read_next h (e.number + 1) e.item.item left
 
--- and the first that is kept, if it comes next
+-- the first item that is kept is read, if it comes next
 first_went : (items : List Item) (h : Heading) (es : List Early) (t : Told) (hs : List Heard) → early_of t ≡ es → AreFrom (next_of t) es → AreItems items es → Stands items t hs → Went items t (read_first_over h es t) hs
 first_went items h [] t hs same from are s = stayed items t hs (subst (AreItems items) (sym same) tt) s
 first_went items h (e ∷ rest) t hs same from are s =

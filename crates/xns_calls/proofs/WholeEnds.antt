@@ -22,7 +22,7 @@ use Rattle.xns_calls.proofs.Parts.{plain, plain_one}
 use Rattle.xns_calls.proofs.Steps.{early_of}
 use Rattle.xns_calls.proofs.Whole.{AreItems, after_append, first_of, get_below, start, whole_printed, whole_said}
 
--- and it comes behind all items
+-- an acknowledgement of no more than all items leaves the flow whole
 whole_with : (items : List Item) (events : List Event) (h : Heading) (o : Option ℕ) → IsWhole items events → IfSome o (λ n. n ≤ length items) → IsWhole items (events ++ acknowledged_event h o)
 whole_with items events h None w bound = subst (IsWhole items) (sym (append-nil events)) w
 whole_with items events h (Some last) w bound = record {
@@ -63,7 +63,7 @@ end_bound items events t first w = by_last (last_number u.track.early) refl
     by_last (Some last) is =
         let below : last < length items = last_item items u.track.early (length u.track.early - 1) last (whole_printed items events t first w).kept is in omega (arith, below)
 
--- and of one whose end comes
+-- what is said of a flow whose end comes is its conversation
 pub whole_end_said : (runs : SignsRunOn) (law : OneItemMore) → ((fed : List Item) → conversation fed ≡ said (opening []) (written fed)) → ((fed : List Item) → ending fed ≡ run (opening []) (written fed))
     → (items : List Item) (events : List Event) (field : ℕ) (t : Told) (h : Heading) → field < 64 → t.track ≡ first_track field → IsWhole items events
     → SaysConversation (of_courier items) (flow_text (events ++ acknowledged_event h (behind_last (Some (after_events events t).track))) t)
@@ -85,7 +85,7 @@ pub whole_below : (items : List Item) (events : List Event) (t : Told) → t.tra
     → AreBelow (length items) (early_of (after_events events t))
 whole_below items events t first w = kept_below items (early_of (after_events events t)) (whole_printed items events t first w).kept
 
--- and what acknowledges no more than all of them leaves it whole
+-- events that acknowledge no more than all items leave the flow whole
 pub acks_whole : (items : List Item) (events more : List Event) → IsWhole items (plain events) → AreAcks (length items) more → IsWhole items (plain (events ++ more))
 acks_whole items events more w a = subst (IsWhole items) (sym (flat_map-append plain_one events more)) (record {
   of = of_both items (plain events) (plain more) w.of (acks_of (length items) items more a);

@@ -18,7 +18,7 @@ use Rattle.xns_calls.specs.Repeats.{repeats_with, with_repeats}
 abbrev pub most_waited : ℕ
 most_waited = most_pending
 
--- it waits for a packet less
+-- an acknowledgement waits for a packet less
 abbrev pub one_nearer : Ahead → Ahead
 one_nearer a = record a { left = a.left - 1 }
 

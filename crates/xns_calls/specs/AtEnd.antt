@@ -37,12 +37,12 @@ abbrev pub read_behind : Heading → Option FirstKept → Scene → Scene
 read_behind heading None s = s
 read_behind heading (Some first) s = advanced heading (first.number + 1) (other_reached heading first.acknowledged s)
 
--- a flow reads its first item, and passes over what is missing before it; the flow behind is first brought to what the packet acknowledges
--- that brought the item captured first, as far as it keeps items
+-- a flow reads its first item, and passes over what is missing before it; the flow behind is first brought to what the packet
+-- acknowledges that brought the item captured first, as far as it keeps items
 unfoldable pub own_ended : Heading → Scene → Scene
 own_ended heading s = read_behind heading (first_in s.own.track) s
 
--- the same of the flow behind
+-- the flow behind reads its first item, as at the end
 abbrev pub other_ended : Heading → Scene → Scene
 other_ended heading s = seen_from_other (own_ended (of_other heading) (seen_from_other s))
 

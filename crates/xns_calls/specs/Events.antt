@@ -50,13 +50,13 @@ abbrev pub acknowledged_event : Heading → Option ℕ → List Event
 acknowledged_event heading None = []
 acknowledged_event heading (Some number) = acknowledged heading number ∷ []
 
--- those of a packet of the flow, once the flow behind is brought to what takes effect of it
+-- the events of a packet of the flow, once the flow behind is brought to what takes effect of that
 abbrev pub own_events : Heading → Due → Header → List ℕ → Track → Scene → List Event
 own_events heading due f content track s =
     meanwhile (record { own = s.own.call; asked = s.other.call }) s.text s.is_refused
     ∷ (if is_system f then [] else captured_event heading (near track.next f.sequence) (carried heading due.acknowledged f content)) ++ acknowledged_event heading due.own
 
--- ---- the same where nothing is missing: the items that are kept are read, without a line of missing ones
+-- ---- where nothing is missing: the items that are kept are read, without a line of missing ones
 
 abbrev pub read_below_over : Heading → ℕ → List Early → Told → Told
 read_below_over heading number [] t = t
@@ -65,7 +65,7 @@ read_below_over heading number (early ∷ rest) t =
     (read_next heading (early.number + 1) early.item.item (record t { track = record t.track { early = rest } }))
     else t
 
--- those below the number are read
+-- the items below the number are read
 abbrev pub read_below : Heading → ℕ → Told → Told
 read_below heading number t = read_below_over heading number t.track.early t
 

@@ -36,7 +36,7 @@ pub record Scene : Type 0 where
 abbrev pub scene : Side → Side → Page → Scene
 scene own other page = record { own = own; other = other; text = page.text.line; is_refused = page.is_refused }
 
--- the same, seen from the flow behind
+-- a scene, seen from the flow behind
 abbrev pub seen_from_other : Scene → Scene
 seen_from_other s = record s { own = s.other; other = s.own }
 
@@ -83,7 +83,7 @@ advance_own heading (Some number) s = advanced heading number s
 unfoldable pub own_reached : Heading → Option ℕ → Scene → Scene
 own_reached heading number s = advance_own heading (reached s.own.track number) s
 
--- the same for the other flow of the connection
+-- a heading for the other flow of the connection
 abbrev pub of_other : Heading → Heading
 of_other heading = record heading { is_behind = not heading.is_behind }
 

@@ -48,7 +48,7 @@ packets_known_with_end programs times packets zero = packets_known programs time
 packets_known_with_end programs times packets (suc part) =
     after_end (last_frame programs times packets) part (record (packets_known_with_end programs times packets part) { text = [] })
 
--- what is printed then; it has the number and the time of the last packet's frame
+-- what is printed once so many connections are read to their end; their lines have the number and the time of the last packet's frame
 abbrev pub packets_text_with_end : Programs → Times → List NumberedPacket → ℕ → List ℕ
 packets_text_with_end programs times packets zero = packets_text programs times packets
 packets_text_with_end programs times packets (suc part) = packets_text_with_end programs times packets part ++ (packets_known_with_end programs times packets (suc part)).text

@@ -56,11 +56,11 @@ abbrev pub in_bytes : Result (List ℕ) FromHexError → Option Arrival
 in_bytes (Ok bytes) = in_packet (packet_of bytes)
 in_bytes (Err error) = None
 
--- that of a line, if the line has one
+-- the sequenced packet of a line, if the line has one
 unfoldable pub arrival : List ℕ → Option Arrival
 arrival line = in_bytes (decode_of (digits_of line))
 
--- ---- of which flow it is
+-- ---- of which flow a packet is
 
 -- a flow as the text names it: the number of its connection, and whether it is the one that begins behind the other
 pub record FlowName : Type 0 where
@@ -93,7 +93,7 @@ abbrev pub next_in : ℕ → Option Track → ℕ
 next_in field None = (first_track field).next
 next_in field (Some track) = track.next
 
--- its own data packet brings an item
+-- a data packet of the flow brings an item
 abbrev pub item_events : Heading → Header → List ℕ → Option ℕ → Option Track → List Event
 item_events h f content acknowledged track =
     if is_system f then [] else captured_event h (near (next_in f.sequence track) f.sequence) (carried h acknowledged f content)
@@ -104,8 +104,8 @@ events_between p q h f content acknowledged track due =
     if p.connection == q.connection then (if is_same p.is_behind q.is_behind then item_events h f content acknowledged track else []) ++ acknowledged_event h due
     else []
 
--- where a connection begins anew, all that its flows keep is read: the items before the last one have to be captured by then, as if all
--- of them were acknowledged
+-- where a connection begins anew, all that its flows keep is read: the items before the last one have to be captured by then, as if
+-- all of them were acknowledged
 abbrev pub ending_events : FlowName → Heading → Connection → List Event
 ending_events p h connection =
     if p.connection == connection.number then acknowledged_event h (behind_last (side_in p.is_behind connection).track) else []

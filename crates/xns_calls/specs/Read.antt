@@ -22,7 +22,7 @@ read_in_track heading (Some track) s = after_told (first_read heading (told_of t
 unfoldable pub own_read : Heading → Scene → Scene
 own_read heading s = read_in_track heading s.own.track s
 
--- the same of the flow behind
+-- the first item that the flow behind keeps is read, if it comes next
 abbrev pub other_read : Heading → Scene → Scene
 other_read heading s = seen_from_other (own_read (of_other heading) (seen_from_other s))
 

@@ -58,7 +58,7 @@ repeats_text heading tells = if tells then repeats_line heading else []
 
 -- ---- the law: of the items of a flow, the last one first, each a repeat (true) or new
 
--- what is kept behind them
+-- what is kept of repeats behind these items of a flow
 abbrev pub repeats_of : List Bool → Repeats
 repeats_of [] = InARow 0
 repeats_of (is_repeat ∷ before) = repeats_behind is_repeat (repeats_of before)

@@ -28,7 +28,7 @@ readable_first next behind given None = None
 readable_first next behind given (Some first) =
     if not (nat_lt next first.number) && is_free behind given first.acknowledged then Some first.line else None
 
--- that of the item of a flow that can be read
+-- the line of the item of a flow that can be read
 abbrev pub readable : Option Track → Option Track → ℕ → Option ℕ
 readable None behind given = None
 readable (Some track) behind given = readable_first track.next behind given (first_kept track.early)
