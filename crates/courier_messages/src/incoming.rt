@@ -1,35 +1,30 @@
 //! The message that is coming in.
-ghost use Rattle.std.specs.Prelude.{◌≡◌, ◌<◌, ◌≤◌, ◌+◌, ◌*◌, ◌/◌, ◌++◌, ◌∷◌, None, Ok, Err, [], map, length, drop, slice_get, get_or, true, IfOk};
+ghost use Rattle.std.specs.Prelude.{◌≡◌, ◌<◌, ◌≤◌, ◌+◌, ◌++◌, ◌∷◌, None, Ok, Err, [], map, length, drop, true, IfOk};
 ghost use Rattle.std.specs.Option.{option_to_list};
-ghost use Rattle.std.specs.Prelude.{IfErr, IfNone, IfSome, MatchOption, OnOk, OnErr};
+ghost use Rattle.std.specs.Prelude.{IfErr, IfNone, IfSome, OnOk, OnErr};
 ghost use Rattle.courier_messages.specs.declared.incoming.Stage.TheVariants.{Fresh, Inside};
 ghost use Rattle.courier_messages.specs.declared.fault.SessionFault.TheVariants.{NoMemory};
-ghost use Rattle.courier_types.specs.Pieces.{words_of};
 ghost use Rattle.courier_messages.specs.Text.{byte, mark, signs, item_of};
 ghost use Rattle.courier_messages.specs.Conversation.{range_bytes, Phase, opening, fresh, inside};
-ghost use Rattle.courier_messages.specs.Message.{most_bytes, message_of};
-ghost use Rattle.courier_messages.specs.Phases.{step, ended, run, said, agreement, opened};
+ghost use Rattle.courier_messages.specs.Message.{most_bytes};
+ghost use Rattle.courier_messages.specs.Phases.{step, ended, run, said, agreement};
 ghost use Rattle.courier_messages.specs.Bounds.{IsBounded};
 ghost use Rattle.courier_messages.specs.Inside.{phase_in, kept_at, IsHeld, IsSkipped};
 ghost use Rattle.courier_messages.specs.Refusal.{Follows, Takes, Foresees, Stops, UnlessMemory, AreRight, KeepsNothing, MayBeKept};
-ghost use Rattle.courier_messages.specs.Head.{ReadsHead, size_of, heads_in};
 
 use crate::fault::{MessageFault, SessionFault};
+use crate::front::{RANGE_BYTES, head_in, range_in, read_head_in};
 use crate::head::Head;
 use crate::pieced_message::PiecedMessage;
 use crate::pieces::Pieces;
-use crate::reading::{MOST_BYTES, head_of, read_head, take_word};
+use crate::reading::MOST_BYTES;
 use crate::whole_message::WholeMessage;
-use courier_types::PieceWords;
 use std::alloc::Global;
 use std::marker::Model;
 use xns_spp::Item;
 
 /// The version of Courier that both sides speak.
 pub const VERSION: u16 = 3;
-
-/// How many bytes the version range has.
-const RANGE_BYTES: usize = 4;
 
 /// Where in a conversation a session is: in the version range, directly behind the range, or in a message.
 #[derive(Clone, Copy, Debug)]
@@ -69,62 +64,6 @@ fn agree(low: u16, high: u16) -> Result<(), SessionFault>
     } else {
         Ok(())
     }
-}
-
-/// The byte at a place of what is kept and of what comes behind it; `None` behind the last.
-#[tactic(auto, using(crate::proofs::Joins::byte_kept, crate::proofs::Joins::byte_that_comes))]
-fn byte_at(pieces: &Pieces, body: &[u8], place: usize) -> Option<u8>
-    ensures { result ≡ slice_get (pieces.now ++ body.now) place }
-{
-    match place.checked_sub(pieces.len()) {
-        None => pieces.byte(place),
-        Some(behind) => body.get(behind).copied(),
-    }
-}
-
-/// The lowest and the highest version, which what is kept and what comes behind it begin with; `None` for fewer than four bytes.
-#[tactic(auto, using(crate::proofs::Ranges::range_bytes, crate::proofs::Ranges::range_cut))]
-fn range_in(pieces: &Pieces, body: &[u8]) -> Option<(u16, u16)>
-    ensures { MatchOption result (length pieces.now + length body.now < range_bytes)
-        (λ range. (range_bytes ≤ length pieces.now + length body.now) × (opened (pieces.now ++ body.now) ≡ agreement range.0 range.1)) }
-{
-    let low_high = byte_at(pieces, body, 0)?;
-    let low_low = byte_at(pieces, body, 1)?;
-    let high_high = byte_at(pieces, body, 2)?;
-    let high_low = byte_at(pieces, body, 3)?;
-    let low = u16::from(low_high) * 256 + u16::from(low_low);
-    let high = u16::from(high_high) * 256 + u16::from(high_low);
-    Some((low, high))
-}
-
-/// The words of the pieces behind the bytes that are skipped.
-#[tactic(auto, using(crate::proofs::Ranges::words_skipped))]
-#[inline(always)]
-fn words_behind(pieces: &Pieces, skipped: usize) -> PieceWords<'_>
-    requires { IsSkipped skipped pieces.now }
-    ensures { result ≡ words_of (drop skipped pieces.now) }
-{
-    let _count = pieces.len();
-    let mut words = PieceWords::new(pieces.as_slice());
-    if skipped == RANGE_BYTES {
-        take_word(&mut words);
-        take_word(&mut words);
-    }
-    words
-}
-
-/// The head of the message whose bytes are kept behind those that are skipped, or what is wrong with the message.
-#[inline(always)]
-fn read_head_in(pieces: &Pieces, skipped: usize) -> Result<Head, MessageFault>
-    requires skipped { IsSkipped skipped pieces.now }
-    requires size { length pieces.now ≤ most_bytes + skipped }
-    ensures { ReadsHead result (drop (skipped / 2 + size_of result) (words_of pieces.now)) (message_of (drop skipped pieces.now)) }
-{
-    if (pieces.len() - skipped) % 2 == 1 {
-        return Err(MessageFault::OddLength);
-    }
-    let mut words = words_behind(pieces, skipped);
-    read_head(&mut words)
 }
 
 /// Where a session is once more bytes have come, which begin in the version range, and how many bytes are to be
@@ -221,75 +160,6 @@ fn take_first(pieces: &mut Pieces, body: Vec<u8>) -> Result<Stage, SessionFault>
     }
     take_more(pieces, 0, body)?;
     Ok(Stage::Inside)
-}
-
-/// The word at a place behind the bytes that are skipped, of what is kept and of what comes behind it; 0 behind the last.
-#[tactic(auto, using(crate::proofs::Fronts::word_is, crate::proofs::Fronts::no_word, crate::proofs::Fronts::no_high))]
-fn word_at(pieces: &Pieces, skipped: usize, body: &[u8], place: usize) -> u16
-    requires { skipped + 2 * place < 256 }
-    ensures { result ≡ get_or (words_of (drop skipped (pieces.now ++ body.now))) place 0 }
-{
-    let Some(high) = byte_at(pieces, body, skipped + 2 * place) else {
-        return 0;
-    };
-    let Some(low) = byte_at(pieces, body, skipped + 2 * place + 1) else {
-        return 0;
-    };
-    u16::from(high) * 256 + u16::from(low)
-}
-
-/// The head of a message whose bytes are those that are kept and those that come, without those that are skipped; or
-/// what is wrong with the message.
-#[tactic(auto, using(crate::proofs::Fronts::front_taken, crate::proofs::Fronts::front_head, crate::proofs::Fronts::even_head, crate::proofs::Heads::odd_message, crate::proofs::Wholes::half, crate::proofs::Heads::dropped_length))]
-fn head_behind(pieces: &Pieces, skipped: usize, body: &[u8]) -> Result<Head, MessageFault>
-    requires skipped { IsSkipped skipped (pieces.now ++ body.now) }
-    requires size { length pieces.now + length body.now ≤ most_bytes + skipped }
-    ensures { result ≡ heads_in (message_of (drop skipped (pieces.now ++ body.now))) }
-{
-    let behind = pieces.len() + body.len() - skipped;
-    if behind % 2 == 1 {
-        return Err(MessageFault::OddLength);
-    }
-    let count = behind / 2;
-    let front = [
-        word_at(pieces, skipped, body, 0),
-        word_at(pieces, skipped, body, 1),
-        word_at(pieces, skipped, body, 2),
-        word_at(pieces, skipped, body, 3),
-        word_at(pieces, skipped, body, 4),
-        word_at(pieces, skipped, body, 5),
-    ];
-    if count < 6 {
-        return head_of(&front[..count]);
-    }
-    head_of(&front)
-}
-
-/// The head of the message that the bytes are, or what is wrong with the message.
-#[tactic(auto, unfolding(crate::specs::Message::message_of))]
-fn head_alone(bytes: &[u8]) -> Result<Head, MessageFault>
-    requires { length bytes.now ≤ most_bytes }
-    ensures { result ≡ heads_in (message_of bytes.now) }
-{
-    if bytes.len() % 2 == 1 {
-        return Err(MessageFault::OddLength);
-    }
-    let mut words = PieceWords::of_bytes(bytes);
-    read_head(&mut words)
-}
-
-/// The head of a message whose bytes are those that are kept and those that come, without those that are skipped; or
-/// what is wrong with the message. Where none are kept, those that come are read where they lie.
-#[tactic(auto, using(crate::proofs::Fronts::alone, crate::proofs::Heads::dropped_length))]
-fn head_in(pieces: &Pieces, skipped: usize, body: &[u8]) -> Result<Head, MessageFault>
-    requires skipped { IsSkipped skipped (pieces.now ++ body.now) }
-    requires size { length pieces.now + length body.now ≤ most_bytes + skipped }
-    ensures { result ≡ heads_in (message_of (drop skipped (pieces.now ++ body.now))) }
-{
-    if pieces.len() == 0 {
-        return head_alone(&body[skipped..]);
-    }
-    head_behind(pieces, skipped, body)
 }
 
 /// Where a session is once more bytes have come, and how many bytes are to be skipped; or what is wrong with the bytes.

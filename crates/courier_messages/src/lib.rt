@@ -4,6 +4,7 @@
 
 mod cutting;
 mod fault;
+mod front;
 mod head;
 mod incoming;
 pub mod kinds;

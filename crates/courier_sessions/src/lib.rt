@@ -9,6 +9,7 @@ mod answer_refusal;
 mod call_refusal;
 mod caller;
 mod feed_refusal;
+mod heads;
 pub mod laws;
 mod outgoing;
 mod program;

@@ -1,40 +1,35 @@
 //! The side of a Courier conversation that is called. It reads no shapes: a call is handed as a message, and its answer goes out with its
 //! words.
 
-ghost use Rattle.std.specs.Prelude.{◌≡◌, ◌≢◌, ◌<◌, ◌++◌, ℕ, List, length, true, false, OnErr, IfOk, IsOk, Some, None, Ok, Err, option_map};
-ghost use Rattle.std.specs.Prelude.{option_copied, nat_lt};
+ghost use Rattle.std.specs.Prelude.{◌≡◌, ◌≢◌, ◌<◌, ◌++◌, ℕ, length, true, false, OnErr, IfOk, IsOk, Some, None, Ok, Err, option_map};
+ghost use Rattle.std.specs.Prelude.{option_copied};
 ghost use Rattle.std.specs.Option.{is_some};
 ghost use Rattle.courier_messages.specs.declared.fault.SessionFault.TheVariants.{NoMemory};
 ghost use Rattle.courier_messages.specs.declared.message.Message.{Message};
 ghost use Rattle.courier_messages.specs.Cutting.{cut};
 ghost use Rattle.courier_messages.specs.Head.{with_words};
-ghost use Rattle.courier_messages.specs.Message.{message_words, most_words};
 ghost use Rattle.courier_messages.specs.Refusal.{Follows};
 ghost use Rattle.courier_messages.specs.Text.{item_of};
 ghost use Rattle.courier_sessions.specs.Feeding.{Judges};
-ghost use Rattle.courier_sessions.specs.Answering.{Answering, new_answering, is_busy, after_item, is_a_call, transaction_in};
+ghost use Rattle.courier_sessions.specs.Answering.{Answering, new_answering, is_busy, after_item, transaction_in};
 ghost use Rattle.courier_sessions.specs.Answering.{after_call, why_unlisted, reject_message, after_reject, answer_message, answers_to};
-ghost use Rattle.courier_sessions.specs.Answering.{is_reject, answer_refusal, AnswerAnswers, answered};
+ghost use Rattle.courier_sessions.specs.Answering.{answer_refusal, AnswerAnswers, answered};
 ghost use Rattle.courier_sessions.specs.Pumping.{server_side, IsFed};
 ghost use Rattle.courier_sessions.specs.declared.unlisted.Unlisted.{Unlisted};
 
 use crate::answer::Answer;
 use crate::answer_refusal::AnswerRefusal;
 use crate::feed_refusal::FeedRefusal;
+use crate::heads::{answer_head, is_call, is_reject, is_too_long, transaction_of};
 use crate::outgoing::{MOST_ITEM, copied_item, put_message};
 use crate::program::Program;
 use crate::side::{WordSide, told};
 use crate::unlisted::{Unlisted, refusal, reject_words};
-use courier_messages::{
-    Head, Incoming, MOST_BYTES, PiecedMessage, SessionFault, put_out, versions,
-};
+use courier_messages::{Head, Incoming, PiecedMessage, SessionFault, put_out, versions};
 use std::alloc::{AllocError, Global};
 use std::collections::VecDeque;
 use std::marker::Model;
 use xns_spp::Item;
-
-/// The most words that a message may have.
-const MOST_WORDS: usize = MOST_BYTES / 2;
 
 /// The side that is called, one call at a time.
 #[derive(Drop)]
@@ -60,53 +55,6 @@ impl Model for WordServer {
       call = s.call;
       asked = s.asked;
     } };
-}
-
-/// Whether a message with this head is a call.
-fn is_call(head: Head) -> bool
-    ensures { (words : List ℕ) → result ≡ is_a_call (with_words head words) }
-{
-    matches!(head, Head::Call { .. })
-}
-
-/// The transaction of a message with this head.
-fn transaction_of(head: Head) -> u16
-    ensures { (words : List ℕ) → result ≡ transaction_in (with_words head words) }
-{
-    match head {
-        Head::Call { transaction, .. }
-        | Head::Reject { transaction, .. }
-        | Head::Return { transaction }
-        | Head::Abort { transaction, .. } => transaction,
-    }
-}
-
-/// The head of an answer to the call of this transaction.
-fn answer_head(answer: Answer, transaction: u16) -> Head
-    ensures { (words : List ℕ) → with_words result words ≡ answer_message answer transaction words }
-{
-    match answer {
-        Answer::Reject { reason } => Head::Reject {
-            transaction,
-            reason,
-        },
-        Answer::Return => Head::Return { transaction },
-        Answer::Abort { error } => Head::Abort { transaction, error },
-    }
-}
-
-/// Whether the answer is a reject.
-fn is_reject(answer: Answer) -> bool
-    ensures { result ≡ is_reject answer }
-{
-    matches!(answer, Answer::Reject { .. })
-}
-
-/// Whether a message with this head and so many words is longer than any message.
-fn is_too_long(head: Head, count: usize) -> bool
-    ensures { (words : List ℕ) → length words ≡ count → result ≡ nat_lt most_words (length (message_words (with_words head words))) }
-{
-    count > MOST_WORDS - head.size()
 }
 
 impl WordServer {

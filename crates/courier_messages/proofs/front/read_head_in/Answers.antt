@@ -1,5 +1,5 @@
 use Rattle.courier_messages.proofs.Heads.{head_read, odd_message}
-use Rattle.courier_messages.proofs.incoming.read_head_in.Goals as goal
+use Rattle.courier_messages.proofs.front.read_head_in.Goals as goal
 
 pub returns-then-len-skipped-eq1 : goal.returns-then-len-skipped-eq1
 returns-then-len-skipped-eq1 c = odd_message c.args.skipped c.args.pieces.now c.requires.skipped (rw c.len.ensures at c.if-len-skipped-eq1.true)

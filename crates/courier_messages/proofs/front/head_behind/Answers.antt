@@ -1,6 +1,6 @@
 use Rattle.std.proofs.Common.{◌∙◌, ap, ℕ, ◌+◌, ◌-◌, length}
 use Rattle.courier_messages.proofs.Fronts.{short_front}
-use Rattle.courier_messages.proofs.incoming.head_behind.Goals as goal
+use Rattle.courier_messages.proofs.front.head_behind.Goals as goal
 
 pub returns-then-count-lt6 : goal.returns-then-count-lt6
 returns-then-count-lt6 c =
