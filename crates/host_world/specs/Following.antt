@@ -70,7 +70,7 @@ deed_of (events.Call number tag program version procedure m) = one_message_more 
 deed_of (events.Answer number tag answer m) = one_message_more m
 deed_of (events.Closed number tag why) = no_more
 
--- what the program does by a call of its host, by number
+-- what the program does by a function of its host, by number
 pub data ProgramHasDone (h j : Host) : (ℕ → Deeds → Deeds) → Type 0 where
   called : (now number : ℕ) (c : RawCall) → Turn now number (deeds.made c) (Ok tt) h j → ProgramHasDone h j (did_at number (one_call_more c))
   answered : (now number k : ℕ) (kind : Answer) (words : List ℕ) (g : Guest) → slice_get h.guests.items number ≡ Some (Some g)

@@ -43,9 +43,8 @@ packets_in (Ok (Some o)) = o.packet ∷ []
 packets_in (Ok None) = []
 packets_in (Err e) = []
 
--- where the connection of a meeting is one that a host has in a place, what the host does at it leads on: a call, an answer, a close, a message
--- that is handed, the reason that is told or that the connection is open, what is due, an Error packet about a packet of it, a packet that is given, or none, and bytes
--- that come to it and may come
+-- what a host does at a connection of a meeting leads on: a call, an answer, a close, a message that is handed, the reason that is told or that
+-- the connection is open, what is due, an Error packet about a packet of it, a packet that is given, or none, and bytes that may come
 pub record WhatAHostDoesIsAStepOfTheMeeting : Type 0 where
   pub calls : (now : ℕ) (c : RawCall) (g h : Guest) → GuestStep now (deeds.made c) g h → LeadsOn g h (one_call_more c) []
   pub answers : (now : ℕ) (kind : Answer) (k : ℕ) (words : List ℕ) (g h : Guest) → GuestStep now (deeds.gave kind words) g h

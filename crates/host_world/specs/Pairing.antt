@@ -1,4 +1,4 @@
--- The pair of connections in code, and what its calls come to.
+-- The pair of connections in code, and what its functions come to.
 use Rattle.std.specs.Prelude.{◌≡◌, ℕ, false, List, ◌∷◌, [], ◌++◌, Some, slice_get}
 use Rattle.std.specs.Borrow.{Lends, MutBor, Fml}
 use Rattle.courier_messages.specs.RawCalls.{RawCall}

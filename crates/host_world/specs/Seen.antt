@@ -1,4 +1,4 @@
--- What a program sees of a host, number by number, whatever calls it makes of it.
+-- What a program sees of a host, number by number, whatever functions of the host it calls.
 use Rattle.std.specs.Prelude.{◌≡◌, ℕ, ◌==◌, Bool, List, [], ◌∷◌, ◌++◌, if◌then◌else◌, Option, Some, None, Result, Ok, Err}
 use Rattle.std.specs.List.{filter}
 use Rattle.std.specs.Option.{is_none}
@@ -19,7 +19,7 @@ use Rattle.xns_host.specs.declared.outgoing.Outgoing.{Outgoing}
 use Rattle.xns_host.specs.declared.settings.Settings.{Settings}
 use Rattle.host_world.specs.Dialogue.{Course, Dialogue, Happening, View, abandons, announces, answers, asks, calls, connects, free, hands, held, is_said, tells}
 
--- ---- the calls of a host
+-- ---- the functions of a host
 
 -- what the program says by a deed of its own
 pub data IsSaid : Deed → Happening → Type 0 where
@@ -27,7 +27,7 @@ pub data IsSaid : Deed → Happening → Type 0 where
   of_answer : (kind : Answer) (words : List ℕ) → IsSaid (deeds.gave kind words) (answers kind words)
   of_close : IsSaid deeds.asked asks
 
--- what it is told by an event, and of which number
+-- what the program is told by an event, and of which number
 abbrev pub number_of : Event → ℕ
 number_of (events.Opened number tag) = number
 number_of (events.Call number tag program version procedure m) = number
@@ -40,8 +40,8 @@ news_of (events.Call number tag program version procedure m) = hands m
 news_of (events.Answer number tag answer m) = hands m
 news_of (events.Closed number tag why) = tells why
 
--- a call by which nothing is said: one that is refused, one that has nothing to tell, and those that take packets in, give them out, serve, or
--- tell a network or a tag
+-- a function by which nothing is said: one that is refused, one that has nothing to tell, and those that take packets in, give them out, serve,
+-- or set a network or a tag
 pub data Quiet (h j : Host) : Type 0 where
   is_refused : (now number : ℕ) (deed : Deed) (fault : HostFault) → Turn now number deed (Err fault) h j → Quiet h j
   abandons_none : (number : ℕ) (fault : HostFault) → Abandons number (Err fault) h j → Quiet h j
@@ -57,7 +57,7 @@ pub data Quiet (h j : Host) : Type 0 where
 abbrev pub said_at : (said : ℕ → List Happening) (number : ℕ) → Happening → (k : ℕ) → List Happening
 said_at said number x k = if k == number then said k ++ x ∷ [] else said k
 
--- calls of a host, in any order, led from a new one to this one, and this was said meanwhile at each number
+-- functions of a host, called in any order, led from a new host to this one, and this was said meanwhile at each number
 pub data HasLived : Host → (ℕ → List Happening) → Type 0 where
   begins : {h : Host} (network : ℕ) (host : List ℕ) (settings : Settings) (secret : List ℕ) → IsNewHost network host settings secret h
       → HasLived h (λ k. [])

@@ -28,8 +28,8 @@ ghost use Rattle.xns_connection.specs.declared.why.Why.{Why};
 /// no packets of the connection, and none comes once either end has taken more than 30,000 further items since it was made: what each end
 /// hands up begins what the other's accepted, and the two programs agree. Each packet that a connection gives was made by its end.
 ///
-/// The steps are those that the calls of a [`crate::Pair`] make of the clauses of `Connection`: `new` begins; `receive` takes in what comes;
-/// `next_packet` moves what can move, which is an act, and gives a packet or none; all other calls are acts.
+/// The functions of a [`crate::Pair`] are these steps, by the clauses of `Connection`: `new` begins; `receive` takes in what comes;
+/// `next_packet` moves what can move, which is an act, and gives a packet or none; all other functions are acts.
 pub fn two_connections_over_a_network_agree()
     ensures { (a b : Station) (programs : List Program) (m : Meeting) → IsStation a → IsStation b → Meets a b programs m
         → IsMet programs m }
@@ -66,9 +66,10 @@ pub fn a_given_packet_may_come_while_it_lives()
     xns_connection::laws::two_programs_agree();
 }
 
-/// Where the connection of a meeting is one that a host has in a place, what the host does at it is a step of the meeting, or are two: a call
-/// (`calls`), an answer (`answers`), a close, a message that is handed (`hands`), the reason that is told (`tells`) or that the connection is open
-/// (`announces`), what is due (`acts`), an Error packet about a packet of it (`not_served`), a packet that is given, or none (`gives`), and bytes that come to it and may come (`hears`).
+/// What a host does at a connection of a meeting is one step of the meeting, or two. The host puts out a call (`calls`) or an answer
+/// (`answers`), closes, hands a message (`hands`), tells why the connection is closed (`tells`) or that it is open (`announces`), does what is
+/// due (`acts`), hears an Error packet about a packet of the connection (`not_served`), gives a packet or none (`gives`), and takes in bytes
+/// that may come (`hears`).
 pub fn what_a_host_does_is_a_step_of_the_meeting()
     ensures { WhatAHostDoesIsAStepOfTheMeeting }
 {
@@ -93,7 +94,7 @@ pub fn a_host_goes_on_with_its_meetings()
 
 /// Two hosts of which each has a connection of one meeting at a number. Their programs agree, and what each end handed up begins what the
 /// other's accepted (`agree`). Whatever is called of the host that calls (`calls`), or of the one that is called (`called`), the hosts stand for
-/// a meeting to which that led, until the host forgets the connection: so their programs agree on.
+/// a meeting to which that led, until the host forgets the connection: so their programs still agree.
 pub fn two_hosts_agree()
     ensures agree { (h k : Host) (here there : ℕ) (a b : Station) (programs : List Program) (m : Meeting)
         → HostsStandFor h k here there a b programs m → IsMet programs m }
@@ -113,8 +114,9 @@ pub fn two_hosts_agree()
 /// each item that either connection's end had accepted is handed up at the other and acknowledged. The steps are ticks and flushes of the
 /// two ends, packets sent from then on that come, and items handed up: at most twelve for each item that is pending, and twelve more.
 ///
-/// The steps are of the ends. It is not said that a host takes them: a connection never ticks its end, but has it send its first item
-/// again, or a system packet, when that is due; and it hands an item up to its session alone, once that has nothing out and is not busy.
+/// The steps are of the ends, and no clause says that a host takes them. A connection never ticks its end, but has it send its first item
+/// again, or a system packet, when that is due. An item is handed up to the connection's session alone, once that has nothing out and is not
+/// busy.
 pub fn the_ends_of_a_meeting_are_not_stuck()
     ensures { (a b : Station) (programs : List Program) (m : Meeting) → IsStation a → IsStation b → Meets a b programs m → CanFinish m }
 {
@@ -127,10 +129,10 @@ pub fn the_ends_of_a_meeting_are_not_stuck()
 
 /// What every history of one number of a host comes to. The k-th answer is to the k-th call, and at most one call is not answered
 /// (`order`). The reason that the program is told is the one for which the connection was closed (`reason`), and nothing more of that
-/// connection is told behind it (`last`). That a connection is open is told of one that the program opened, once, before all else that is told of
-/// it (`opening`). The number becomes free after that, or where a peer opened the connection and nothing of it was
-/// told (`gone`), or where the program abandons the connection. Nothing happens at a free number but that a connection gets it (`first`,
-/// `again`): so nothing more of one that was abandoned is told.
+/// connection is told behind the reason (`last`). The program is told that a connection is open only of one that it opened, once, before all
+/// else of that connection (`opening`). The number becomes free once the program was told the reason, or where a peer opened the connection
+/// and the program was told nothing of it (`gone`), or where the program abandons the connection. Nothing happens at a free number but that a
+/// connection gets it (`first`, `again`): so the program is told nothing more of a connection that it abandoned.
 pub fn a_number_keeps_its_order()
     ensures order { (xs : List Happening) (d : Dialogue) → Course free xs (held d) → IsInOrder d }
     ensures reason { (xs : List Happening) (why : Why) (ys : List Happening) (v : View) → Course free (xs ++ tells why ∷ ys) v

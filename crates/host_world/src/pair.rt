@@ -45,7 +45,8 @@ pub struct Pair {
 }
 
 impl Pair {
-    /// A pair of new connections. These programs can be called.
+    /// A pair of new connections between these two stations, made at this time in milliseconds. The side that calls can call these programs.
+    /// The only error is want of memory.
     pub fn new(
         alloc: Global,
         calls: &Station,
@@ -93,7 +94,7 @@ impl Pair {
         }
     }
 
-    /// Puts out a call at this side. It is refused, and nothing is changed, as by [`Connection::call`].
+    /// Puts out a call at this side. An `Err` is the reason for which [`Connection::call`] refuses the call; the pair stays as it was then.
     pub fn call(
         &mut self,
         alloc: Global,
@@ -110,7 +111,8 @@ impl Pair {
         self.at(side).call(alloc, now, call)
     }
 
-    /// Answers the call that was handed at this side. It is refused, and nothing is changed, as by [`Connection::answer`].
+    /// Answers the call that was handed at this side. An `Err` is the reason for which [`Connection::answer`] refuses the answer; the pair stays
+    /// as it was then.
     pub fn answer(
         &mut self,
         alloc: Global,
@@ -139,7 +141,7 @@ impl Pair {
         self.at(side).close(alloc, now);
     }
 
-    /// The message that waits for the program at this side, once: an answer, or a call. `None` where none waits.
+    /// Hands the program at this side the message that waits for it, an answer or a call. Each is handed once. `None` where none waits.
     pub fn take_message(&mut self, alloc: Global, now: u64, side: Side) -> Option<PiecedMessage>
         ensures message { result ≡ waiting_message (connection_at self.old side).conversation.side }
         ensures steps { IfSome result (λ m. Steps self.old self.new side (one_message_more m) []) }
@@ -150,7 +152,7 @@ impl Pair {
         self.at(side).take_message(alloc, now)
     }
 
-    /// Why the connection at this side is closed, once.
+    /// Tells the program at this side, once, why the connection there is closed. `None`: the connection is open, or the program was told.
     pub fn take_why(&mut self, side: Side) -> Option<Why>
         ensures steps { Steps self.old self.new side no_more [] }
         ensures why { result ≡ (if (connection_at self.old side).told then None else (connection_at self.old side).closed) }
@@ -179,8 +181,8 @@ impl Pair {
         self.at(side).act(now)
     }
 
-    /// The next packet that is to go out at this side. `None` where there is none, until something is done again. The only error is want
-    /// of memory: what is to go out stays so.
+    /// Gives the next packet that is to go out at this side. `None`: there is none, until something is done again. The only error is want of
+    /// memory; what was to go out is then still to go out.
     pub fn next_packet(
         &mut self,
         alloc: Global,
@@ -199,8 +201,8 @@ impl Pair {
         self.at(side).next_packet(alloc, now)
     }
 
-    /// Takes in bytes that came to this side; whether they are a packet of the connection there. Where memory is refused it is as if they were
-    /// lost.
+    /// Takes in bytes that came to this side, and returns whether they are a packet of the connection there. The only error is want of memory:
+    /// the bytes then count as lost.
     pub fn receive(
         &mut self,
         alloc: Global,

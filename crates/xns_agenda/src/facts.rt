@@ -1,6 +1,6 @@
 //! What the agenda has to know of a connection.
 
-/// What a host has to know of a connection, beside what it says.
+/// What the agenda has to know of a connection.
 #[derive(Clone, Copy, Debug, PartialEq, Eq)]
 pub struct Facts {
     /// When something is due by the time alone, in milliseconds.
@@ -9,9 +9,9 @@ pub struct Facts {
     pub has_packet: bool,
     /// Whether there may be something to tell the program.
     pub has_event: bool,
-    /// Since when it lingers: it is closed, and the program was told.
+    /// Since when the connection lingers, if it is closed and the program was told that.
     pub lingers_since: Option<u64>,
-    /// Since when its peer is silent, which opened it and said no more: nothing came of it yet.
+    /// When the peer was last heard, if it opened the connection, has not confirmed it, and the program had no event of it.
     pub stranger_since: Option<u64>,
 }
 
