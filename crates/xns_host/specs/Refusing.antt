@@ -33,7 +33,7 @@ pub record TellsRefusal (reason : Option Refusal) (result : Result (Unit {0}) Ho
 
 -- ---- whatever is there
 
--- it is the broadcast host's, which is every host
+-- an address of the broadcast host, which is every host
 abbrev pub is_every_host : Address → Bool
 is_every_host a = bytes_eq a.host broadcast
 
@@ -44,7 +44,7 @@ wrong_ends own peer =
     else if own.socket == 0 || peer.socket == 0 then Some NoSocket
     else None
 
--- its lowest version is above its highest
+-- a program whose lowest version is above its highest
 abbrev pub has_no_version : Program → Bool
 has_no_version p = nat_lt p.highest p.lowest
 

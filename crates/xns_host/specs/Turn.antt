@@ -26,7 +26,7 @@ use Rattle.xns_host.specs.declared.services.Services.{Services}
 
 -- ---- what is beside the connections
 
--- this time was told, and nothing but connections and what is to be done of them changed
+-- the host was told the time, and nothing but connections and what is to be done of them changed
 pub record Frame (now : ℕ) (old new : Host) : Type 0 where
   pub clock : new.clock ≡ told_at old.clock now
   pub network : new.network ≡ old.network
@@ -38,7 +38,7 @@ pub record Frame (now : ℕ) (old new : Host) : Type 0 where
 
 -- ---- a turn
 
--- this was done at the connection with this number, at this time, and nothing else; where it was refused, nothing was done
+-- one deed was done at the connection with a number, and nothing else; where it was refused, nothing was done
 pub record Turn (now number : ℕ) (deed : Deed) (result : Result (Unit {0}) HostFault) (old new : Host) : Type 0 where
   pub went : OnOk result (Went (time_at old.clock now) deed (slice_get old.guests.items number) (slice_get new.guests.items number))
   pub apart : IsApart old.guests.items new.guests.items number
@@ -85,7 +85,7 @@ whole_of h = record {
   places = places_of h;
 }
 
--- this time was told, and then this came of the bytes
+-- the host was told the time, and then the bytes came to it
 pub record TakesIn (now way : ℕ) (bytes : List ℕ) (result : Bool) (old new : Host) : Type 0 where
   pub clock : new.clock ≡ told_at old.clock now
   pub comes : Arrives (time_at old.clock now) way bytes (whole_of old) result (whole_of new)
