@@ -1,6 +1,5 @@
 -- One step of a host: what was done at the connection with a number, and all that it leaves as it was.
-use Rattle.std.specs.Prelude.{◌≡◌, ◌⊎◌, ℕ, Bool, List, [], ◌∷◌, Option, Some, None, Result, Ok, Err, IfOk, OnOk, OnErr, slice_get, slice_set, true}
-use Rattle.std.specs.BTreeMap.{btree_map_len}
+use Rattle.std.specs.Prelude.{◌≡◌, ℕ, Bool, List, [], ◌∷◌, Option, Some, None, Result, Ok, Err, IfOk, OnOk, OnErr, slice_get, slice_set, true}
 use Rattle.courier_sessions.specs.declared.program.Program.{Program}
 use Rattle.xns_idp.specs.declared.address.Address.{Address}
 use Rattle.xns_agenda.specs.Clock.{time_at, told_at, when_told}
@@ -12,7 +11,7 @@ use Rattle.xns_host.specs.Identifiers.{StaysInOrder, TurnsOver}
 use Rattle.xns_host.specs.Places.{ActsAll, NextEvent, NextPacket, Places, Turns, places_with, taken_by, vacated}
 use Rattle.xns_host.specs.Refusing.{wrong_service}
 use Rattle.xns_host.specs.Registered.{HasLeft}
-use Rattle.xns_host.specs.Services.{Serves, most_services, programs_at}
+use Rattle.xns_host.specs.Services.{Serves}
 use Rattle.xns_host.specs.Standing.{StaysSetUpAt}
 use Rattle.xns_host.specs.Went.{GuestTagged, Went}
 use Rattle.xns_host.specs.Whole.{Whole}
@@ -20,7 +19,7 @@ use Rattle.xns_host.specs.declared.event.Event.{Event}
 use Rattle.xns_host.specs.declared.guest.Guest.{Guest}
 use Rattle.xns_host.specs.declared.host.Host.{Host}
 use Rattle.xns_host.specs.declared.host_fault.HostFault.{HostFault}
-use Rattle.xns_host.specs.declared.host_fault.HostFault.TheVariants.{NoMemory, TooManyServices}
+use Rattle.xns_host.specs.declared.host_fault.HostFault.TheVariants.{NoMemory}
 use Rattle.xns_host.specs.declared.outgoing.Outgoing.{Outgoing}
 use Rattle.xns_host.specs.declared.services.Services.{Services}
 
@@ -139,14 +138,10 @@ pub record ServesAt (socket : ℕ) (programs : List Program) (result : Result (U
   pub rest : whole_of new ≡ record (whole_of old) { services = new.services }
   pub clock : new.clock ≡ old.clock
 
--- a service is refused where the socket or a program is wrong, where so many other sockets are served, or where memory is refused
+-- a service is refused where it is wrong, for that reason, or else for want of memory
 pub record ServesNot (old : Host) (socket : ℕ) (programs : List Program) (result : Result (Unit {0}) HostFault) : Type 0 where
-  pub wrong : (f : HostFault) → wrong_service socket programs ≡ Some f → result ≡ Err f
-  pub full : wrong_service socket programs ≡ None → result ≡ Err TooManyServices
-      → (programs_at old.services.programs socket ≡ None) × (btree_map_len old.services.programs ≡ most_services)
-  pub room : wrong_service socket programs ≡ None → programs_at old.services.programs socket ≡ None
-      → btree_map_len old.services.programs ≡ most_services → result ≡ Err TooManyServices
-  pub fault : OnErr result (wrong_service socket programs ≡ None → (result ≡ Err TooManyServices) ⊎ (result ≡ Err NoMemory))
+  pub wrong : (f : HostFault) → wrong_service old.services.programs socket programs ≡ Some f → result ≡ Err f
+  pub memory : OnErr result (wrong_service old.services.programs socket programs ≡ None → result ≡ Err NoMemory)
 
 -- ---- a connection of ours
 
