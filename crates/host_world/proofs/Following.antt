@@ -45,7 +45,7 @@ pub record Still (old new : Option (Option Guest)) : Type 0 where
 pub at_once : (g : Guest) → LeadsOn g g no_more []
 at_once g a b programs m side meets here = record { next = m; meets = meets; same = here; does = stays_so m side }
 
--- so did one that has the same conversation
+-- a connection whose conversation is as it was leads the meeting nowhere
 pub same_goes : (g h : Guest) → h.connection.conversation ≡ g.connection.conversation → LeadsOn g h no_more []
 same_goes g h same a b programs m side meets here = record { next = m; meets = meets; same = here ∙ sym same; does = stays_so m side }
 

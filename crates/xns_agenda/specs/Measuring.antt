@@ -46,7 +46,7 @@ abbrev pub half_time : Option Smoothed → Pace → ℕ
 half_time None pace = pace.least - pace.least / 2
 half_time (Some s) pace = s.time8 / 8 - s.time8 / 8 / 2
 
--- so much time has passed since something went out again that the peer may have acknowledged what went out again
+-- the time that has passed since something went out again is one in which the peer may have acknowledged what went out again
 abbrev pub is_expected : Option Smoothed → Pace → (passed : ℕ) → Bool
 is_expected o pace passed = nat_le (half_time o pace) passed && nat_le passed (expected o pace)
 

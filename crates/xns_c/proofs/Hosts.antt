@@ -44,7 +44,7 @@ is_put p old new had written way via number given is = elim (cases_lt (length ol
   | inr fits ↦ absurd (omega (arith, is, (given.0 fits).0))
 ]
 
--- the same of a packet
+-- how a packet is fetched from a host
 pub packet_fetched : (k n m : KeptHost) (now : ℕ) (p : Outgoing) (done : Result (Unit {0}) HostFault) (old new : List ℕ) (had written way via number : ℕ)
     → n.packet ≡ Some p → ((x : Outgoing) → k.packet ≡ Some x → n ≡ k) → (k.packet ≡ None → GivesOut now (answer_of done n.packet) k.host n.host) → done ≡ Ok tt
     → n.event ≡ k.event → GivesPacket (Some p) old new had written way via number
@@ -63,7 +63,7 @@ packet_fetched k n m now p done old new had written way via number there kept gi
   event = same ∙ event;
 }
 
--- it had room
+-- a packet was given to a buffer that had room for it
 pub packet_put : (p : Outgoing) (b old new : List ℕ) (had written way number : ℕ) → b ≡ p.packet → number ≢ short_buffer
     → (length b ≤ length old → (number ≡ ok) × IsPut b old new written) → (length old < length b → (number ≡ short_buffer) × (written ≡ length b))
     → GivesPacket (Some p) old new had written way p.via number
@@ -72,7 +72,7 @@ packet_put p b old new had written way number is room put short = (
   λ none. absurd (room (subst (λ (x : List ℕ). length old < length x → (number ≡ short_buffer) × (written ≡ length x)) is short none).0),
 )
 
--- it had none
+-- a packet was not given to a buffer that was too short
 pub packet_short : (p : Outgoing) (b old new : List ℕ) (had written way number : ℕ) → b ≡ p.packet → number ≡ short_buffer
     → (length b ≤ length old → (number ≡ ok) × IsPut b old new written) → (length old < length b → (number ≡ short_buffer) × (written ≡ length b))
     → (length old < length b → new ≡ old) → GivesPacket (Some p) old new had written way way number

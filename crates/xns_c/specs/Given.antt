@@ -15,7 +15,7 @@ as_byte flag = if flag then 1 else 0
 abbrev pub IsPut : {A : Type 0} → List A → List A → List A → ℕ → Type 0
 IsPut items before after size = (size ≡ length items) × (after ≡ items ++ drop (length items) before)
 
--- the same for bytes that may be there
+-- bytes that may not be there are put to the front of a buffer
 abbrev pub IsPutIfThere : Option (List ℕ) → List ℕ → List ℕ → ℕ → Type 0
 IsPutIfThere None before after size = (size ≡ 0) × (after ≡ before)
 IsPutIfThere (Some bytes) before after size = IsPut bytes before after size

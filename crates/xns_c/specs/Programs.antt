@@ -114,7 +114,7 @@ BytesAreGiven bytes old new written result =
     (length bytes ≤ length old → (result ≡ ok) × IsPut bytes old new written)
     × (length old < length bytes → (result ≡ short_buffer) × (written ≡ length bytes) × (new ≡ old))
 
--- the same where there may be none
+-- what is answered where bytes that may not be there are to be given
 abbrev pub GivesBytes : Option (List ℕ) → List ℕ → List ℕ → ℕ → ℕ → ℕ → Type 0
 GivesBytes (Some bytes) old new had written result = BytesAreGiven bytes old new written result
 GivesBytes None old new had written result = (result ≡ nothing) × (new ≡ old) × (written ≡ had)
@@ -158,7 +158,7 @@ TableIsGiven ns nodes after names names_after sizes result =
     × ((length nodes < length (nodes_given 0 ns)) ⊎ (length names < length (names_given ns)) →
     (result ≡ short_buffer) × (sizes ≡ (length (nodes_given 0 ns), length (names_given ns))) × (after ≡ nodes) × (names_after ≡ names))
 
--- the same where there may be no program; its number and version are told only with its table
+-- what is answered where the table of a program that may not be there is to be given; number and version are told only with the table
 abbrev pub GivesTable : Option Program → ℕ × ℕ → ℕ × ℕ → List XnsNode → List XnsNode → List ℕ → List ℕ → ℕ × ℕ → ℕ × ℕ → ℕ → Type 0
 GivesTable (Some p) was told nodes after names names_after had sizes result =
     TableIsGiven (program_nodes (resolved_model p)) nodes after names names_after sizes result

@@ -213,7 +213,7 @@ same_reads side other c stops calls =
     ap (λ (b : Bool). b || ((c.end_sent && is_called other) || (c.reply_sent || c.deaf))) stops
     ∙ ap (λ (b : Bool). is_stopped side || ((c.end_sent && b) || (c.reply_sent || c.deaf))) calls
 
--- it does not change whether what comes is read
+-- a deed does not change whether what comes is read
 pub done_drains : (deed : Deed) (x : Scene) → drains (done deed x).side (done deed x).closing ≡ drains x.side x.closing
 done_drains nothing x = refl
 done_drains asked x = refl

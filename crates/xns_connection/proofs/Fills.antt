@@ -176,7 +176,7 @@ record HasRejected (said : List Item) (s : State) (side : Side) (h : Story) : Ty
   goes : GoesOn (at_end s h) (at_end s story)
   still : is_stopped side ≡ false
 
--- so it is of any side that is called
+-- what is behind does not tell one called side from another
 behind_too : (said : List Item) (a b : Answering) → Behind said (Answers a) → Behind said (Answers b)
 behind_too [] a b h = tt
 behind_too (x ∷ xs) a b h = absurd h
@@ -274,7 +274,7 @@ has_refused {said} {s} {v} {next} {h} e p = record {
   short = λ is. let same : e ≡ NoMemory = cc in ap is_stopped (p.stops.1 same) ∙ p.still;
 }
 
--- it went on before
+-- a conversation that goes on behind what went on before
 after_all : {said : List Item} {s v w : State} {r : Result (Unit {0}) FeedRefusal} {next : Side} {h m : Story} → GoesOn (at_end s h) (at_end v m)
     → HasConversed said v w r next m → HasConversed said s w r next h
 after_all {s = s} {v = v} {w = w} {r = Ok u} {h = h} {m = m} g p = record {

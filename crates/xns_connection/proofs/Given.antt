@@ -220,7 +220,7 @@ module _ (law : AStepKeepsItsPromises) (stay : OtherStepsAcceptAndHandUpNothing)
   abbrev Beside : Type 0
   Beside = (new.conversation.side ≡ mid.conversation.side) × (new.conversation.closing ≡ mid.conversation.closing)
 
-  -- it was given
+  -- a packet was given, or none
   abbrev Gave : Option (List ℕ) → Type 0
   Gave p = (s : State) → StandsFor mid.conversation.endpoint s → GivesAs (next_unless dead (from s)) p new.conversation new.owed
 

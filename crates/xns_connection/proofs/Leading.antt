@@ -131,7 +131,7 @@ module _ (next : TheNextItemIsHandedUp) (gives : CallerGives) (feeds_one : Calle
 
 -- ---- the side that calls, where nothing of it is out
 
--- it put out all this and no more, and its end accepted these items
+-- a side that calls put out all that it was given and no more, and its end accepted these items
 pub record CallerDone (made : List RawCall) (handed : List Message) (given accepted : List Item) (y : Talk × State) : Type 0 where
   pub done : HasDone made (take y.1.handed y.1.taken) given handed y.0
   pub out : y.0.out ≡ []

@@ -64,14 +64,14 @@ next_wanted (Err e) t0 t o0 o first wants = λ s stands.
     subst (λ (a : Option (List ℕ)). is_some (else_newer a y.1).0 ≡ true) g.0
     (subst (λ (x : Giving). is_some (newer x).0 ≡ true) (giving_at g.1) (wants y.1.state g.1.stands))
 
--- it was given by a connection that is not dead
+-- what a living connection gave
 pub next_alive : (r : Result (Option (List ℕ)) AllocError) (dead : Bool) (t u : Conversation) (o v : Owed) → dead ≡ false
     → IfOk r (λ p. (s : State) → StandsFor t.endpoint s → GivesAs (next_of (giving t o s)) p u v)
     → IfOk r (λ p. (s : State) → StandsFor t.endpoint s → GivesAs (next_unless dead (giving t o s)) p u v)
 next_alive r true t u o v alive gave = absurd (cc)
 next_alive r false t u o v alive gave = gave
 
--- and by one that is dead none was
+-- a dead connection gives nothing
 pub none_dead : (dead : Bool) (t : Conversation) (o : Owed) (s : State) → dead ≡ true → StandsFor t.endpoint s
     → GivesAs (next_unless dead (giving t o s)) None t SILENT
 none_dead true t o s is stands = (refl, record { stands = stands; packets = refl; owed = refl })

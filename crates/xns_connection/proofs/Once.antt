@@ -17,7 +17,7 @@ use Rattle.xns_connection.proofs.Leading.{stopped_by}
 
 -- ---- steps of which there is one at most
 
--- so many steps lead from one to the other
+-- one thing leads to another by a number of steps
 data Steps {X : Type 0} (R : X → X → Type 0) (x : X) : X → Type 0 where
   none : Steps R x x
   more : {y z : X} → Steps R x y → R y z → Steps R x z

@@ -42,7 +42,7 @@ begins_get {X} xs ys k x b h = subst (λ (l : List X). slice_get l k ≡ Some x)
 begins_filter : {X : Type 0} (p : X → Bool) (xs ys : List X) → Begins xs ys → Begins (filter p xs) (filter p ys)
 begins_filter p xs ys b = (filter p b.0, sym (filter-append p xs b.0) ∙ ap (filter p) b.1)
 
--- it begins the front, or it has the first element behind that
+-- a list that begins another begins its front, or has the first element behind that
 front_or_more : {X : Type 0} (xs ys zs : List X) → Begins xs (ys ++ zs) → (Begins xs ys) ⊎ ((z : X) × (more : List X) × (zs ≡ z ∷ more) × Begins (ys ++ z ∷ []) xs)
 front_or_more [] ys zs b = inl (ys, refl)
 front_or_more (x ∷ xs) [] zs b = inr (x, xs ++ b.0, sym b.1, (xs, refl))

@@ -18,7 +18,7 @@ front_get [] ys k x e = absurd (cc)
 front_get (z ∷ xs) ys zero x e = e
 front_get (z ∷ xs) ys (suc k) x e = front_get xs ys k x e
 
--- it stands in the front, or is the last one
+-- an element of a list stands in its front, or is its last one
 pub front_or_last : {X : Type 0} (xs : List X) (x : X) (k : ℕ) (y : X) → slice_get (xs ++ x ∷ []) k ≡ Some y → (slice_get xs k ≡ Some y) ⊎ ((k ≡ length xs) × (x ≡ y))
 front_or_last [] x zero y e = inr (refl, let f = e in cc)
 front_or_last [] x (suc k) y e = absurd (cc)

@@ -36,7 +36,7 @@ led kind first r next end p = (
   record { last = p.last.0; leads = p.leads; settled = p.settled; fits = p.stands.fits },
 )
 
--- it is some history of the end
+-- some history of the end has the property
 abbrev pub Reached : Held → (State → Type 0) → Type 0
 Reached end P = (v : State) × StandsFor end v × P v
 

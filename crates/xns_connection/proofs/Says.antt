@@ -70,7 +70,8 @@ follows_then {x} {y} {z} p q = record {
   still = λ free. let same = q.still free in same ∙ p.still (subst (λ (w : Scene). drains w.side w.closing ≡ false) same free);
 }
 
--- the same; but where the second reads on, only an item was put out, at most, behind which nothing of the side moves
+-- what the one scene says, the other says; but where the second reads on, only an item was put out, at most, behind which nothing of the side
+-- moves
 pub record EndsSo (x y : Scene) : Type 0 where
   pub says : (h : Story) → Says x h → Says y h
   pub runs : Runs x.state y.state
@@ -146,7 +147,7 @@ noting_fewer next x None is =
     subst (λ (s : State). waiting_count s ≤ waiting_count x.state - 1) (next.none x.state is) few
 noting_fewer next x (Some item) is = one_fewer next x.state (Some item) is
 
--- so many are
+-- of a scene that drains, so many items were taken
 record Takes (n : ℕ) (x y : Scene) : Type 0 where
   follows : Follows x y
   drain : drains y.side y.closing ≡ true
@@ -180,7 +181,7 @@ closes_not x = record { follows = follows_not x; deaf = refl }
 closes_then : {x y z : Scene} → Closes x y → Closes y z → Closes x z
 closes_then p q = record { follows = follows_then p.follows q.follows; deaf = q.deaf ∙ p.deaf }
 
--- the same, where the second may read on behind End
+-- as `ClosesThen`, where the second scene may read on behind End
 pub record ClosesSo (x y : Scene) : Type 0 where
   pub follows : EndsSo x y
   pub deaf : y.closing.deaf ≡ x.closing.deaf
@@ -375,7 +376,7 @@ replies_by law x false o may ok = record { closes = closes_not x; said = λ agai
 replies : ItemsAreAcceptedOrChangeNothing → (x : Scene) → PutsReply x (replied x)
 replies law x = replies_by law x (may_reply x) (is_ok (send_answer x.state (closing_item end_reply_stream))) refl refl
 
--- it is put out only where what comes is looked at for that alone
+-- EndReply is put out only where what comes is looked at for the peer's EndReply alone
 reply_drains : (x : Scene) (m o : Bool) → may_reply x ≡ m
     → (let y : Scene = if m && o then record x { closing = record x.closing { reply_sent = true }; state = after_send x.state (closing_item end_reply_stream) } else x in drains y.side y.closing)
     ≡ drains x.side x.closing

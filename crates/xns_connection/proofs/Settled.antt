@@ -280,7 +280,7 @@ how_drained (good u mid) d = closed_drained mid d
 how_drained (short mid) d = d
 how_drained (bad e mid other) d = closed_drained (deafened mid) (deaf_drained mid)
 
--- so does a conversation
+-- a conversation whose scene settled drains still
 pub still_drained : (t : Conversation) (x to : Scene) (r : Result (Unit {0}) FeedRefusal) → IsAt t to → Settles x r to → drains x.side x.closing ≡ true
     → drains t.side t.closing ≡ true
 still_drained t x to r at k d =

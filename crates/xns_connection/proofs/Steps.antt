@@ -33,7 +33,7 @@ pub then_kept : (now : ℕ) (t : Conversation) (r : Result (Unit {0}) FeedRefusa
 then_kept now t r None w some = absurd (cc)
 then_kept now t r (Some y) w some = record { why = λ s stands. refl; stays = λ z. refl; is = refl; waits = λ s stands. refl; steps = still }
 
--- it is closed now
+-- a connection that is closed by the step
 pub then_shut : (now : ℕ) (t : Conversation) (r : Result (Unit {0}) FeedRefusal) (was closed : Option Why) (w : Waiting) → is_some was ≡ false
     → is_some closed ≡ true → ((s : State) → StandsFor t.endpoint s → closed ≡ why_after t.closing (is_over t.closing s) r)
     → ClosesThen now t r (given_up t) was closed w (lingering w now)
@@ -42,7 +42,7 @@ then_shut now t r None None w none some why = absurd (cc)
 then_shut now t r None (Some y) w none some why =
     record { why = why; stays = λ z. absurd (z refl); is = refl; waits = λ s stands. refl; steps = close still }
 
--- it is not
+-- a connection that is open behind the step
 pub then_open : (now : ℕ) (t : Conversation) (r : Result (Unit {0}) FeedRefusal) (was why : Option Why) (w v : Waiting) → is_some was ≡ false
     → is_some why ≡ false → ((s : State) → StandsFor t.endpoint s → why ≡ why_after t.closing (is_over t.closing s) r)
     → ((s : State) → StandsFor t.endpoint s → v ≡ after_step w (waits s) (wants_answer t.side) now) → StepsAt now w v → ClosesThen now t r t was was w v

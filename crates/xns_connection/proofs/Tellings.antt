@@ -221,7 +221,7 @@ beside e f stream is = subst (λ (g : Closing). Beside e g) (sym is) (beside_by 
 
 -- ---- packets out
 
--- so do the end, the side and what was put out
+-- a conversation is told as before where its end, its side and what was put out are as they were
 pub marks : (t u : Conversation) → u.side ≡ t.side → (EndsLast t.side t.closing → EndsLast u.side u.closing) → closing_items u.closing ≡ closing_items t.closing → KnowsToo t.closing u.closing → (drains u.side u.closing ≡ false → drains t.side t.closing ≡ false) → (t.closing.wanted ≡ true → u.closing.wanted ≡ true) → u.endpoint ≡ t.endpoint → Goes t u
 marks t u same last closing too still wanted stay = goes_by t u same still wanted (λ s stands.
     (s, same_said t u s s last closing too refl refl refl (subst (λ (e : Held). StandsFor e s) (sym stay) stands), start))

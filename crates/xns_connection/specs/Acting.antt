@@ -20,6 +20,6 @@ pub data Acts (c : Conversation) (h : Story) (l : Deeds) : Story → Deeds → T
       → Acts c h l (record h { answers = h.answers ++ answer_message kind k words ∷ [] })
       (record l { gave = l.gave ++ answer_message kind k words ∷ [] })
 
--- this story is one of the connection, in which the program did this
+-- a story is one of the connection, in which the program did these deeds
 abbrev pub IsTold : (programs : Option (List Program)) (start : State) → Conversation → Deeds → Story → Type 0
 IsTold programs start c l h = (lived : IsLived programs start c l) × (lived.story ≡ h)

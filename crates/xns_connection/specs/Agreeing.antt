@@ -21,7 +21,7 @@ handed_up h = take h.state.handed h.state.taken
 
 -- a connection that calls
 pub record HasCalled (closing : Closing) (h : Story) : Type 0 where
-  -- its end accepted the versions and the calls made, in order, as far as they are out, and the closing items behind
+  -- the end accepted the versions and the calls made, in order, as far as they are out, and the closing items behind
   pub accepted : h.given ++ closing_items closing ≡ h.state.accepted
   pub given : Begins h.given (caller_items h.made)
   -- the program was handed the messages that the items handed up say, in order, each once
@@ -33,7 +33,7 @@ pub record HasCalled (closing : Closing) (h : Story) : Type 0 where
 
 -- a connection that is called for these programs
 pub record HasServed (programs : List Program) (closing : Closing) (h : Story) : Type 0 where
-  -- its end accepted the versions and the answers, in order, as far as they are out, and the closing items behind
+  -- the end accepted the versions and the answers, in order, as far as they are out, and the closing items behind
   pub accepted : h.given ++ closing_items closing ≡ h.state.accepted
   pub given : Begins h.given (items_of h.answers)
   -- the calls taken are the messages that the items handed up say, in order, each once

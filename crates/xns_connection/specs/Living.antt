@@ -33,7 +33,7 @@ GoesFrom old new base = (h : Story) → Tells old h → (m : Story) × Tells new
 -- those that can be called, or none where the connection calls
 pub data Lives (programs : Option (List Program)) (start : State) : Conversation → Deeds → Type 0 where
   opens : {c : Conversation} → Tells c (new_story programs start) → Lives programs start c no_deeds
-  -- it gives packets, moves items, is closed or given up
+  -- the conversation gives packets, moves items, is closed or given up
   goes : {c d : Conversation} {l : Deeds} → Lives programs start c l → Goes c d → Lives programs start d l
   -- a packet comes
   hears : {c d : Conversation} {l : Deeds} → Lives programs start c l → (bytes : List ℕ) → Hears c d bytes → Lives programs start d l
@@ -76,6 +76,6 @@ pub record ProgramsAgree (programs : List Program) (here there : Deeds) : Type 0
   pub calls : Begins there.handed (filter (is_listed programs) (made_messages 1 here.made))
   -- the other was handed the answers that the one gave to them, in order, as far as they came
   pub answers : Begins (to_listed programs (made_messages 1 here.made) here.handed) there.gave
-  -- and a reject for each call that is not listed
+  -- the program was handed a reject for each call that is not listed
   pub rejects : (k : ℕ) (call : Message) (u : Unlisted) (m : Message) → slice_get (made_messages 1 here.made) k ≡ Some call
       → why_unlisted programs call ≡ Some u → slice_get here.handed k ≡ Some m → m ≡ reject_message (transaction_in call) u

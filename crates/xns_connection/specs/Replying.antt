@@ -20,11 +20,11 @@ is_missing s number = is_out s number && is_out s ((number + 1) % field_round)
 abbrev pub reply_of : State → Header → Option ℕ
 reply_of s h = if is_reply h && is_missing s h.acknowledge then Some h.allocation else None
 
--- the same of a packet that was read, if one was
+-- the allocation number of a reply that was read, if the packet is one
 abbrev pub reply_in : State → Result SppPacketModel Dropped → Option ℕ
 reply_in s (Err d) = None
 reply_in s (Ok p) = reply_of s p.header
 
--- the same of bytes
+-- the allocation number of a reply that bytes spell, if they spell one
 abbrev pub reply_by : State → List ℕ → Option ℕ
 reply_by s b = reply_in s (spp_packet_of b)

@@ -25,7 +25,7 @@ use Rattle.xns_connection.specs.declared.owed.TheConstants.Owed.{NONE, SILENT}
 
 -- ---- a new connection
 
--- it was made at this time, with this pace: nothing was said in it, nobody closes it, its side reads, it is open, and owes nothing but, where
+-- a connection that was made now: nothing was said in it, nobody closes it, its side reads, it is open, and owes nothing but, where
 -- its side calls, its opening packet
 pub record IsMade (pace : Pace) (now : ℕ) (again : Bool) (c : Connection) : Type 0 where
   pub silent : c.conversation.packets.items ≡ []

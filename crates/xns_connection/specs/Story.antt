@@ -92,7 +92,7 @@ abbrev pub is_called : Side → Bool
 is_called (Calls t) = false
 is_called (Answers a) = true
 
--- it owes the peer an answer: a call waits to be handed, or for its answer, or the answer is to go out
+-- the side owes the peer an answer: a call waits to be handed, or for its answer, or the answer is to go out
 abbrev pub owes_answer : Side → Bool
 owes_answer (Calls t) = false
 owes_answer (Answers a) = is_busy a

@@ -158,7 +158,7 @@ record WillAct (now : ℕ) (c : Connection) (place : Option (Option Guest)) : Ty
   -- where it was forgotten, it had acted
   later : place ≡ Some None → IsDueAfter now next.wait.due
 
--- and each round leaves one place fewer in which something is due
+-- after so many rounds: what will be done at each connection, and each round left one place fewer in which something is due
 pub record SoFar (now : ℕ) (first gs : Places) (rounds : ℕ) : Type 0 where
   will : (k : ℕ) (g : Guest) → slice_get first k ≡ Some (Some g) → WillAct now g.connection (slice_get gs k)
   few : dues_in now gs + rounds ≤ length first

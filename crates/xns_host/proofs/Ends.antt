@@ -93,7 +93,7 @@ received_end s bytes is = decided_end s (decided s bytes) is
 
 -- ---- the end of a connection
 
--- its story went on
+-- a connection whose story went on fits its end still
 went : (g h : Guest) → known_of h ≡ known_of g → (e : FitsEnd g) → (m : Story) → Tells h.connection.conversation m → IsSameEnd e.story.state.ends m.state.ends
     → FitsEnd h
 went g h same e m told end =
@@ -126,7 +126,7 @@ hears_fits g h bytes same hears e =
     let ends : next.0.state.ends ≡ (after_receive e.story.state bytes).ends = run_ends next.2.path in
     went g h same e next.0 next.1 (subst (λ (x : Ends). IsSameEnd e.story.state.ends x) (sym ends) here)
 
--- its conversation is as it was
+-- a connection whose conversation is as it was fits its end still
 pub still_fits : (g h : Guest) → known_of h ≡ known_of g → h.connection.conversation ≡ g.connection.conversation → FitsEnd g → FitsEnd h
 still_fits g h same is e =
     went g h same e e.story (subst (λ (t : Conversation). Tells t e.story) (sym is) e.tells) (the_same e.story.state.ends e.story.state.ends refl)
@@ -155,7 +155,7 @@ or_first : (p q : Bool) → (p || q) ≡ true → q ≡ false → p ≡ true
 or_first true q is none = refl
 or_first false q is none = absurd (cc)
 
--- it is from the opener
+-- a packet to an end, from its peer, is from the opener of that end
 same_opener : (e : Ends) (p : SppPacketModel) → same_place p.target e.own ≡ true → from_peer e p ≡ true
     → peer_at p.source p.header.source_id p.target.socket ≡ opener_at e
 same_opener e p target from =

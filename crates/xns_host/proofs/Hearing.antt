@@ -54,7 +54,7 @@ opened_by : (b : Bool) (x y : Address × ℕ) → (if b then Some x else None) �
 opened_by true x y is = let same : x ≡ y = cc in (refl, same)
 opened_by false x y is = absurd (cc)
 
--- it is one of the end that it opens
+-- a packet that opens an end is one of that end
 pub of_opened : (network : ℕ) (host : List ℕ) (p : SppPacketModel) (opener : Address) (opener_id id window backlog : ℕ) → p.target.host ≡ host
     → opener_of p ≡ Some (opener, opener_id)
     → is_ours_at (responder_state (address_in network host p.target.socket) id opener opener_id window backlog).ends p ≡ true
@@ -91,7 +91,7 @@ pub spelled : {r : Result SppPacketModel Dropped} (bytes : List ℕ) (carrier : 
 unfolding spp_packet_of
 spelled bytes carrier taken m read carried is = ap carried_in read ∙ (sym carried ∙ is)
 
--- and the other way
+-- a packet of an internet packet that the bytes spell is the one that the bytes spell
 pub carries : (bytes : List ℕ) (carrier : PacketModel) (taken : ℕ) (p : SppPacketModel) → packet_of bytes ≡ Ok (carrier, taken)
     → spp_packet_of bytes ≡ Ok p → carried_by carrier ≡ Ok p
 unfolding spp_packet_of
@@ -121,7 +121,7 @@ pub found_is_named : (register : Register) (q : SppPacketModel) (peer : Peer) (f
 found_is_named register q peer found is finds =
     ap (λ (x : Peer). number_by register.identifiers register.peers q.header.target_id x) (sym is) ∙ sym finds
 
--- it has type 5
+-- an internet packet that carries a packet of the protocol has type 5
 carrier_kind : (carrier : PacketModel) (p : SppPacketModel) → carried_by carrier ≡ Ok p → (carrier.kind == 5) ≡ true
 carrier_kind carrier p is = by (carrier.kind == 5) is where
   by : (b : Bool) → (if b then with_header carrier (header_of carrier.body) else Err NotSpp) ≡ Ok p → b ≡ true

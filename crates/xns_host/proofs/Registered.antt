@@ -80,7 +80,7 @@ renamed_in r n (Some g) h same fits is =
     let at = is g refl in
     renamed r n g h names (∥∥₁_map at.fits (fits g refl)) at
 
--- it is there still, with what names it
+-- a connection whose names are as they were is there still
 still_in : (P : Known → Type 0) (old v : Option Guest) (g : Guest) → known_in v ≡ known_in old → old ≡ Some g → P (known_of g)
     → IsThere (λ h. P (known_of h)) (Some v)
 still_in P old None g same is has = let both = same ∙ ap known_in is in absurd (cc)
@@ -136,7 +136,7 @@ another r n k g h apart left right = record {
       apart e;
 }
 
--- its identifier is released; nobody has opened it, or who did leaves
+-- where the identifier of a connection is released, another connection keeps its own
 left_own : (r s : Register) (g h : Guest) (n : ℕ) → s.identifiers ≡ record r.identifiers { owners = slice_set r.identifiers.owners g.id None }
     → IsAnother g h → owner_in r.identifiers h.id ≡ Some n → owner_in s.identifiers h.id ≡ Some n
 left_own r s g h n released other is =
@@ -168,7 +168,7 @@ left_ids r s g id n released is (inl e) =
 left_ids r s g id n released is (inr other) =
     sym (get_or-set_other r.identifiers.owners g.id id None None other) ∙ sym (ap (λ (ids : Ids). owner_in ids id) released) ∙ is
 
--- and a peer that opened one had opened it
+-- a peer that the register has once an opener left, it had before
 left_peers : (m n : BTreeMap Peer ℕ) (opener o : Peer) (k : ℕ) (b : Bool) → Updates peer_cmp m n opener None → is_eq (peer_cmp opener o) ≡ b
     → get peer_cmp n o ≡ Some k → get peer_cmp m o ≡ Some k
 left_peers m n opener o k true u eq is =
@@ -233,7 +233,7 @@ none_left r place p there is = record {
   others = λ n g at other. at;
 }
 
--- it is another's, who stays
+-- what is there of another place stays there
 stays_there : (gs : Places) (n k : ℕ) (v : Option Guest) (P : Guest → Type 0) → IsThere P (slice_get gs k)
     → ((g : Guest) → slice_get gs n ≡ Some (Some g) → P g → ⊥) → (k ≡ n) ⊎ (k ≢ n) → IsThere P (slice_get (slice_set gs n v) k)
 stays_there gs n k v P at not (inl e) =

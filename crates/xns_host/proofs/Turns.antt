@@ -195,7 +195,7 @@ put_registered r gs n v all read = back_registered r gs n v v all refl read
 pub put_undone : (gs : Places) (n : ℕ) (v : Option Guest) → HasNoneDone gs → v ≡ get_or gs n v → HasNoneDone (slice_set gs n v)
 put_undone gs n v all read = back_undone gs n v v all refl read
 
--- and it was forgotten, if it was done
+-- where a connection that may go was forgotten, none that is done is left in a place
 pub settled_undone : (gs ks : Places) (x d : Plan) (n : ℕ) (old : Option Guest) (g h : Guest) (done : Bool) → HasNoneDone gs → old ≡ Some g
     → (may_go h.connection ≡ false → IsNotDone g.connection → IsNotDone h.connection) → n < length gs → old ≡ get_or gs n old → done ≡ may_go h.connection
     → places_with ks d ≡ vacated_if done (places_with (slice_set gs n (Some h)) x) n → HasNoneDone ks

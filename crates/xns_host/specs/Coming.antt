@@ -43,7 +43,7 @@ pub data Opens (now way : ℕ) (bytes : List ℕ) (p : SppPacketModel) (w : Whol
   starved : {register : Register} → StaysInOrder w.register.identifiers register.identifiers
       → Opens now way bytes p w register (lost_stray w.strays) w.places
 
--- these bytes came by this way at this time: they are no packet of the host, and nothing changes; or an Echo request, and the reply waits,
+-- what comes of bytes: they are no packet of the host, and nothing changes; or an Echo request, and the reply waits,
 -- where there is room; or an Error packet about a packet of ours; or they name a connection; or they open one
 pub data Comes (now way : ℕ) (bytes : List ℕ) (w : Whole) : Bool → Whole → Type 0 where
   foreign : (IsOurs w bytes → ⊥) → Comes now way bytes w false w
@@ -57,7 +57,7 @@ pub data Comes (now way : ℕ) (bytes : List ℕ) (w : Whole) : Bool → Whole �
   opens : (p : SppPacketModel) {register : Register} {strays : StrayQueue} {q : Places} → spp_packet_of bytes ≡ Ok p → IsOpener w p
       → Opens now way bytes p w register strays q → Comes now way bytes w true (record w { register = register; strays = strays; places = q })
 
--- these bytes came to the host: they are the host's. Or they are not, and nothing changes, but that the host complains of a sequenced packet
+-- bytes came to the host: they are the host's. Or they are not, and nothing changes, but that the host complains of a sequenced packet
 -- to a socket that it has, which nobody hears there
 pub data Arrives (now way : ℕ) (bytes : List ℕ) (w : Whole) : Bool → Whole → Type 0 where
   meant : {v : Whole} → Comes now way bytes w true v → Arrives now way bytes w true v

@@ -23,7 +23,7 @@ event_by number tag (Some m) why = Some (event_of number tag m)
 event_by number tag None (Some why) = Some (Closed number tag why)
 event_by number tag None None = None
 
--- that it is open is to be told: its peer has confirmed it, and nothing of it was told yet
+-- the program is to be told that the connection is open: the peer has confirmed it, and nothing of it was told yet
 abbrev pub is_newly_open : Guest → Bool
 is_newly_open g = g.opening_untold && g.confirmed
 

@@ -37,7 +37,7 @@ pub record IsIds (ahead : List ℕ) (owners : List (Option ℕ)) : Type 0 where
 abbrev pub is_free : List (Option ℕ) → ℕ → Bool
 is_free owners id = is_none (slice_index_or owners id None)
 
--- this one comes next: the first of those ahead that no connection has
+-- the identifier that comes next: the first of those ahead that no connection has
 pub record IsNext (ids : Ids) (id : ℕ) : Type 0 where
   pub place : ℕ
   pub first : position (is_free ids.owners) ids.ahead ≡ Some place
@@ -74,6 +74,6 @@ pub data Given : Ids → List Turn → Ids → Type 0 where
       → Given a (record { given = id; owners = a.owners } ∷ turns) c
   keeps : {a b c : Ids} {turns : List Turn} → StaysInOrder a b → Given b turns c → Given a turns c
 
--- this one was given then, or was in use
+-- an identifier was given in that turn, or was in use
 abbrev pub HadTurn : ℕ → Turn → Type 0
 HadTurn id turn = (turn.given ≡ id) ⊎ (is_free turn.owners id ≡ false)

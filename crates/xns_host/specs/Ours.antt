@@ -71,7 +71,8 @@ pub record AsksEcho (w : Whole) (p : PacketModel) : Type 0 where
   pub one_host : p.source.host ≢ broadcast
   pub request : IsAnswered (address_in w.network w.host echo_socket) p
 
--- these bytes are a packet that is the host's: an Echo request to it, or one of those
+-- bytes are a packet that is the host's: an Echo request to it, an Error packet about a packet of it, one that names a connection, or one
+-- that opens one
 pub data IsOurs (w : Whole) (bytes : List ℕ) : Type 0 where
   asks : (p : PacketModel) (taken : ℕ) → packet_of bytes ≡ Ok (p, taken) → AsksEcho w p → IsOurs w bytes
   quotes : (p : PacketModel) (taken : ℕ) → packet_of bytes ≡ Ok (p, taken) → QuotesOurs w p → IsOurs w bytes

@@ -23,7 +23,7 @@ pub record Places : Type 0 where
 abbrev pub places_with : List (Option Guest) → Plan → Places
 places_with guests agenda = record { guests = guests; agenda = agenda }
 
--- this connection is in this place, and what is to be done of it is noted
+-- a connection is put into a place, and what is to be done of it is noted
 abbrev pub seated : Places → ℕ → Guest → Places
 seated p number g = record { guests = slice_set p.guests number (Some g); agenda = noted p.agenda number (facts_of g) }
 

@@ -1,6 +1,9 @@
 -- What a host refuses, and what it tells where one of its connections refuses.
-use Rattle.std.specs.Prelude.{◌≡◌, ℕ, Bool, ◌||◌, ◌==◌, nat_lt, if◌then◌else◌, List, Option, Some, None, Result, Ok, Err}
+use Rattle.std.specs.Prelude.{◌≡◌, ℕ, Bool, ◌||◌, ◌&&◌, ◌==◌, nat_lt, if◌then◌else◌, List, Option, Some, None, is_none, Result, Ok, Err}
+use Rattle.std.specs.BTreeMap.{BTreeMap, btree_map_len}
+use Rattle.std.specs.Global.{Global}
 use Rattle.std.specs.List.{list_any}
+use Rattle.std.specs.declared.vec.Vec.{Vec}
 use Rattle.std.specs.Str.{bytes_eq}
 use Rattle.courier_sessions.specs.declared.program.Program.{Program}
 use Rattle.xns_idp.specs.Packet.{broadcast}
@@ -9,7 +12,8 @@ use Rattle.xns_connection.specs.Refusing.{Answers}
 use Rattle.xns_connection.specs.declared.refusal.Refusal.{Refusal}
 use Rattle.xns_connection.specs.declared.refusal.Refusal.TheVariants as refusals
 use Rattle.xns_host.specs.declared.host_fault.HostFault.{HostFault}
-use Rattle.xns_host.specs.declared.host_fault.HostFault.TheVariants.{Busy, PeerCalls, NoCall, Closing, TooLong, NoMemory, EveryHost, NoSocket, EchoSocket, NoVersion}
+use Rattle.xns_host.specs.declared.host_fault.HostFault.TheVariants.{Busy, PeerCalls, NoCall, Closing, TooLong, NoMemory, EveryHost, NoSocket, EchoSocket, NoVersion, TooManyServices}
+use Rattle.xns_host.specs.Services.{most_services, programs_at}
 use Rattle.xns_host.specs.Strays.{echo_socket}
 
 abbrev pub fault_of : Refusal → HostFault
@@ -33,7 +37,7 @@ pub record TellsRefusal (reason : Option Refusal) (result : Result (Unit {0}) Ho
 
 -- ---- whatever is there
 
--- it is the broadcast host's, which is every host
+-- an address of the broadcast host, which is every host
 abbrev pub is_every_host : Address → Bool
 is_every_host a = bytes_eq a.host broadcast
 
@@ -44,11 +48,14 @@ wrong_ends own peer =
     else if own.socket == 0 || peer.socket == 0 then Some NoSocket
     else None
 
--- its lowest version is above its highest
+-- a program whose lowest version is above its highest
 abbrev pub has_no_version : Program → Bool
 has_no_version p = nat_lt p.highest p.lowest
 
--- why programs are not served at a socket: it is Echo's, or one of them has no version
-abbrev pub wrong_service : ℕ → List Program → Option HostFault
-wrong_service socket programs =
-    if socket == echo_socket then Some EchoSocket else if list_any has_no_version programs then Some NoVersion else None
+-- why programs are not served at a socket: it is Echo's, or one of the programs has no version, or as many other sockets are served as may be
+abbrev pub wrong_service : BTreeMap ℕ (Vec Program Global) → ℕ → List Program → Option HostFault
+wrong_service services socket programs =
+    if socket == echo_socket then Some EchoSocket
+    else if list_any has_no_version programs then Some NoVersion
+    else if btree_map_len services == most_services && is_none (programs_at services socket) then Some TooManyServices
+    else None

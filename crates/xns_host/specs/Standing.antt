@@ -25,14 +25,14 @@ pub record IsNewHost (network : ℕ) (host : List ℕ) (settings : Settings) (se
   pub order : h.register.identifiers.ahead ≡ order_of (numbers most_id) secret
   pub unused : (id : ℕ) → is_free h.register.identifiers.owners id ≡ true
 
--- its address and its settings are as they were
+-- the address and the settings of the host are as they were
 abbrev pub IsSameHost : (old new : Host) → Type 0
 IsSameHost old new = (new.network ≡ old.network) × (new.host ≡ old.host) × (new.settings ≡ old.settings)
 
--- its address, its settings, what it serves and its clock are as they were
+-- the address and the settings of the host, what it serves and its clock are as they were
 abbrev pub StaysSetUp : (old new : Host) → Type 0
 StaysSetUp old new = IsSameHost old new × (new.services ≡ old.services) × (new.clock ≡ old.clock)
 
--- its address, its settings and what it serves are as they were, and this time was told
+-- the address and the settings of the host and what it serves are as they were, and it was told the time
 abbrev pub StaysSetUpAt : ℕ → (old new : Host) → Type 0
 StaysSetUpAt now old new = IsSameHost old new × (new.services ≡ old.services) × (new.clock ≡ told_at old.clock now)

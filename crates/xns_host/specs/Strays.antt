@@ -31,7 +31,7 @@ with_stray q s =
 abbrev pub lost_stray : StrayQueue → StrayQueue
 lost_stray q = record q { starved = true }
 
--- this packet is behind the others, where there is room; or memory was refused for it
+-- a packet is put behind the others, where there is room; or memory was refused for it
 abbrev pub MayHaveStray : StrayQueue → StrayQueue → Outgoing → Type 0
 MayHaveStray old new s = (new ≡ with_stray old s) ⊎ (new ≡ lost_stray old)
 

@@ -1,6 +1,5 @@
 -- One step of a host: what was done at the connection with a number, and all that it leaves as it was.
-use Rattle.std.specs.Prelude.{◌≡◌, ◌⊎◌, ℕ, Bool, List, [], ◌∷◌, Option, Some, None, Result, Ok, Err, IfOk, OnOk, OnErr, slice_get, slice_set, true}
-use Rattle.std.specs.BTreeMap.{btree_map_len}
+use Rattle.std.specs.Prelude.{◌≡◌, ℕ, Bool, List, [], ◌∷◌, Option, Some, None, Result, Ok, Err, IfOk, OnOk, OnErr, slice_get, slice_set, true}
 use Rattle.courier_sessions.specs.declared.program.Program.{Program}
 use Rattle.xns_idp.specs.declared.address.Address.{Address}
 use Rattle.xns_agenda.specs.Clock.{time_at, told_at, when_told}
@@ -12,7 +11,7 @@ use Rattle.xns_host.specs.Identifiers.{StaysInOrder, TurnsOver}
 use Rattle.xns_host.specs.Places.{ActsAll, NextEvent, NextPacket, Places, Turns, places_with, taken_by, vacated}
 use Rattle.xns_host.specs.Refusing.{wrong_service}
 use Rattle.xns_host.specs.Registered.{HasLeft}
-use Rattle.xns_host.specs.Services.{Serves, most_services, programs_at}
+use Rattle.xns_host.specs.Services.{Serves}
 use Rattle.xns_host.specs.Standing.{StaysSetUpAt}
 use Rattle.xns_host.specs.Went.{GuestTagged, Went}
 use Rattle.xns_host.specs.Whole.{Whole}
@@ -20,13 +19,13 @@ use Rattle.xns_host.specs.declared.event.Event.{Event}
 use Rattle.xns_host.specs.declared.guest.Guest.{Guest}
 use Rattle.xns_host.specs.declared.host.Host.{Host}
 use Rattle.xns_host.specs.declared.host_fault.HostFault.{HostFault}
-use Rattle.xns_host.specs.declared.host_fault.HostFault.TheVariants.{NoMemory, TooManyServices}
+use Rattle.xns_host.specs.declared.host_fault.HostFault.TheVariants.{NoMemory}
 use Rattle.xns_host.specs.declared.outgoing.Outgoing.{Outgoing}
 use Rattle.xns_host.specs.declared.services.Services.{Services}
 
 -- ---- what is beside the connections
 
--- this time was told, and nothing but connections and what is to be done of them changed
+-- the host was told the time, and nothing but connections and what is to be done of them changed
 pub record Frame (now : ℕ) (old new : Host) : Type 0 where
   pub clock : new.clock ≡ told_at old.clock now
   pub network : new.network ≡ old.network
@@ -38,7 +37,7 @@ pub record Frame (now : ℕ) (old new : Host) : Type 0 where
 
 -- ---- a turn
 
--- this was done at the connection with this number, at this time, and nothing else; where it was refused, nothing was done
+-- one deed was done at the connection with a number, and nothing else; where it was refused, nothing was done
 pub record Turn (now number : ℕ) (deed : Deed) (result : Result (Unit {0}) HostFault) (old new : Host) : Type 0 where
   pub went : OnOk result (Went (time_at old.clock now) deed (slice_get old.guests.items number) (slice_get new.guests.items number))
   pub apart : IsApart old.guests.items new.guests.items number
@@ -85,7 +84,7 @@ whole_of h = record {
   places = places_of h;
 }
 
--- this time was told, and then this came of the bytes
+-- the host was told the time, and then the bytes came to it
 pub record TakesIn (now way : ℕ) (bytes : List ℕ) (result : Bool) (old new : Host) : Type 0 where
   pub clock : new.clock ≡ told_at old.clock now
   pub comes : Arrives (time_at old.clock now) way bytes (whole_of old) result (whole_of new)
@@ -139,14 +138,10 @@ pub record ServesAt (socket : ℕ) (programs : List Program) (result : Result (U
   pub rest : whole_of new ≡ record (whole_of old) { services = new.services }
   pub clock : new.clock ≡ old.clock
 
--- a service is refused where the socket or a program is wrong, where so many other sockets are served, or where memory is refused
+-- a service is refused where it is wrong, for that reason, or else for want of memory
 pub record ServesNot (old : Host) (socket : ℕ) (programs : List Program) (result : Result (Unit {0}) HostFault) : Type 0 where
-  pub wrong : (f : HostFault) → wrong_service socket programs ≡ Some f → result ≡ Err f
-  pub full : wrong_service socket programs ≡ None → result ≡ Err TooManyServices
-      → (programs_at old.services.programs socket ≡ None) × (btree_map_len old.services.programs ≡ most_services)
-  pub room : wrong_service socket programs ≡ None → programs_at old.services.programs socket ≡ None
-      → btree_map_len old.services.programs ≡ most_services → result ≡ Err TooManyServices
-  pub fault : OnErr result (wrong_service socket programs ≡ None → (result ≡ Err TooManyServices) ⊎ (result ≡ Err NoMemory))
+  pub wrong : (f : HostFault) → wrong_service old.services.programs socket programs ≡ Some f → result ≡ Err f
+  pub memory : OnErr result (wrong_service old.services.programs socket programs ≡ None → result ≡ Err NoMemory)
 
 -- ---- a connection of ours
 

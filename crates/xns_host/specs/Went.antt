@@ -35,12 +35,12 @@ GuestTagged tag g h = h ≡ record g { tag = tag }
 
 -- ---- what comes
 
--- these bytes came, and the connection is confirmed where they confirm it
+-- bytes came to the connection, which is confirmed where they confirm it
 pub record GuestHeard (now : ℕ) (bytes : List ℕ) (confirming : Bool) (g h : Guest) : Type 0 where
   pub same : h ≡ record g { connection = h.connection; confirmed = confirming || g.confirmed }
   pub step : Step now (heard bytes) g.connection h.connection
 
--- these bytes came to the connection; or they bring an item for whose bytes memory was refused, and are as if lost
+-- bytes came to the connection; or they bring an item for whose bytes memory was refused, and are as if lost
 pub data GuestHears (now : ℕ) (bytes : List ℕ) (confirming : Bool) (g : Guest) : Guest → Type 0 where
   hears : {h : Guest} → GuestHeard now bytes confirming g h → GuestHears now bytes confirming g h
   lost : ((s : State) → StandsFor g.connection.conversation.endpoint s → StoresBytes s bytes) → GuestHears now bytes confirming g g

@@ -2,7 +2,7 @@
 
 ghost use Rattle.std.specs.Prelude.{◌≡◌};
 ghost use Rattle.std.specs.List.{list_any};
-ghost use Rattle.xns_host.specs.Refusing.{has_no_version, is_every_host, wrong_ends, wrong_service};
+ghost use Rattle.xns_host.specs.Refusing.{has_no_version, is_every_host, wrong_ends};
 
 use crate::host_fault::HostFault;
 use courier_sessions::Program;
@@ -39,23 +39,10 @@ pub fn wrong_ends(own: &Address, peer: &Address) -> Option<HostFault>
 }
 
 /// Whether one of these programs has its lowest version above its highest.
-fn lacks_version(programs: &[Program]) -> bool
+pub fn lacks_version(programs: &[Program]) -> bool
     ensures { result ≡ list_any has_no_version programs.now }
 {
     programs
         .iter()
         .any(|program| program.highest < program.lowest)
-}
-
-/// Why programs are not served at a socket. `None`: they may be.
-pub fn wrong_service(socket: u16, programs: &[Program]) -> Option<HostFault>
-    ensures { result ≡ wrong_service socket programs.now }
-{
-    if socket == ECHO_SOCKET {
-        return Some(HostFault::EchoSocket);
-    }
-    if lacks_version(programs) {
-        return Some(HostFault::NoVersion);
-    }
-    None
 }

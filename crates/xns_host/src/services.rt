@@ -1,14 +1,14 @@
 //! The sockets of a host: those at which connections are answered, and those from which it made some.
 
-ghost use Rattle.std.specs.Prelude.{◌≡◌, ◌≤◌, ◌⊎◌, ℕ, length, true, false, IfOk, OnOk, OnErr, Some, None, Err, option_map, slice_set};
+ghost use Rattle.std.specs.Prelude.{◌≡◌, ◌≤◌, ℕ, length, true, false, IfOk, OnOk, OnErr, Some, None, Err, option_map, slice_set};
 ghost use Rattle.std.specs.BTreeMap.{IsEmpty, btree_map_len};
 ghost use Rattle.xns_host.specs.Refusing.{wrong_service};
 ghost use Rattle.xns_host.specs.Services.{Serves, has_called, most_services, programs_at, sockets};
 ghost use Rattle.xns_host.specs.declared.host_fault.HostFault.{HostFault};
-ghost use Rattle.xns_host.specs.declared.host_fault.HostFault.TheVariants.{NoMemory, TooManyServices};
+ghost use Rattle.xns_host.specs.declared.host_fault.HostFault.TheVariants.{NoMemory};
 
 use crate::host_fault::HostFault;
-use crate::refusing::wrong_service;
+use crate::refusing::{lacks_version, ECHO_SOCKET};
 use courier_sessions::Program;
 use std::alloc::{AllocError, Global};
 use std::collections::BTreeMap;
@@ -52,6 +52,22 @@ impl Services {
         })
     }
 
+    /// Why these programs are not served at a socket. A `None`: they may be.
+    fn wrong(&self, socket: u16, programs: &[Program]) -> Option<HostFault>
+        ensures { result ≡ wrong_service self.now.programs socket programs.now }
+    {
+        if socket == ECHO_SOCKET {
+            return Some(HostFault::EchoSocket);
+        }
+        if lacks_version(programs) {
+            return Some(HostFault::NoVersion);
+        }
+        if self.programs.len() == MOST_SERVICES && !self.programs.contains_key(&socket) {
+            return Some(HostFault::TooManyServices);
+        }
+        None
+    }
+
     /// From now on connections to this socket are answered for these programs; where there are none, each call is handed. If the socket is
     /// served already, its list is replaced.
     ///
@@ -66,21 +82,13 @@ impl Services {
         programs: &[Program],
     ) -> Result<(), HostFault>
         ensures served { OnOk result (Serves self.old.programs self.new.programs socket programs.now) }
-        ensures wrong { (f : HostFault) → wrong_service socket programs.now ≡ Some f → result ≡ Err f }
-        ensures full { wrong_service socket programs.now ≡ None → result ≡ Err TooManyServices
-            → (programs_at self.old.programs socket ≡ None) × (btree_map_len self.old.programs ≡ most_services) }
-        ensures room { wrong_service socket programs.now ≡ None → programs_at self.old.programs socket ≡ None
-            → btree_map_len self.old.programs ≡ most_services → result ≡ Err TooManyServices }
-        ensures fault { OnErr result (wrong_service socket programs.now ≡ None
-            → (result ≡ Err TooManyServices) ⊎ (result ≡ Err NoMemory)) }
+        ensures wrong { (f : HostFault) → wrong_service self.old.programs socket programs.now ≡ Some f → result ≡ Err f }
+        ensures memory { OnErr result (wrong_service self.old.programs socket programs.now ≡ None → result ≡ Err NoMemory) }
         ensures unchanged { OnErr result (self.new.programs.entries ≡ self.old.programs.entries) }
         ensures callers { self.new.callers ≡ self.old.callers }
     {
-        if let Some(fault) = wrong_service(socket, programs) {
+        if let Some(fault) = self.wrong(socket, programs) {
             return Err(fault);
-        }
-        if self.programs.len() == MOST_SERVICES && !self.programs.contains_key(&socket) {
-            return Err(HostFault::TooManyServices);
         }
         let Ok(programs) = Vec::from_slice(alloc, programs) else {
             return Err(HostFault::NoMemory);
