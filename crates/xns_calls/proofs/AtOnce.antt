@@ -23,7 +23,9 @@ use Rattle.xns_calls.specs.declared.heading.Heading.{Heading}
 use Rattle.xns_calls.specs.declared.side.Side.{Side}
 use Rattle.xns_calls.specs.declared.track.Track.{Track}
 use Rattle.xns_lines.specs.declared.page.Page.{Page}
-use Rattle.xns_calls.proofs.Gaps.{brought_same, equal_tells, lt_false, new_ordered}
+use Rattle.xns_calls.proofs.Comparing.{equal_tells, lt_false}
+use Rattle.xns_calls.proofs.Known.{new_ordered}
+use Rattle.xns_calls.proofs.Ordered.{brought_same}
 use Rattle.xns_calls.proofs.Packets.{content_events, up_to_none}
 use Rattle.xns_calls.proofs.Wanted.{data_wants, none_brings}
 use Rattle.xns_calls.proofs.Steps.{first_some, passed_same, with_early}

@@ -1,11 +1,11 @@
 -- What is read of a connection at its end, as events of its flows.
-use Rattle.std.proofs.Common.{◌≡◌, ◌∙◌, ap, sym, refl, subst, arith, ℕ, zero, suc, ◌+◌, ◌≤◌, ◌==◌, Bool, true, false, List, [], ◌∷◌, ◌++◌, length, drop, append-nil, Option, Some, None}
-use Rattle.std.specs.Prelude.{min, not}
+use Rattle.std.proofs.Common.{◌≡◌, ◌∙◌, ap, sym, refl, subst, ℕ, zero, suc, ◌+◌, Bool, true, false, List, [], ◌∷◌, ◌++◌, length, drop, append-nil, Option, Some, None}
+use Rattle.std.specs.Prelude.{not}
 use Rattle.std.proofs.lemmas.Grind.{flat_map-append}
 use Rattle.std.proofs.Common.{append_assoc}
 use Rattle.xns_calls.specs.AtEnd.{both_ended, earliest, end_turn, ended_of, ended_times, first_at_end, first_in, one_ended, own_ended, read_behind}
-use Rattle.xns_calls.specs.Capture.{heading_at}
-use Rattle.xns_calls.specs.Events.{Event, acknowledged, acknowledged_event, after_events, brought_if, captured, meanwhile, read}
+use Rattle.xns_calls.specs.Capture.{Known, heading_at, scene_in}
+use Rattle.xns_calls.specs.Events.{Event, acknowledged, acknowledged_event, after_events, brought_if, meanwhile}
 use Rattle.xns_calls.specs.Exchange.{Scene, advance_other, advance_own, after_told, of_other, other_reached, reached, seen_from_other, told_of, up_to}
 use Rattle.xns_calls.specs.Input.{Said, part_text, parts_text, said_texts, text_in, texts_in, told}
 use Rattle.xns_calls.specs.Input.{Part}
@@ -13,16 +13,20 @@ use Rattle.xns_calls.specs.Queue.{last_number}
 use Rattle.xns_calls.specs.Read.{kept_count}
 use Rattle.xns_calls.specs.Reading.{Told}
 use Rattle.xns_calls.specs.Whole.{flow_text}
+use Rattle.xns_calls.specs.declared.connection.Connection.{Connection}
 use Rattle.xns_calls.specs.declared.early.Early.{Early}
 use Rattle.xns_calls.specs.declared.first_kept.FirstKept.{FirstKept}
 use Rattle.xns_calls.specs.declared.heading.Heading.{Heading}
 use Rattle.xns_calls.specs.declared.origin.Origin.{Origin}
+use Rattle.xns_calls.specs.declared.side.Side.{Side}
 use Rattle.xns_calls.specs.declared.track.Track.{Track}
 use Rattle.xns_calls.proofs.Adding.{own_adds}
-use Rattle.xns_calls.proofs.Gaps.{IsOrdered, events_ordered}
+use Rattle.xns_calls.proofs.Known.{events_ordered}
+use Rattle.xns_calls.proofs.Ordered.{IsOrdered}
 use Rattle.xns_calls.proofs.Kept.{earliest_number}
 use Rattle.xns_calls.proofs.LastKept.{AreAcks, AreBelow, acks_append, brought_if_below, first_upto, upto_below, upto_twice}
-use Rattle.xns_calls.proofs.Onwards.{Rests, Says, rests_on, rests_so, says_on}
+use Rattle.xns_calls.proofs.LessAtEnd.{both_left, other_left, own_left}
+use Rattle.xns_calls.proofs.Onwards.{Rests, Says, TurnsRest, other_turn_rests, own_turn_rests, rests_on, rests_so, says_on}
 use Rattle.xns_calls.proofs.Packets.{own_event, own_other, reached_own}
 use Rattle.xns_calls.proofs.Parts.{acknowledged_new, added, far_text, flow_append, flow_at, other_text, own_text}
 use Rattle.xns_calls.proofs.Steps.{early_of}
@@ -127,7 +131,7 @@ moves n m b o s t track is upto =
           ∙ ap (λ (x : Told). drop (length x.text) u.text) (sym is) ∙ sym (acknowledged_new h o t);
     }
 
--- the flow behind is
+-- the flow behind is brought to a number
 others : (n : Origin) (m : ℕ) (b : Bool) (o : Option ℕ) (s : Scene) (t : Told) → s.own.track ≡ Some t.track
     → Ends m b s (seen_from_other (advance_own (heading_at n m (not b)) o (seen_from_other s))) t
 others n m b o s t track =
@@ -167,7 +171,7 @@ own_reads n m b s t track is ordered = subst (λ o. Ends m b s (read_behind h (f
         ends_on m b s s' (advance_own h (Some (first.number + 1)) s') t w
         (moves n m b (Some (first.number + 1)) s' u w.track w.is (ap (λ (x : Track). up_to (last_number x.early) (Some (first.number + 1))) same ∙ upto))
 
--- the flow behind does so
+-- the flow behind reads its first item
 behind_reads : (n : Origin) (m : ℕ) (b : Bool) (s : Scene) (t : Told) → s.own.track ≡ Some t.track → t ≡ told_of t.track s
     → Ends m b s (seen_from_other (own_ended (heading_at n m (not b)) (seen_from_other s))) t
 unfolding own_ended
@@ -229,6 +233,42 @@ pub other_ends : (n : Origin) (m : ℕ) (q : Bool) (s : Scene) (t : Told) → s.
 unfolding both_ended
 other_ends n m q s t track is ordered = other_times n m q (kept_count s.own.track + kept_count s.other.track) s t track is ordered
 
+-- ---- for one of the two flows of a connection
+
+abbrev side_of : Bool → Scene → Side
+side_of true s = s.other
+side_of false s = s.own
+
+-- the scene of the flow that began the connection, seen from the flow
+abbrev pub seen_by : Bool → Scene → Scene
+seen_by b s = record s { own = side_of b s; other = side_of (not b) s }
+
+pub scene_seen : (b : Bool) (c : Connection) (k : Known) → scene_in b c k ≡ seen_by b (scene_in false c k)
+scene_seen true c k = refl
+scene_seen false c k = refl
+
+-- both flows of the connection, once all that they keep is read
+abbrev pub ended_scene : Origin → Connection → Known → Scene
+ended_scene n c k = both_ended (heading_at n c.number false) (scene_in false c k)
+
+seen_ends : (n : Origin) (m : ℕ) (b : Bool) (s : Scene) (t : Told) → (seen_by b s).own.track ≡ Some t.track → t ≡ told_of t.track (seen_by b s) → IsOrdered t
+    → Ends m b (seen_by b s) (seen_by b (both_ended (heading_at n m false) s)) t
+seen_ends n m true s t track is ordered = other_ends n m false s t track is ordered
+seen_ends n m false s t track is ordered = own_ends n m false s t track is ordered
+
+pub flow_ends : (n : Origin) (b : Bool) (c : Connection) (k : Known) (t : Told) → (scene_in b c k).own.track ≡ Some t.track → t ≡ told_of t.track (scene_in b c k) → IsOrdered t
+    → Ends c.number b (seen_by b (scene_in false c k)) (seen_by b (ended_scene n c k)) t
+flow_ends n b c k t track is ordered =
+    let same = scene_seen b c k in
+    seen_ends n c.number b (scene_in false c k) t (ap (λ (x : Scene). x.own.track) (sym same) ∙ track) (is ∙ ap (λ (x : Scene). told_of t.track x) same) ordered
+
+-- a flow keeps nothing more then
+pub flow_left : (n : Origin) (b : Bool) (c : Connection) (k : Known) (track : Track) → (seen_by b (ended_scene n c k)).own.track ≡ Some track → track.early ≡ []
+flow_left n true c k track at =
+    let s = ended_scene n c k in other_left track s.own.track s.other.track at (both_left (heading_at n c.number false) (scene_in false c k))
+flow_left n false c k track at =
+    let s = ended_scene n c k in own_left track s.own.track s.other.track at (both_left (heading_at n c.number false) (scene_in false c k))
+
 -- ---- for a flow that has not begun
 
 own_rest : (n : Origin) (m : ℕ) (b : Bool) (s : Scene) → s.own.track ≡ None → Rests m b s (own_ended (heading_at n m b) s)
@@ -260,23 +300,15 @@ behind_rest n m b s none = by_first (first_in s.other.track)
           own = ap (λ z. z ++ []) (other_text n m b (moved_said n m (not b) o x));
         })
 
-own_turn_rests : (n : Origin) (m : ℕ) (b : Bool) (o : Option Bool) (s : Scene) → s.own.track ≡ None → Rests m b s (ended_of (heading_at n m b) o s)
-own_turn_rests n m b None s none = rests_so m b s none
-own_turn_rests n m b (Some false) s none = own_rest n m b s none
-own_turn_rests n m b (Some true) s none = behind_rest n m b s none
-
-other_turn_rests : (n : Origin) (m : ℕ) (q : Bool) (o : Option Bool) (s : Scene) → s.other.track ≡ None → Rests m (not q) (seen_from_other s) (seen_from_other (ended_of (heading_at n m q) o s))
-other_turn_rests n m q None s none = rests_so m (not q) (seen_from_other s) none
-other_turn_rests n m true (Some false) s none = behind_rest n m false (seen_from_other s) none
-other_turn_rests n m false (Some false) s none = behind_rest n m true (seen_from_other s) none
-other_turn_rests n m q (Some true) s none = own_rest n m (not q) (seen_from_other s) none
+ends_rest : (n : Origin) (m : ℕ) → TurnsRest n m ended_of
+ends_rest n m = record { none = λ h s. refl; behind_is = λ h s. refl; own = own_rest n m; behind = behind_rest n m }
 
 own_times_rest : (n : Origin) (m : ℕ) (b : Bool) (count : ℕ) (s : Scene) → s.own.track ≡ None → Rests m b s (ended_times count (heading_at n m b) s)
 own_times_rest n m b zero s none = rests_so m b s none
 own_times_rest n m b (suc count) s none =
     let h = heading_at n m b in
     let s' = one_ended h s in
-    let w = own_turn_rests n m b (end_turn s.own.track s.other.track) s none in
+    let w = own_turn_rests n m ended_of (ends_rest n m) b (end_turn s.own.track s.other.track) s none in
     rests_on m b s s' (ended_times count h s') w (own_times_rest n m b count s' w.track)
 
 other_times_rest : (n : Origin) (m : ℕ) (q : Bool) (count : ℕ) (s : Scene) → s.other.track ≡ None → Rests m (not q) (seen_from_other s) (seen_from_other (ended_times count (heading_at n m q) s))
@@ -284,7 +316,7 @@ other_times_rest n m q zero s none = rests_so m (not q) (seen_from_other s) none
 other_times_rest n m q (suc count) s none =
     let h = heading_at n m q in
     let s' = one_ended h s in
-    let w = other_turn_rests n m q (end_turn s.own.track s.other.track) s none in
+    let w = other_turn_rests n m ended_of (ends_rest n m) q (end_turn s.own.track s.other.track) s none in
     rests_on m (not q) (seen_from_other s) (seen_from_other s') (seen_from_other (ended_times count h s')) w (other_times_rest n m q count s' w.track)
 
 pub own_ends_rest : (n : Origin) (m : ℕ) (b : Bool) (s : Scene) → s.own.track ≡ None → Rests m b s (both_ended (heading_at n m b) s)

@@ -1,5 +1,5 @@
 -- The end of a whole input reads what a flow keeps.
-use Rattle.std.proofs.Common.{◌≡◌, ◌∙◌, ap, sym, refl, subst, arith, inl, inr, ℕ, zero, suc, ◌+◌, ◌<◌, ◌≤◌, ◌==◌, ◌⊎◌, Bool, true, false, List, [], ◌∷◌, ◌++◌, length, append_assoc, append-nil, Option, Some, None}
+use Rattle.std.proofs.Common.{◌≡◌, ◌∙◌, ap, sym, refl, subst, arith, inl, inr, ℕ, zero, suc, ◌+◌, ◌<◌, ◌≤◌, ◌==◌, Bool, true, false, List, [], ◌∷◌, ◌++◌, length, append-nil, Option, Some, None}
 use Rattle.std.specs.Prelude.{nat_lt, slice_get, slice_set}
 use Rattle.std.proofs.lemmas.Grind.{flat_map-append}
 use Rattle.xns_spp.specs.Ends.{most_pending}
@@ -13,26 +13,27 @@ use Rattle.xns_dump.specs.Laws.{FlowsAreToldApart}
 use Rattle.xns_calls.specs.Naming.{Programs}
 use Rattle.xns_calls.specs.Calls.{calls_text, end_count, known_from, known_of, known_with_end, line_taken, nothing_known, text_of, text_with_end}
 use Rattle.xns_calls.specs.Capture.{Known, after_end, ended_there, heading_at, scene_in, with_scene}
-use Rattle.xns_calls.specs.Events.{Event, acknowledged_event, after_event, after_events, meanwhile}
+use Rattle.xns_calls.specs.Events.{Event, after_event, after_events, meanwhile}
 use Rattle.xns_calls.specs.AtEnd.{both_ended}
 use Rattle.xns_calls.specs.Exchange.{Scene, told_of}
-use Rattle.xns_calls.specs.Input.{FlowName, Part, TellsConversation, events_in, first_field, part_text, parts_text, text_in, texts_in, told}
+use Rattle.xns_calls.specs.Input.{FlowName, Part, TellsConversation, events_in, first_field, part_text, parts_text, texts_in}
 use Rattle.xns_calls.specs.Reading.{Told}
 use Rattle.xns_calls.specs.Texts.{flow_line}
 use Rattle.xns_calls.specs.Whole.{IsWhole, flow_text}
 use Rattle.xns_calls.specs.declared.connection.Connection.{Connection}
-use Rattle.xns_calls.specs.declared.heading.Heading.{Heading}
 use Rattle.xns_calls.specs.declared.speech.Speech.TheVariants.{Hearing}
-use Rattle.xns_calls.proofs.Beginnings.{lines_met}
-use Rattle.xns_calls.proofs.EndReads.{ends_say, other_ends, own_ends}
+use Rattle.xns_calls.proofs.FirstLines.{lines_met}
+use Rattle.xns_calls.proofs.EndReads.{ended_scene, ends_say, flow_ends, flow_left, scene_seen, seen_by}
 use Rattle.xns_calls.proofs.Fits.{fits_whole}
-use Rattle.xns_calls.proofs.Gaps.{IsOrdered, equal_tells, events_ordered, le_tells, lt_tells}
-use Rattle.xns_calls.proofs.Happenings.{IsAt, IsGone, IsOn, gone_set, other_place, still}
+use Rattle.xns_calls.proofs.Comparing.{equal_tells, le_tells, lt_tells}
+use Rattle.xns_calls.proofs.Known.{events_ordered}
+use Rattle.xns_calls.proofs.Ordered.{IsOrdered}
+use Rattle.xns_calls.proofs.Begun.{IsAt, IsGone, IsOn, still}
+use Rattle.xns_calls.proofs.Happenings.{gone_set, other_place}
 use Rattle.xns_calls.proofs.LastKept.{AreAcks, AreBelow}
-use Rattle.xns_calls.proofs.LessAtEnd.{both_left, other_left, own_left}
 use Rattle.xns_calls.proofs.Onwards.{Says}
 use Rattle.xns_calls.proofs.Inputs.{from_front, numbered_line}
-use Rattle.xns_calls.proofs.Parts.{flow_append, flow_at, number_tells, plain, plain_whole}
+use Rattle.xns_calls.proofs.Parts.{flow_at, joined_own, number_tells, plain, plain_whole}
 use Rattle.xns_calls.proofs.Numbered.{AllKeep, IsNumbered, numbered_none, numbered_set}
 use Rattle.xns_calls.proofs.Others.{get_same, get_set}
 use Rattle.xns_calls.proofs.Steps.{early_of}
@@ -83,54 +84,27 @@ step_gone m i b k k' t parts text own gone = record {
 -- all that it keeps is read
 near_end : (n : Origin) (i : ℕ) (b : Bool) (c : Connection) (k : Known) (t : Told) → slice_get k.connections i ≡ Some c → IsOrdered t → (scene_in b c k).own.track ≡ Some t.track → t ≡ told_of t.track (scene_in b c k)
     → EndStep c.number i b k (ended_there n i (Some c) k) t
-near_end n i false c k t there ordered track is =
-    let h = heading_at n c.number false in
-    let s = scene_in false c k in
-    let new = both_ended h s in
-    let c' = with_scene false new c in
-    let w = own_ends n c.number false s t track is ordered in
+near_end n i b c k t there ordered track is =
+    let w = flow_ends n b c k t track is ordered in
     let u = after_events w.events t in
-    let empty : u.track.early ≡ [] = own_left u.track new.own.track new.other.track w.track (both_left h s) in record {
+    let c' = with_scene false (ended_scene n c k) c in
+    let same : scene_in b c' (ended_there n i (Some c) k) ≡ seen_by b (ended_scene n c k) = scene_seen b c' (ended_there n i (Some c) k) in
+    let empty : u.track.early ≡ [] = flow_left n b c k u.track w.track in record {
       events = w.events;
       stands = inl (record {
         place = i;
         connection = c';
         there = get_same k.connections i c c' there;
         number = refl;
-        track = w.track;
-        is = w.is;
+        track = ap (λ (x : Scene). x.own.track) same ∙ w.track;
+        is = w.is ∙ ap (λ (x : Scene). told_of u.track x) (sym same);
         ordered = events_ordered w.events t ordered;
       });
       acks = λ bound below. (w.acks bound below).0;
       parts = w.parts;
       text = w.text;
       own = w.own;
-      done = λ d e same. empty;
-      keeps = λ e. empty;
-    }
-near_end n i true c k t there ordered track is =
-    let h = heading_at n c.number false in
-    let s = scene_in false c k in
-    let new = both_ended h s in
-    let c' = with_scene false new c in
-    let w = other_ends n c.number false s t track is ordered in
-    let u = after_events w.events t in
-    let empty : u.track.early ≡ [] = other_left u.track new.own.track new.other.track w.track (both_left h s) in record {
-      events = w.events;
-      stands = inl (record {
-        place = i;
-        connection = c';
-        there = get_same k.connections i c c' there;
-        number = refl;
-        track = w.track;
-        is = w.is;
-        ordered = events_ordered w.events t ordered;
-      });
-      acks = λ bound below. (w.acks bound below).0;
-      parts = w.parts;
-      text = w.text;
-      own = w.own;
-      done = λ d e same. empty;
+      done = λ d e number. empty;
       keeps = λ e. empty;
     }
 
@@ -248,8 +222,7 @@ goes_one n items m b start line text before count part first w =
       long = end_length n part k ∙ w.long;
       parts = w.parts ++ v.parts;
       all = ap (λ z. z ++ k'.text) w.all ∙ ap (λ z. parts_text w.parts ++ z) v.text ∙ sym (flat_map-append part_text w.parts v.parts);
-      own = flat_map-append (text_in P) w.parts v.parts ∙ ap (λ z. z ++ texts_in P v.parts) w.own ∙ ap (λ z. (line ++ flow_text w.events start) ++ z) v.own
-          ∙ append_assoc line (flow_text w.events start) (flow_text v.events u) ∙ ap (λ z. line ++ z) (sym (flow_append w.events more start));
+      own = joined_own P w.parts v.parts line w.events more start w.own v.own;
       done = λ j c there is lt. ap (λ (x : Told). x.track.early) joined ∙ by_place v j c (w.done j c) there is lt (j == part) refl;
     }
   where
@@ -276,7 +249,7 @@ module _ (programs : Programs) where
   numbered_from n k [] numbered = numbered
   numbered_from n k (line ∷ lines) numbered = numbered_from (n + 1) (line_taken programs n line k) lines (numbered_line programs n k line numbered)
 
-none_at_first : (m : ℕ) (b : Bool) → AllKeep m b [] None
+pub none_at_first : (m : ℕ) (b : Bool) → AllKeep m b [] None
 none_at_first m b i c there is = (cc)
 
 -- nothing is kept at the end

@@ -11,7 +11,7 @@ use Rattle.xns_calls.specs.declared.early.Early.{Early}
 use Rattle.xns_calls.specs.declared.given.Given.{Given}
 use Rattle.xns_calls.specs.declared.heading.Heading.{Heading}
 use Rattle.xns_calls.specs.declared.track.Track.{Track}
-use Rattle.xns_calls.proofs.Gaps.{le_tells, lt_false, lt_tells, lt_true}
+use Rattle.xns_calls.proofs.Comparing.{le_tells, lt_false, lt_tells, lt_true}
 use Rattle.xns_calls.proofs.LessAtEnd.{both_left, other_left, own_left}
 use Rattle.xns_calls.proofs.LessKept.{count, count_less}
 
@@ -65,7 +65,7 @@ can_is track behind given line is = by_early track.early refl is
         by_next false false d f is = (cc)
         by_next false true d f is = (e, record { rest = rest; first = at; next = le_tells track.next e.number d; free = free_is behind given e.item.acknowledged f })
 
-can_so : (track : Track) (behind : Option Track) (given : ℕ) (early : Early) → CanBeRead track behind given early → readable (Some track) behind given ≡ Some early.item.line
+pub can_so : (track : Track) (behind : Option Track) (given : ℕ) (early : Early) → CanBeRead track behind given early → readable (Some track) behind given ≡ Some early.item.line
 can_so track behind given early can =
     ap (λ es. readable_first track.next behind given (first_kept es)) can.first
     ∙ ap (λ p. cond (not p && is_free behind given early.item.acknowledged) (Some early.item.line) None) (lt_false track.next early.number can.next)
@@ -114,7 +114,7 @@ times_left (suc n) h given s le = by_turn (times_left n h given (one_read h give
         let next : count (one_read h given s) ≡ count (read_of h (Some turn) s) = ap (λ o. count (read_of h o s)) is in
         rest (omega (arith, le, one, next))
 
-settled_left : (h : Heading) (given : Given) (s : Scene) → next_turn given (settled h given s).own.track (settled h given s).other.track ≡ None
+pub settled_left : (h : Heading) (given : Given) (s : Scene) → next_turn given (settled h given s).own.track (settled h given s).other.track ≡ None
 unfolding settled
 settled_left h given s = times_left (count s) h given s (omega arith)
 

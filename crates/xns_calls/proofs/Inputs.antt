@@ -25,7 +25,8 @@ use Rattle.xns_calls.specs.Origins.{line_origin}
 use Rattle.xns_calls.proofs.Whole.{after_append}
 use Rattle.xns_calls.proofs.Parts.{flow_append, flow_at, plain, plain_one}
 use Rattle.xns_calls.proofs.Fits.{Fits, fits, fits_on}
-use Rattle.xns_calls.proofs.Happenings.{IsOn, IsPlain, Stepped, nothing_step, sequenced_step, stays_gone, still, unchanged}
+use Rattle.xns_calls.proofs.Begun.{IsOn, Stepped, nothing_step, stays_gone, still, unchanged}
+use Rattle.xns_calls.proofs.Renewals.{IsPlain, sequenced_step}
 
 -- ---- a line
 

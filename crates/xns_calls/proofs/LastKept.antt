@@ -8,7 +8,8 @@ use Rattle.xns_calls.specs.Reading.{Told, brought, brought_over, item_read, pass
 use Rattle.xns_calls.specs.declared.early.Early.{Early}
 use Rattle.xns_calls.specs.declared.heading.Heading.{Heading}
 use Rattle.xns_calls.specs.declared.track.Track.{Track}
-use Rattle.xns_calls.proofs.Gaps.{AreFrom, IsOrdered, by_test, lt_true, next_of}
+use Rattle.xns_calls.proofs.Comparing.{by_test, lt_true}
+use Rattle.xns_calls.proofs.Ordered.{AreFrom, IsOrdered, next_of}
 use Rattle.xns_calls.proofs.Packets.{up_to_none}
 use Rattle.xns_calls.proofs.Steps.{early_of, passed_early, read_early, with_early}
 

@@ -10,7 +10,7 @@ use Rattle.xns_calls.specs.declared.early.Early.{Early}
 use Rattle.xns_calls.specs.declared.first_kept.FirstKept.{FirstKept}
 use Rattle.xns_calls.specs.declared.heading.Heading.{Heading}
 use Rattle.xns_calls.specs.declared.track.Track.{Track}
-use Rattle.xns_calls.proofs.Gaps.{by_test, lt_true}
+use Rattle.xns_calls.proofs.Comparing.{by_test, lt_true}
 use Rattle.xns_calls.proofs.Kept.{earliest_number}
 use Rattle.xns_calls.proofs.LessKept.{count}
 use Rattle.xns_calls.proofs.Packets.{advanced_other, reached_own}

@@ -11,7 +11,7 @@ use Rattle.xns_calls.specs.declared.given.Given.{Given}
 use Rattle.xns_calls.specs.declared.heading.Heading.{Heading}
 use Rattle.xns_calls.specs.declared.side.Side.{Side}
 use Rattle.xns_calls.specs.declared.track.Track.{Track}
-use Rattle.xns_calls.proofs.Gaps.{le_tells}
+use Rattle.xns_calls.proofs.Comparing.{le_tells}
 use Rattle.xns_calls.proofs.Packets.{read_other}
 use Rattle.xns_calls.proofs.Steps.{first_some, read_early, with_early}
 

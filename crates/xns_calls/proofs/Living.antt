@@ -20,7 +20,7 @@ use Rattle.xns_calls.specs.declared.closing.Closing.{Closing}
 use Rattle.xns_calls.specs.declared.closing.Closing.TheVariants.{Open, End, EndReply}
 use Rattle.xns_calls.specs.declared.connection.Connection.{Connection}
 use Rattle.xns_calls.specs.declared.origin.Origin.{Origin}
-use Rattle.xns_calls.proofs.Gaps.{equal_tells}
+use Rattle.xns_calls.proofs.Comparing.{equal_tells}
 use Rattle.xns_calls.proofs.Inputs.{line_is}
 use Rattle.xns_calls.proofs.Parts.{number_tells}
 use Rattle.xns_calls.proofs.Numbered.{same_number, scene_number}

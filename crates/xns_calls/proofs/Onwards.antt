@@ -1,16 +1,15 @@
 -- What is read of a connection, as far as it can be: each is an event of its flow.
-use Rattle.std.proofs.Common.{◌≡◌, ◌∙◌, ap, sym, refl, ℕ, zero, suc, ◌+◌, ◌==◌, Bool, true, false, List, [], ◌∷◌, ◌++◌, length, drop, append_assoc, append-nil, Option, Some, None}
+use Rattle.std.proofs.Common.{◌≡◌, ◌∙◌, ap, sym, refl, subst, ℕ, zero, suc, ◌+◌, ◌==◌, Bool, true, false, List, [], ◌∷◌, ◌++◌, length, drop, append_assoc, append-nil, Option, Some, None}
 use Rattle.std.specs.Prelude.{not}
 use Rattle.std.proofs.lemmas.Grind.{flat_map-append}
-use Rattle.std.proofs.Math.Seq.{drop-append_seam}
 use Rattle.xns_calls.specs.Capture.{heading_at}
-use Rattle.xns_calls.specs.Events.{Event, after_event, after_events, meanwhile, read}
+use Rattle.xns_calls.specs.Events.{Event, after_events, meanwhile, read}
 use Rattle.xns_calls.specs.Exchange.{Scene, after_told, of_other, seen_from_other, told_of}
 use Rattle.xns_calls.specs.Input.{Part, Said, part_text, parts_text, said_texts, text_in, texts_in, told}
-use Rattle.xns_calls.specs.Read.{kept_count, one_read, other_read, own_read, read_in_track, read_of, read_times, settled}
+use Rattle.xns_calls.specs.Read.{kept_count, one_read, own_read, read_in_track, read_of, read_times, settled}
 use Rattle.xns_calls.specs.Reading.{Told, first_read}
 use Rattle.xns_calls.specs.Turns.{next_turn}
-use Rattle.xns_calls.specs.Whole.{flow_text, new_text}
+use Rattle.xns_calls.specs.Whole.{flow_text}
 use Rattle.xns_calls.specs.declared.given.Given.{Given}
 use Rattle.xns_calls.specs.declared.heading.Heading.{Heading}
 use Rattle.xns_calls.specs.declared.origin.Origin.{Origin}
@@ -176,23 +175,37 @@ rests_on m b s s' s'' w v = record {
   own = flat_map-append (text_in (flow_at m b)) w.parts v.parts ∙ ap (λ z. z ++ texts_in (flow_at m b) v.parts) w.own ∙ v.own;
 }
 
-own_rest : (n : Origin) (m : ℕ) (b : Bool) (o : Option Bool) (s : Scene) → s.own.track ≡ None → Rests m b s (read_of (heading_at n m b) o s)
-own_rest n m b None s none = rests_so m b s none
-own_rest n m b (Some false) s none = rests_own n m b s none
-own_rest n m b (Some true) s none = rests_behind n m b s none
+-- where what one flow does, and what the flow behind does, leaves a flow as one that has not begun, a turn of either does
+pub record TurnsRest (n : Origin) (m : ℕ) (turned : Heading → Option Bool → Scene → Scene) : Type 0 where
+  pub none : (h : Heading) (s : Scene) → turned h None s ≡ s
+  pub behind_is : (h : Heading) (s : Scene) → turned h (Some true) s ≡ seen_from_other (turned (of_other h) (Some false) (seen_from_other s))
+  pub own : (b : Bool) (s : Scene) → s.own.track ≡ None → Rests m b s (turned (heading_at n m b) (Some false) s)
+  pub behind : (b : Bool) (s : Scene) → s.own.track ≡ None → Rests m b s (seen_from_other (turned (heading_at n m (not b)) (Some false) (seen_from_other s)))
 
-other_rest : (n : Origin) (m : ℕ) (q : Bool) (o : Option Bool) (s : Scene) → s.other.track ≡ None → Rests m (not q) (seen_from_other s) (seen_from_other (read_of (heading_at n m q) o s))
-other_rest n m q None s none = rests_so m (not q) (seen_from_other s) none
-other_rest n m true (Some false) s none = rests_behind n m false (seen_from_other s) none
-other_rest n m false (Some false) s none = rests_behind n m true (seen_from_other s) none
-other_rest n m q (Some true) s none = rests_own n m (not q) (seen_from_other s) none
+pub own_turn_rests : (n : Origin) (m : ℕ) (turned : Heading → Option Bool → Scene → Scene) → TurnsRest n m turned → (b : Bool) (o : Option Bool) (s : Scene) → s.own.track ≡ None
+    → Rests m b s (turned (heading_at n m b) o s)
+own_turn_rests n m turned w b None s none = subst (Rests m b s) (sym (w.none (heading_at n m b) s)) (rests_so m b s none)
+own_turn_rests n m turned w b (Some false) s none = w.own b s none
+own_turn_rests n m turned w b (Some true) s none = subst (Rests m b s) (sym (w.behind_is (heading_at n m b) s)) (w.behind b s none)
+
+pub other_turn_rests : (n : Origin) (m : ℕ) (turned : Heading → Option Bool → Scene → Scene) → TurnsRest n m turned → (q : Bool) (o : Option Bool) (s : Scene) → s.other.track ≡ None
+    → Rests m (not q) (seen_from_other s) (seen_from_other (turned (heading_at n m q) o s))
+other_turn_rests n m turned w q None s none =
+    subst (λ x. Rests m (not q) (seen_from_other s) (seen_from_other x)) (sym (w.none (heading_at n m q) s)) (rests_so m (not q) (seen_from_other s) none)
+other_turn_rests n m turned w true (Some false) s none = w.behind false (seen_from_other s) none
+other_turn_rests n m turned w false (Some false) s none = w.behind true (seen_from_other s) none
+other_turn_rests n m turned w q (Some true) s none =
+    subst (λ x. Rests m (not q) (seen_from_other s) (seen_from_other x)) (sym (w.behind_is (heading_at n m q) s)) (w.own (not q) (seen_from_other s) none)
+
+reads_rest : (n : Origin) (m : ℕ) → TurnsRest n m read_of
+reads_rest n m = record { none = λ h s. refl; behind_is = λ h s. refl; own = rests_own n m; behind = rests_behind n m }
 
 own_rests : (n : Origin) (m : ℕ) (b : Bool) (count : ℕ) (given : Given) (s : Scene) → s.own.track ≡ None → Rests m b s (read_times count (heading_at n m b) given s)
 own_rests n m b zero given s none = rests_so m b s none
 own_rests n m b (suc count) given s none =
     let h = heading_at n m b in
     let s' = one_read h given s in
-    let w = own_rest n m b (next_turn given s.own.track s.other.track) s none in
+    let w = own_turn_rests n m read_of (reads_rest n m) b (next_turn given s.own.track s.other.track) s none in
     rests_on m b s s' (read_times count h given s') w (own_rests n m b count given s' w.track)
 
 other_rests : (n : Origin) (m : ℕ) (q : Bool) (count : ℕ) (given : Given) (s : Scene) → s.other.track ≡ None
@@ -201,7 +214,7 @@ other_rests n m q zero given s none = rests_so m (not q) (seen_from_other s) non
 other_rests n m q (suc count) given s none =
     let h = heading_at n m q in
     let s' = one_read h given s in
-    let w = other_rest n m q (next_turn given s.own.track s.other.track) s none in
+    let w = other_turn_rests n m read_of (reads_rest n m) q (next_turn given s.own.track s.other.track) s none in
     rests_on m (not q) (seen_from_other s) (seen_from_other s') (seen_from_other (read_times count h given s')) w (other_rests n m q count given s' w.track)
 
 pub own_settles : (n : Origin) (m : ℕ) (b : Bool) (given : Given) (s : Scene) → s.own.track ≡ None → Rests m b s (settled (heading_at n m b) given s)

@@ -17,7 +17,8 @@ use Rattle.xns_calls.specs.Queue.{last_number}
 use Rattle.xns_calls.specs.Read.{own_read, read_in_track}
 use Rattle.xns_calls.specs.Reading.{first_read}
 use Rattle.xns_calls.proofs.Whole.{after_append}
-use Rattle.xns_calls.proofs.Gaps.{item_event, lt_false}
+use Rattle.xns_calls.proofs.Comparing.{lt_false}
+use Rattle.xns_calls.proofs.ItemEvents.{item_event}
 
 -- a flow that is put back as it was
 pub put_back : (s : Scene) (track : Track) → s.own.track ≡ Some track → after_told (told_of track s) s ≡ s
@@ -119,7 +120,7 @@ none_other h s = by_track s.other.track
     by_track None = refl
     by_track (Some track) = ap (λ o. advance_other h o s) (up_to_none (last_number track.early))
 
--- ---- and its item
+-- ---- the item of a packet
 
 other_own : (h : Heading) (o : Option ℕ) (s : Scene) → (advance_other h o s).own.track ≡ s.own.track
 other_own h None s = refl

@@ -11,8 +11,8 @@ use Rattle.xns_spp.specs.declared.item.Item.{Item}
 use Rattle.xns_calls.specs.declared.carried.Carried.{Carried}
 use Rattle.xns_calls.specs.Capture.{Known, heading_at, scene_in}
 use Rattle.xns_calls.specs.Events.{AreWithinReach, Event, IsAmong, acknowledged, acknowledged_event, after_event, after_events, captured, captured_event, captured_in, meanwhile, read}
-use Rattle.xns_calls.specs.Exchange.{Scene, after_packet, of_other, other_reached, seen_from_other}
-use Rattle.xns_calls.specs.Input.{FlowName, Part, Said, is_same, parts_text, said_texts, text_in, told}
+use Rattle.xns_calls.specs.Exchange.{Scene, after_packet, of_other, other_reached}
+use Rattle.xns_calls.specs.Input.{FlowName, Part, Said, is_same, parts_text, said_texts, text_in, texts_in, told}
 use Rattle.xns_calls.specs.Reading.{Told}
 use Rattle.xns_calls.specs.Whole.{AreOf, IsWhole, flow_text, new_text}
 use Rattle.xns_calls.specs.declared.connection.Connection.{Connection}
@@ -51,6 +51,14 @@ flow_append [] ys t = refl
 flow_append (e ∷ xs) ys t =
     ap (λ z. new_text e t ++ z) (flow_append xs ys (after_event e t))
     ∙ sym (append_assoc (new_text e t) (flow_text xs (after_event e t)) (flow_text ys (after_events xs (after_event e t))))
+
+-- the parts of a flow that begins with a line, behind more events of it
+pub joined_own : (p : FlowName) (xs ys : List Part) (line : List ℕ) (events more : List Event) (t : Told) → texts_in p xs ≡ line ++ flow_text events t
+    → texts_in p ys ≡ flow_text more (after_events events t) → texts_in p (xs ++ ys) ≡ line ++ flow_text (events ++ more) t
+joined_own p xs ys line events more t first then =
+    flat_map-append (text_in p) xs ys ∙ ap (λ z. z ++ texts_in p ys) first ∙ ap (λ z. (line ++ flow_text events t) ++ z) then
+    ∙ append_assoc line (flow_text events t) (flow_text more (after_events events t))
+    ∙ ap (λ z. line ++ z) (sym (flow_append events more t))
 
 -- what an item prints, and what takes effect behind it, is what is new in the text
 pub both_new : (p : Bool) (h : Heading) (o : Option ℕ) (item : Carried) (a : Option ℕ) (t : Told)

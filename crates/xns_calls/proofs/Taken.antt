@@ -54,25 +54,42 @@ told_is n b f c cs count page page' text refused =
     ap (λ x. record k { text = x }) text
     ∙ ap (λ x. record k { text = page.text.line ++ repeats_text (heading_at n c.number b) (tells_repeats b f c); is_refused = x }) refused
 
+noted_scene : (b : Bool) (f : Header) (c : Connection) (k : Known) → scene_in b (noted b f c) k ≡ scene_in b c k
+noted_scene true f c k = refl
+noted_scene false f c k = refl
+
+-- a packet of a flow, whichever of the two that is
+side_taken : (n : Origin) (i : ℕ) (flow : Flow) (packet : PacketModel) (f : Header) (content : List ℕ) (cs : List Connection) (count : ℕ) (page page' : Page) (c note : Connection) (due : Due) (s : Scene) (b : Bool)
+    → slice_get cs i ≡ Some c → b ≡ is_behind_in flow c
+    → page'.text.line ≡ page.text.line ++ repeats_text (heading_at n c.number b) (tells_repeats b f c) → page'.is_refused ≡ page.is_refused
+    → note ≡ noted b f c → due ≡ due_in b f c
+    → s ≡ handled (heading_at n c.number b) due packet f content (scene_in b note (known cs count page'))
+    → after_scene i b note s (known cs count page) ≡ after_at n i flow packet f content (known cs count page)
+unfolding after_at
+side_taken n i flow packet f content cs count page page' c note due s b there side text refused noted_is due_is e =
+    let k = known cs count page in
+    let k' = known cs count page' in
+    let h = heading_at n c.number b in
+    ap (λ (x : Connection). after_scene i b x s k) noted_is
+    ∙ ap (λ (z : Scene). after_scene i b (noted b f c) z k)
+    (e ∙ ap (λ d. handled h d packet f content (scene_in b note k')) due_is
+    ∙ ap (λ (x : Connection). handled h (due_in b f c) packet f content (scene_in b x k')) noted_is
+    ∙ ap (λ (x : Scene). handled h (due_in b f c) packet f content x) (noted_scene b f c k'))
+    ∙ ap (λ (x : Known). after_scene i b (noted b f c) (handled h (due_in b f c) packet f content (scene_in b c x)) x)
+    (told_is n b f c cs count page page' text refused)
+    ∙ sym (fused n i b packet f content c k there)
+    ∙ ap (λ p. after_in n i p packet f content c k) side
+    ∙ sym (ap (λ o. after_there n i flow packet f content o k) there)
+
 pub behind_taken : (n : Origin) (i : ℕ) (flow : Flow) (packet : PacketModel) (f : Header) (content : List ℕ) (cs : List Connection) (count : ℕ) (page page' page'' : Page) (c note : Connection) (due : Due) (first second : Side) (b : Bool)
     → slice_get cs i ≡ Some c → b ≡ is_behind_in flow c → b ≡ true
     → page'.text.line ≡ page.text.line ++ repeats_text (heading_at n c.number b) (tells_repeats b f c) → page'.is_refused ≡ page.is_refused
     → note ≡ noted b f c → due ≡ due_in b f c
     → scene second first page'' ≡ handled (heading_at n c.number b) due packet f content (scene note.second note.first page')
     → known (slice_set cs i (record note { first = first; second = second })) count page'' ≡ after_at n i flow packet f content (known cs count page)
-unfolding after_at
 behind_taken n i flow packet f content cs count page page' page'' c note due first second false there side is text refused noted_is due_is e = (cc)
 behind_taken n i flow packet f content cs count page page' page'' c note due first second true there side is text refused noted_is due_is e =
-    let k = known cs count page in
-    ap (λ (x : Connection). known (slice_set cs i (record x { first = first; second = second })) count page'') noted_is
-    ∙ ap (λ (s : Scene). after_scene i true (noted true f c) s (known cs count page'))
-    (e ∙ ap (λ d. handled (heading_at n c.number true) d packet f content (scene note.second note.first page')) due_is
-    ∙ ap (λ (x : Connection). handled (heading_at n c.number true) (due_in true f c) packet f content (scene x.second x.first page')) noted_is)
-    ∙ ap (λ (x : Known). after_scene i true (noted true f c) (handled (heading_at n c.number true) (due_in true f c) packet f content (scene_in true c x)) x)
-    (told_is n true f c cs count page page' text refused)
-    ∙ sym (fused n i true packet f content c k there)
-    ∙ ap (λ p. after_in n i p packet f content c k) side
-    ∙ sym (ap (λ o. after_there n i flow packet f content o k) there)
+    side_taken n i flow packet f content cs count page page' c note due (scene second first page'') true there side text refused noted_is due_is e
 
 pub first_taken : (n : Origin) (i : ℕ) (flow : Flow) (packet : PacketModel) (f : Header) (content : List ℕ) (cs : List Connection) (count : ℕ) (page page' page'' : Page) (c note : Connection) (due : Due) (first second : Side) (b : Bool)
     → slice_get cs i ≡ Some c → b ≡ is_behind_in flow c → b ≡ false
@@ -80,19 +97,9 @@ pub first_taken : (n : Origin) (i : ℕ) (flow : Flow) (packet : PacketModel) (f
     → note ≡ noted b f c → due ≡ due_in b f c
     → scene first second page'' ≡ handled (heading_at n c.number b) due packet f content (scene note.first note.second page')
     → known (slice_set cs i (record note { first = first; second = second })) count page'' ≡ after_at n i flow packet f content (known cs count page)
-unfolding after_at
 first_taken n i flow packet f content cs count page page' page'' c note due first second true there side is text refused noted_is due_is e = (cc)
 first_taken n i flow packet f content cs count page page' page'' c note due first second false there side is text refused noted_is due_is e =
-    let k = known cs count page in
-    ap (λ (x : Connection). known (slice_set cs i (record x { first = first; second = second })) count page'') noted_is
-    ∙ ap (λ (s : Scene). after_scene i false (noted false f c) s (known cs count page'))
-    (e ∙ ap (λ d. handled (heading_at n c.number false) d packet f content (scene note.first note.second page')) due_is
-    ∙ ap (λ (x : Connection). handled (heading_at n c.number false) (due_in false f c) packet f content (scene x.first x.second page')) noted_is)
-    ∙ ap (λ (x : Known). after_scene i false (noted false f c) (handled (heading_at n c.number false) (due_in false f c) packet f content (scene_in false c x)) x)
-    (told_is n false f c cs count page page' text refused)
-    ∙ sym (fused n i false packet f content c k there)
-    ∙ ap (λ p. after_in n i p packet f content c k) side
-    ∙ sym (ap (λ o. after_there n i flow packet f content o k) there)
+    side_taken n i flow packet f content cs count page page' c note due (scene first second page'') false there side text refused noted_is due_is e
 
 pub behind_packet_wants : (i : ℕ) (flow : Flow) (f : Header) (cs : List Connection) (count : ℕ) (page : Page) (c note : Connection) (due : Due) (b : Bool)
     → slice_get cs i ≡ Some c → b ≡ is_behind_in flow c → b ≡ true → note ≡ noted b f c → due ≡ due_in b f c

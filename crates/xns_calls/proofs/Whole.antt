@@ -31,7 +31,10 @@ use Rattle.xns_calls.specs.declared.speech.Speech.{Speech}
 use Rattle.xns_calls.specs.declared.speech.Speech.TheVariants.{Hearing, Waiting}
 use Rattle.xns_calls.specs.declared.track.Track.{Track}
 use Rattle.xns_calls.specs.declared.unanswered.Calls.{Calls}
-use Rattle.xns_calls.proofs.Gaps.{AreFrom, AreKept, IsKnown, IsOrdered, Kept, by_test, captured_in_known, event_ordered, event_whole, events_ordered, kept_cases, kept_next, known_step, event_known, late_kept, le_tells, lt_tells, lt_true, new_ordered, next_of, not_less, read_next_of, rest_kept}
+use Rattle.xns_calls.proofs.Comparing.{by_test, le_tells, lt_tells, lt_true, not_less}
+use Rattle.xns_calls.proofs.Gaps.{AreKept, event_whole, kept_next, late_kept, rest_kept}
+use Rattle.xns_calls.proofs.Known.{captured_in_known, event_ordered, events_ordered, kept_cases, known_step, event_known, new_ordered}
+use Rattle.xns_calls.proofs.Ordered.{AreFrom, IsKnown, IsOrdered, Kept, next_of, read_next_of}
 use Rattle.xns_calls.proofs.Steps.{early_of, next_early, passed_early, read_early, with_early}
 
 -- ---- what is heard of items

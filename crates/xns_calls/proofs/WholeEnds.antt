@@ -16,7 +16,7 @@ use Rattle.xns_calls.specs.declared.early.Early.{Early}
 use Rattle.xns_calls.specs.declared.heading.Heading.{Heading}
 use Rattle.xns_calls.specs.declared.track.Track.{Track}
 use Rattle.xns_calls.proofs.Fits.{acks_captured, acks_of, acks_reach, captured_both, of_both, reach_both}
-use Rattle.xns_calls.proofs.Gaps.{events_ordered, new_ordered}
+use Rattle.xns_calls.proofs.Known.{events_ordered, new_ordered}
 use Rattle.xns_calls.proofs.LastKept.{AreAcks, AreBelow, end_empty}
 use Rattle.xns_calls.proofs.Parts.{plain, plain_one}
 use Rattle.xns_calls.proofs.Steps.{early_of}

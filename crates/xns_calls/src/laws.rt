@@ -1,4 +1,5 @@
 //! Laws of the definitions, as functions that do nothing.
+ghost use Rattle.xns_calls.specs.Held.{FewItemsAreKept, NextItemsAreNotHeldLonger};
 ghost use Rattle.xns_calls.specs.InOrder.{KeptItemsAreReadInTurn};
 ghost use Rattle.xns_calls.specs.Laws.{AcknowledgementsWait, AnItemIsAnEvent, CapturesSayWhatLinesSay, ConnectionsHaveNumbers, HeardMessagesArePrinted, InputsTellTheirConversations};
 ghost use Rattle.xns_calls.specs.Laws.{LivingConnectionsAreKept, MissingItemsAreBeforeCapturedOnes, NothingIsMissing};
@@ -60,6 +61,20 @@ pub fn acknowledgements_wait()
 /// behind a packet can't be read, and nothing is still kept behind the end of the input.
 pub fn kept_items_are_read_in_turn()
     ensures { KeptItemsAreReadInTurn }
+{}
+
+/// A flow keeps 64 items at most, whatever lines come. Each of them has a number of its own, which is that of the next item to be read or
+/// up to 63 above it.
+pub fn few_items_are_kept()
+    ensures { FewItemsAreKept }
+{
+    flows_are_told_apart();
+}
+
+/// What a packet acknowledges of the flow behind is waited for up to the 64th packet of the connection after it, and no longer. An item that
+/// comes next of its flow is read by then. An item behind a gap may be kept longer: the law speaks of none but the next one.
+pub fn next_items_are_not_held_longer()
+    ensures { NextItemsAreNotHeldLonger }
 {}
 
 /// The field of an item is read as the item's number, where that is at most 32,768 below the next one and at most 32,767

@@ -1,4 +1,4 @@
-use Rattle.xns_calls.proofs.Gaps.{item_event}
+use Rattle.xns_calls.proofs.ItemEvents.{item_event}
 use Rattle.xns_calls.proofs.laws.an_item_is_an_event.Goals as goal
 
 pub returns : goal.returns

@@ -1,4 +1,4 @@
-use Rattle.xns_calls.proofs.Gaps.{none_before, not_beyond}
+use Rattle.xns_calls.proofs.Beyond.{none_before, not_beyond}
 use Rattle.xns_calls.proofs.laws.missing_items_are_before_captured_ones.Goals as goal
 
 pub returns : goal.returns

@@ -1,4 +1,4 @@
-use Rattle.xns_calls.proofs.Gaps.{repeated}
+use Rattle.xns_calls.proofs.Known.{repeated}
 use Rattle.xns_calls.proofs.laws.repeats_say_nothing.Goals as goal
 
 pub returns : goal.returns
