@@ -312,8 +312,8 @@ class Play:
         assert self.idle is not None, "packets for ever"
 
     def run(self, losses, steps, end_losses):
-        """Some random steps, and sometimes a rest. Then all is asked to close, and answered, and each connection ends, whatever the network does. Where
-        idle peers are never asked, a connection that closes waits for ever for a peer that went away: then the program abandons it."""
+        """Some random steps, and sometimes a rest. Then all is asked to close, and answered, and each connection ends, whatever the network does, also
+        where idle peers are never asked: while a connection closes its peer is."""
         for _ in range(steps):
             host, deliver = self.random.choice(self.hosts), lambda: self.deliver(losses)
             done = deliver, host.pass_time, host.call, host.answer, host.connect, host.close, host.abandon, host.spoil, host.tag
@@ -329,9 +329,6 @@ class Play:
                 host.answer()
                 host.close()
                 host.fetch()
-            if self.idle is None and not self.bag and all(host.wake() is None for host in self.hosts):
-                for host in self.hosts:
-                    host.abandon()
             for _ in range(len(self.bag)):
                 self.deliver(end_losses)
             for host in self.hosts:

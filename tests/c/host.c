@@ -226,6 +226,32 @@ static void idle(void) {
     free_both();
 }
 
+/* A connection that closes is closed as silent, even where the setting is never to probe, once the peer has acknowledged End and gone away: behind the answer
+ * nothing of the peer comes, and nothing waits for the peer. */
+static void closes_alone(void) {
+    const struct xns_settings settings = { .idle = UINT32_MAX, .first_wait = 100, .longest_wait = 300, .tries = 4 };
+    uint8_t packet[XNS_LONGEST_PACKET];
+    struct xns_event call;
+    uint64_t via, then;
+    size_t number, length;
+    open_both(&settings, &number);
+    call = calls(number, 1);
+    CHECK(xns_host_close(&client, now, number) == XNS_OK);
+    while (carry(&client, &service, CLIENT_VIA) || carry(&service, &client, SERVICE_VIA)) continue;
+    CHECK(xns_host_answer(&service, now, call.number, XNS_KIND_RETURN, 0, given, 1) == XNS_OK);
+    CHECK(xns_host_next_packet(&service, now, packet, sizeof packet, &length, &via) == XNS_OK && via == SERVICE_VIA); /* the answer, and EndReply is lost */
+    CHECK(xns_host_receive(&client, now, CLIENT_VIA, packet, length) == XNS_OK);
+    hears(number, XNS_KIND_RETURN, 0, 1);
+    CHECK(carry(&service, NULL, SERVICE_VIA) && carry(&client, NULL, CLIENT_VIA));
+    for (then = now; xns_host_wake(&client) != 0; carry(&client, NULL, CLIENT_VIA)) {
+        CHECK(xns_host_wake(&client) != XNS_NEVER);
+        now = xns_host_wake(&client);
+    }
+    CHECK(now - then >= 10000 && now - then < 13000);
+    is_closed(&client, XNS_CLOSED_SILENT, XNS_OK);
+    free_both();
+}
+
 /* An Error packet of one of two numbers that quotes a packet which the client sent lately closes its connection; one that quotes another does
  * not, nor does another number. The first packet opens the connection, a later one is a call. */
 static void not_served(void) {
@@ -333,6 +359,7 @@ int main(void) {
     silent();
     abandoned();
     idle();
+    closes_alone();
     not_served();
     made_anew();
     client_anew();

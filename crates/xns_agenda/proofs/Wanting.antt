@@ -1,4 +1,4 @@
--- While a call wants its answer something is due.
+-- While a word of the peer is wanted something is due.
 use Rattle.std.proofs.Common.{◌≡◌, refl, ℕ, Bool, true, false}
 use Rattle.std.specs.Prelude.{◌&&◌, ◌==◌, if◌then◌else◌}
 use Rattle.std.specs.Option.{is_some}

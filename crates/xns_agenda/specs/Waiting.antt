@@ -64,7 +64,7 @@ begun at w now = record w { due = at (later now w.length); length = next_length 
 abbrev pub usual_idle : ℕ
 usual_idle = 10000
 
--- how long the peer may be silent, where 0 is for ever; while a call wants its answer, the usual time stands for 0
+-- how long the peer may be silent, where 0 is for ever; while a word of the peer is wanted, the usual time stands for 0
 abbrev pub idle_span : Pace → (wants : Bool) → ℕ
 idle_span pace wants = if (pace.idle == 0) && wants then usual_idle else pace.idle
 
@@ -89,7 +89,7 @@ idling w (AgainAt t) wants = record (rested w) { due = idle_due w.pace w.heard_a
 idling w (AskAt t) wants = w
 idling w (ForgetAt t) wants = w
 
--- `waits`: something waits for the peer; `wants`: a call wants its answer
+-- `waits`: something waits for the peer; `wants`: a word of the peer is wanted, for a call or for the end of the connection
 abbrev pub after_step : Waiting → (waits wants : Bool) → ℕ → Waiting
 after_step w true wants now = waiting_on w w.due now
 after_step w false wants now = idling w w.due wants

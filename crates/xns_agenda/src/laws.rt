@@ -31,7 +31,7 @@ pub fn a_third_reply_comes_after_two()
     ensures { (w v : Waiting) (n : ℕ) (reply : Option ℕ) → w.replies.count ≡ 0 → Lacks w n v → is_third_reply v reply ≡ true → 2 ≤ n }
 {}
 
-/// While a call wants its answer the connection never waits for ever: something is due at a time.
+/// While a word of the peer is wanted, as for a call that wants its answer, the connection never waits for ever: something is due at a time.
 pub fn a_call_does_not_wait_for_ever()
     ensures { (w : Waiting) (waits : Bool) (now : ℕ) → is_some (due_time (after_step w waits true now).due) ≡ true }
 {}

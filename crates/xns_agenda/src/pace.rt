@@ -11,7 +11,7 @@ pub struct Pace {
     pub longest: u32,
     /// The least that a measured wait is longer than the time that was measured.
     pub least: u32,
-    /// How long the peer may be silent before it is asked, where nothing waits for it; 0: for ever, unless a call wants its answer.
+    /// How long the peer may be silent before it is asked, where nothing waits for it; 0: for ever, unless a word of it is wanted.
     pub idle: u32,
     /// How many waits without a word of the peer are borne, beside measured ones that are shorter than the first.
     pub tries: u8,

@@ -67,7 +67,7 @@ fn next_length(length: u32, pace: &Pace) -> u32
     }
 }
 
-/// How long a peer may be silent for which nothing waits; 0: for ever. Where a call wants its answer it may not be for ever.
+/// How long a peer may be silent for which nothing waits; 0: for ever. Where a word of the peer is wanted it may not be for ever.
 fn idle_span(pace: &Pace, wants: bool) -> u32
     ensures { result ≡ idle_span pace.now wants }
 {
@@ -202,8 +202,8 @@ impl Wait {
         }
     }
 
-    /// After a step of an open connection, where `waits` says whether something waits for the peer, and `wants` whether a call wants its
-    /// answer. What is due stays so.
+    /// After a step of an open connection, where `waits` says whether something waits for the peer, and `wants` whether a word of the peer is
+    /// wanted, for a call or for the end of the connection. What is due stays so.
     pub fn step(&mut self, waits: bool, wants: bool, now: u64)
         ensures { self.new ≡ after_step self.old waits wants now }
     {

@@ -17,7 +17,8 @@ pub struct XnsSettings {
     pub first_wait: u32,
     /// The longest wait.
     pub longest_wait: u32,
-    /// How long the peer may be silent before it is asked for a word. The largest number: it is never asked, unless a call wants its answer.
+    /// How long the peer may be silent before it is asked for a word. The largest number: it is never asked, unless a call wants its answer or
+    /// the connection closes.
     pub idle: u32,
     /// How many waits without a word of the peer are borne.
     pub tries: u8,

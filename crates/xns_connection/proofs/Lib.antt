@@ -30,3 +30,4 @@ mod Steps
 mod Still
 mod Tellings
 mod Waits
+mod Wanted

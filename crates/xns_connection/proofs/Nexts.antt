@@ -6,10 +6,10 @@ use Rattle.std.specs.declared.alloc.AllocError.{AllocError}
 use Rattle.xns_agenda.specs.Waiting.{Waiting, after_step}
 use Rattle.xns_spp.specs.Held.{StandsFor}
 use Rattle.xns_spp.specs.State.{State}
+use Rattle.xns_connection.specs.Closing.{wants_word}
 use Rattle.xns_connection.specs.Deeds.{wait_moved}
 use Rattle.xns_connection.specs.Giving.{Giving, GivesAs, IsGiving, IsShort, at_flush, at_word, else_newer, flushed, giving, newer, next_of, next_unless, older}
 use Rattle.xns_connection.specs.Moving.{HasHistory, Scene, scene}
-use Rattle.xns_connection.specs.Story.{wants_answer}
 use Rattle.xns_connection.specs.Telling.{waits}
 use Rattle.xns_connection.specs.declared.conversation.Conversation.{Conversation}
 use Rattle.xns_connection.specs.declared.owed.Owed.{Owed}
@@ -86,7 +86,7 @@ waits_closed (Some y) w x now some = refl
 waits_closed None w x now some = absurd (some refl)
 
 pub unless_closed : (t : Conversation) (s : State) (closed : Option Why) (w v : Waiting) (now : ℕ) → StandsFor t.endpoint s
-    → (closed ≡ None → (s : State) → StandsFor t.endpoint s → v ≡ after_step w (waits s) (wants_answer t.side) now) → (closed ≢ None → v ≡ w)
+    → (closed ≡ None → (s : State) → StandsFor t.endpoint s → v ≡ after_step w (waits s) (wants_word t.side t.closing) now) → (closed ≢ None → v ≡ w)
     → v ≡ wait_moved closed closed w (scene t s) now
 unless_closed t s (Some x) w v now stands going kept = kept (λ z. cc)
 unless_closed t s None w v now stands going kept = going refl s stands

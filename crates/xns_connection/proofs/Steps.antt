@@ -14,12 +14,12 @@ use Rattle.xns_spp.specs.Sending.{tick_answer, waiting_count}
 use Rattle.xns_spp.specs.Telling.{unacknowledged_count}
 use Rattle.xns_spp.specs.declared.input.Input.{Input}
 use Rattle.xns_spp.specs.State.{State}
+use Rattle.xns_connection.specs.Closing.{wants_word}
 use Rattle.xns_connection.specs.Connecting.{FitsClosed, again_for, goes_again, is_again, is_foreign, owed_after, owed_heard, wait_heard, why_after}
 use Rattle.xns_connection.specs.Moving.{HasHistory, IsAt, Scene, Settles, is_calm, scene}
 use Rattle.xns_connection.specs.Replying.{reply_by}
 use Rattle.xns_connection.specs.Step.{May, MovesOwed, Step, WaitsBy, is_calm_then, parts_of}
 use Rattle.xns_connection.specs.Deeds.{Deed, Parts, acted, acted_by, given_up, heard, Moved, ClosesThen, GoesOnBy, closed_moved, done, given_up_by, is_starved, owed_by, owed_moved, shut, took, wait_by, wait_moved}
-use Rattle.xns_connection.specs.Story.{wants_answer}
 use Rattle.xns_connection.specs.Telling.{is_over, is_progress, waits}
 use Rattle.xns_connection.specs.declared.connection.Connection.{Connection}
 use Rattle.xns_connection.specs.declared.conversation.Conversation.{Conversation}
@@ -45,7 +45,7 @@ then_shut now t r None (Some y) w none some why =
 -- a connection that is open behind the step
 pub then_open : (now : ℕ) (t : Conversation) (r : Result (Unit {0}) FeedRefusal) (was why : Option Why) (w v : Waiting) → is_some was ≡ false
     → is_some why ≡ false → ((s : State) → StandsFor t.endpoint s → why ≡ why_after t.closing (is_over t.closing s) r)
-    → ((s : State) → StandsFor t.endpoint s → v ≡ after_step w (waits s) (wants_answer t.side) now) → StepsAt now w v → ClosesThen now t r t was was w v
+    → ((s : State) → StandsFor t.endpoint s → v ≡ after_step w (waits s) (wants_word t.side t.closing) now) → StepsAt now w v → ClosesThen now t r t was was w v
 then_open now t r (Some x) why w v none not why_is waits_then steps = absurd (cc)
 then_open now t r None (Some y) w v none not why_is waits_then steps = absurd (cc)
 then_open now t r None None w v none not why_is waits_then steps =

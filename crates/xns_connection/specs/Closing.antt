@@ -2,7 +2,7 @@
 use Rattle.std.specs.Prelude.{◌≡◌, ℕ, List, [], ◌∷◌, ◌++◌, Bool, true, false, ◌&&◌, ◌||◌, ◌==◌, if◌then◌else◌}
 use Rattle.std.specs.List.{list_any}
 use Rattle.xns_spp.specs.declared.item.Item.{Item}
-use Rattle.xns_connection.specs.Story.{is_called, is_stopped}
+use Rattle.xns_connection.specs.Story.{is_called, is_stopped, wants_answer}
 use Rattle.xns_connection.specs.declared.closing.Closing.{Closing}
 use Rattle.xns_connection.specs.declared.side.Side.{Side}
 
@@ -27,6 +27,14 @@ closing_items c = put_if c.end_sent end_stream ++ put_if c.reply_sent end_reply_
 -- answer may still come, once EndReply is
 abbrev pub drains : Side → Closing → Bool
 drains side c = is_stopped side || ((c.end_sent && is_called side) || (c.reply_sent || c.deaf))
+
+-- the program wants an end, or the peer asked for one
+abbrev pub wants_end : Closing → Bool
+wants_end c = c.wanted || c.reply_wanted
+
+-- a word of the peer is wanted, also where nothing waits for the peer: a call of the side's own wants its answer, or an end is wanted
+abbrev pub wants_word : Side → Closing → Bool
+wants_word side c = wants_answer side || wants_end c
 
 -- what is known of closing after an item of this datastream that came; an EndReply that nobody asked for counts as End and EndReply
 abbrev pub noted : Closing → ℕ → Closing

@@ -16,9 +16,10 @@ use Rattle.xns_spp.specs.Held.{StandsFor}
 use Rattle.xns_spp.specs.Receiving.{after_receive}
 use Rattle.xns_spp.specs.Sending.{waiting_count}
 use Rattle.xns_spp.specs.State.{State}
+use Rattle.xns_connection.specs.Closing.{wants_word}
 use Rattle.xns_connection.specs.Connecting.{owed_after, owed_heard, wait_heard, why_after, why_given_up}
 use Rattle.xns_connection.specs.Moving.{Scene, IsAt, Settles, deafened, scene}
-use Rattle.xns_connection.specs.Story.{Story, asked_of, listed_call, waiting_message, wants_answer, with_handed}
+use Rattle.xns_connection.specs.Story.{Story, asked_of, listed_call, waiting_message, with_handed}
 use Rattle.xns_connection.specs.Telling.{is_over, waits}
 use Rattle.xns_connection.specs.declared.conversation.Conversation.{Conversation}
 use Rattle.xns_connection.specs.declared.owed.Owed.{Owed}
@@ -148,7 +149,7 @@ shut None (Some why) x = deafened x
 -- where the step closed the connection, it lingers
 abbrev pub wait_moved : (was closed : Option Why) → Waiting → Scene → (now : ℕ) → Waiting
 wait_moved (Some why) closed w x now = w
-wait_moved None None w x now = after_step w (waits x.state) (wants_answer x.side) now
+wait_moved None None w x now = after_step w (waits x.state) (wants_word x.side x.closing) now
 wait_moved None (Some why) w x now = lingering w now
 
 -- the conversation reads only items of the closing exchange

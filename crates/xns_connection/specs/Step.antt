@@ -1,21 +1,21 @@
 -- One step of a connection: something is done, and then what can move moves. It determines every part of the new connection.
 use Rattle.std.specs.Prelude.{◌≡◌, ◌≢◌, ℕ, List, [], Bool, true, false, not, ◌&&◌, Option, None, Result, Ok, Err, IfOk, OnErr}
 use Rattle.courier_sessions.specs.declared.feed_refusal.FeedRefusal.{FeedRefusal}
-use Rattle.xns_agenda.specs.Waiting.{HearsAt, StepsAt, Waiting, after_step, new_waiting}
+use Rattle.xns_agenda.specs.Waiting.{HearsAt, StepsAt, Waiting, after_step, due_time, new_waiting}
 use Rattle.xns_agenda.specs.declared.pace.Pace.{Pace}
 use Rattle.xns_spp.specs.Held.{StandsFor}
 use Rattle.xns_spp.specs.State.{State}
 use Rattle.xns_connection.specs.Closed.{ClosesBy}
-use Rattle.xns_connection.specs.Closing.{drains}
+use Rattle.xns_connection.specs.Closing.{drains, wants_word}
 use Rattle.xns_connection.specs.Connecting.{is_dead}
-use Rattle.xns_connection.specs.Deeds.{Deed, Moved, Parts, done, nothing, asked, made, gave, side_taken, took, heard, owed_by, told_by, wait_by, wait_moved, wanted_by}
+use Rattle.xns_connection.specs.Deeds.{Deed, Moved, Parts, acted, done, nothing, asked, made, gave, side_taken, took, heard, owed_by, told_by, unserved, wait_by, wait_moved, wanted_by}
 use Rattle.std.specs.Option.{is_some}
 use Rattle.std.specs.declared.alloc.AllocError.{AllocError}
 use Rattle.xns_connection.specs.Giving.{Giving, GivesAs, IsGiving, IsShort, giving, next_of, next_unless}
 use Rattle.xns_connection.specs.Living.{GoesFrom}
 use Rattle.xns_connection.specs.Moving.{is_calm, scene}
 use Rattle.xns_connection.specs.Reasons.{answer_fault_of, call_fault_of}
-use Rattle.xns_connection.specs.Story.{Story, is_stopped, waiting_message, wants_answer}
+use Rattle.xns_connection.specs.Story.{Story, is_stopped, waiting_message}
 use Rattle.xns_connection.specs.Telling.{waits as waits_for}
 use Rattle.xns_connection.specs.Telling.{CalmFrom, Goes, HasSaidEnd, HasSaidReply, MovesAndGives, OwesRoom, ReadsAll, Rested}
 use Rattle.xns_connection.specs.declared.connection.Connection.{Connection}
@@ -34,7 +34,8 @@ pub record IsMade (pace : Pace) (now : ℕ) (again : Bool) (c : Connection) : Ty
   pub unclosed : c.closed ≡ None
   pub untold : c.told ≡ false
   pub owes : c.owed ≡ record NONE { again = again }
-  pub waits : (s : State) → StandsFor c.conversation.endpoint s → c.wait ≡ after_step (new_waiting pace now) (waits_for s) (wants_answer c.conversation.side) now
+  pub waits : (s : State) → StandsFor c.conversation.endpoint s
+      → c.wait ≡ after_step (new_waiting pace now) (waits_for s) (wants_word c.conversation.side c.conversation.closing) now
   pub began : StepsAt now (new_waiting pace now) c.wait
 
 -- ---- a step
@@ -182,3 +183,17 @@ pub record TheDeadAreSilent : Type 0 where
 abbrev pub AStepHasOneEnd : Type 0
 AStepHasOneEnd = (now : ℕ) (deed : Deed) (old new other : Connection) (s : State) → StandsFor old.conversation.endpoint s
     → Step now deed old new → Step now deed old other → new.owed.moving ≡ false → other.owed.moving ≡ false → parts_of new ≡ parts_of other
+
+-- the parts of a connection are timed: it is closed, or wants no word of its peer, or something is due at a time
+abbrev pub IsTimed : Parts → Type 0
+IsTimed p = p.closed ≡ None → wants_word p.conversation.side p.conversation.closing ≡ true → is_some (due_time p.wait.due) ≡ true
+
+-- a connection is timed when it is new, after each step, and after it was asked for a packet; what moves nothing leaves it timed
+pub record AClosingConnectionDoesNotWaitForEver : Type 0 where
+  pub begins : (pace : Pace) (now : ℕ) (again : Bool) (c : Connection) → IsMade pace now again c → IsTimed (parts_of c)
+  pub steps : (now : ℕ) (deed : Deed) (old new : Connection) → Step now deed old new → IsTimed (parts_of new)
+  pub gives : (now : ℕ) (result : Result (Option (List ℕ)) AllocError) (old new : Connection) → GivesNext now result old new → IsTimed (parts_of new)
+  pub hands : (now : ℕ) (old new : Connection) → IsTimed (parts_of old) → Hands now old new → IsTimed (parts_of new)
+  pub acts : (now : ℕ) (old new : Connection) → IsTimed (parts_of old) → parts_of new ≡ acted (parts_of old) now → IsTimed (parts_of new)
+  pub refused : (number now : ℕ) (old new : Connection) → IsTimed (parts_of old) → parts_of new ≡ unserved (parts_of old) number now
+      → IsTimed (parts_of new)

@@ -8,7 +8,7 @@ ghost use Rattle.xns_spp.specs.Receiving.{input_answer, after_receive, StoresByt
 ghost use Rattle.xns_spp.specs.Sending.{send_answer, after_send, tick_answer, waiting_count};
 ghost use Rattle.xns_spp.specs.State.{State};
 ghost use Rattle.xns_connection.specs.Calls.{call_model};
-ghost use Rattle.xns_connection.specs.Closing.{closing_item, noted, drains};
+ghost use Rattle.xns_connection.specs.Closing.{closing_item, noted, drains, wants_word};
 ghost use Rattle.xns_connection.specs.Moving.{IsAt, Moves, Scene, Settles, closed_up, drained_out, ended, is_calm, replied, scene, taken_many, taken_one};
 ghost use Rattle.xns_connection.specs.Deeds.{side_answered, side_called, side_taken};
 ghost use Rattle.xns_connection.specs.Refusing.{Answers};
@@ -290,6 +290,14 @@ impl Conversation {
         ensures tick { (s : State) → StandsFor self.now.endpoint s → result ≡ false → tick_answer s ≡ [] }
     {
         !self.endpoint.is_open() || self.endpoint.unacknowledged() > 0
+    }
+
+    /// Whether a word of the peer is wanted, also where nothing waits for the peer: a call of the side's own wants its answer, or the program
+    /// or the peer asked for the end of the connection.
+    pub fn wants_word(&self) -> bool
+        ensures { result ≡ wants_word self.now.side self.now.closing }
+    {
+        self.side.wants_answer() || self.closing.wanted || self.closing.reply_wanted
     }
 
     /// Whether the closing exchange is over, and the peer has acknowledged its last item.

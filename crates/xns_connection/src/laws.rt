@@ -13,7 +13,7 @@ ghost use Rattle.xns_connection.specs.Agreeing.{handed_up, HasCalled, HasServed,
 ghost use Rattle.xns_connection.specs.Closed.{AGoodCloseLosesNothing};
 ghost use Rattle.xns_connection.specs.Closing.{drains};
 ghost use Rattle.xns_connection.specs.Living.{Deeds, no_deeds, Lives, IsLived, ProgramsAgree};
-ghost use Rattle.xns_connection.specs.Step.{AConnectionGivesWhatItMade, AMessageIsHandedAsByAStep, AStepHasOneEnd, AStepKeepsItsPromises, TheDeadAreSilent};
+ghost use Rattle.xns_connection.specs.Step.{AClosingConnectionDoesNotWaitForEver, AConnectionGivesWhatItMade, AMessageIsHandedAsByAStep, AStepHasOneEnd, AStepKeepsItsPromises, TheDeadAreSilent};
 ghost use Rattle.xns_connection.specs.Story.{Story, GoesOn, new_story};
 ghost use Rattle.xns_connection.specs.Telling.{Tells};
 ghost use Rattle.xns_connection.specs.declared.conversation.Conversation.{Conversation};
@@ -119,6 +119,14 @@ pub fn a_connection_gives_what_it_made()
 pub fn the_dead_are_silent()
     ensures { TheDeadAreSilent }
 {}
+
+/// A connection that closes does not wait for ever for its peer, nor does one whose call wants its answer: until it is closed something is
+/// due at a time, also where the pace never asks an idle peer. A silent peer is given up then, by `a_silent_peer_is_given_up` of `xns_agenda`.
+pub fn a_closing_connection_does_not_wait_for_ever()
+    ensures { AClosingConnectionDoesNotWaitForEver }
+{
+    xns_agenda::laws::a_call_does_not_wait_for_ever();
+}
 
 /// A connection that is given up counts as closed by the exchange only where the peer acknowledged all that its side said, and its End.
 pub fn a_good_close_loses_nothing()

@@ -9,10 +9,10 @@ ghost use Rattle.xns_spp.specs.Held.{StandsFor};
 ghost use Rattle.xns_spp.specs.Sending.{tick_answer};
 ghost use Rattle.xns_spp.specs.State.{State};
 ghost use Rattle.xns_spp.specs.Telling.{unacknowledged_count};
+ghost use Rattle.xns_connection.specs.Closing.{wants_word};
 ghost use Rattle.xns_connection.specs.Connecting.{FitsClosed, is_again, is_open_due, is_closed_due, why_after, owed_after, again_for, is_foreign, is_of_another, is_repeat};
 ghost use Rattle.xns_connection.specs.Moving.{HasHistory};
 ghost use Rattle.xns_connection.specs.Deeds.{ClosesThen, GoesOnBy, is_starved};
-ghost use Rattle.xns_connection.specs.Story.{wants_answer};
 ghost use Rattle.xns_connection.specs.Telling.{waits};
 ghost use Rattle.xns_agenda.specs.Waiting.{StepsAt, after_step, after_word};
 ghost use Rattle.xns_agenda.specs.declared.act.Act.TheVariants.{GiveUp};
@@ -48,12 +48,12 @@ fn is_foreign(dropped: Option<Dropped>) -> bool
 pub fn wait_on(conversation: &Conversation, wait: &mut Wait, now: u64)
     requires { is_open_due wait.old.due ≡ true }
     ensures waits { (s : State) → StandsFor conversation.now.endpoint s
-        → wait.new ≡ after_step wait.old (waits s) (wants_answer conversation.now.side) now }
+        → wait.new ≡ after_step wait.old (waits s) (wants_word conversation.now.side conversation.now.closing) now }
     ensures steps { StepsAt now wait.old wait.new }
     ensures timed { (s : State) → StandsFor conversation.now.endpoint s → tick_answer s ≢ [] → is_again wait.new.due ≡ true }
     ensures open_due { is_open_due wait.new.due ≡ true }
 {
-    wait.step(conversation.waits(), conversation.side.wants_answer(), now);
+    wait.step(conversation.waits(), conversation.wants_word(), now);
 }
 
 /// After items moved: records the close reason, if any, and restarts the timer.
@@ -208,7 +208,7 @@ pub fn wait_unless(conversation: &Conversation, closed: Option<Why>, wait: &mut 
     requires open_due { closed ≡ None → is_open_due wait.old.due ≡ true }
     ensures kept { closed ≢ None → wait.new ≡ wait.old }
     ensures waits { closed ≡ None → (s : State) → StandsFor conversation.now.endpoint s
-        → wait.new ≡ after_step wait.old (waits s) (wants_answer conversation.now.side) now }
+        → wait.new ≡ after_step wait.old (waits s) (wants_word conversation.now.side conversation.now.closing) now }
     ensures timed { closed ≡ None → (s : State) → StandsFor conversation.now.endpoint s → tick_answer s ≢ []
         → is_again wait.new.due ≡ true }
     ensures open_due { closed ≡ None → is_open_due wait.new.due ≡ true }

@@ -23,7 +23,7 @@ pub struct Settings {
     /// How much longer a measured wait is than the measured time at least: 1 to `first_wait`.
     pub least_wait: u32,
     /// How long the peer may be silent before it is asked for a word, where nothing waits for it. 0: it is never asked, but after 10 seconds
-    /// while a call wants its answer.
+    /// while a call wants its answer or the connection closes.
     pub idle: u32,
     /// How many waits without a word of the peer are borne: from 1. After one more it is given up. Measured waits that are shorter than the
     /// first one do not count.
