@@ -23,6 +23,7 @@ use Rattle.xns_calls.specs.declared.heading.Heading.{Heading}
 use Rattle.xns_calls.specs.declared.origin.Origin.{Origin}
 use Rattle.xns_calls.specs.declared.track.Track.{Track}
 use Rattle.xns_calls.proofs.Comparing.{le_tells, lt_tells}
+use Rattle.xns_calls.proofs.Histories.{known_come, with_both}
 use Rattle.xns_calls.proofs.InOrder.{can_so, in_turn, settled_left}
 use Rattle.xns_calls.proofs.Others.{get_same}
 use Rattle.xns_calls.proofs.Taken.{fused}
@@ -268,10 +269,6 @@ packet_waits packet c track n apart at is =
     added_is true at = ap (λ o. new_ahead o (aheads_in false c) packet.header.acknowledge) at
     added_is false at = ap (λ o. new_ahead o (aheads_in true c) packet.header.acknowledge) at
 
-with_both : (xs ys : List Handled) (c : Connection) → with_all (xs ++ ys) c ≡ with_all ys (with_all xs c)
-with_both [] ys c = refl
-with_both (packet ∷ xs) ys c = with_both xs ys (with_handled packet c)
-
 given_then : (number : ℕ) (flow : Flow) (before more : List Handled) (packet : Handled) (track : Track) (n : ℕ)
     → track_behind packet (behind_all number flow before) ≡ Some track → acknowledges packet (behind_all number flow before) ≡ Some n → most_waited ≤ length more
     → (n ≤ track.next) ⊎ (n ≤ given_of (not packet.is_behind) (behind_all number flow (before ++ packet ∷ more)))
@@ -342,7 +339,7 @@ given_there false f c s = refl
 
 pub not_held_longer : NextItemsAreNotHeldLonger
 not_held_longer = record {
-  packets = record { connection = handled_there; given = given_there };
+  packets = record { connection = handled_there; given = given_there; known = known_come };
   waited = λ number flow before more packet track n at is long.
       subst (λ g. (n ≤ track.next) ⊎ (n ≤ g)) (sym (given_other packet.is_behind (behind_all number flow (before ++ packet ∷ more))))
       (given_then number flow before more packet track n at is long);

@@ -78,8 +78,11 @@ abbrev pub scene_behind : Origin → Bool → PacketModel → Header → List �
 scene_behind n is_behind packet f content c k =
     handled (heading_at n c.number is_behind) (due_in is_behind f c) packet f content (scene_in is_behind c (repeats_told n is_behind f c k))
 
--- what a packet does to its connection is that it is handled so; what is read then goes by what is given behind the packet
+-- behind whatever lines each connection that is known has come from a new one by packets that were handled, as the packets of the
+-- connection are; what is read with one goes by what is given behind it
 pub record PacketsAreHandled : Type 0 where
+  pub known : (programs : Programs) (lines : List (List ℕ)) (i : ℕ) (c : Connection) → slice_get (known_of programs lines).connections i ≡ Some c
+      → (number : ℕ) × (flow : Flow) × (packets : List Handled) × (c ≡ behind_all number flow packets)
   pub connection : (n : Origin) (i : ℕ) (is_behind : Bool) (packet : PacketModel) (f : Header) (content : List ℕ) (c : Connection) (k : Known) → slice_get k.connections i ≡ Some c
       → slice_get (after_in n i is_behind packet f content c k).connections i ≡ Some (with_handled (handled_by is_behind f (scene_behind n is_behind packet f content c k)) c)
   pub given : (is_behind : Bool) (f : Header) (c : Connection) (s : Scene) → (due_in is_behind f c).given ≡ given_in is_behind (with_handled (handled_by is_behind f s) c)

@@ -71,8 +71,8 @@ pub fn few_items_are_kept()
     flows_are_told_apart();
 }
 
-/// What a packet acknowledges of the flow behind is waited for up to the 64th packet of the connection after it, and no longer. An item that
-/// comes next of its flow is read by then. An item behind a gap may be kept longer: the law speaks of none but the next one.
+/// What a packet acknowledges of the flow behind is waited for up to the 64th packet of its connection after it, and no longer. Where the
+/// packet's item comes next of its flow, the item is kept no longer than that. An item behind a gap may be kept longer.
 pub fn next_items_are_not_held_longer()
     ensures { NextItemsAreNotHeldLonger }
 {}
