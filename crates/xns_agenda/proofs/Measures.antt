@@ -57,7 +57,7 @@ all_longest (suc n) pace length span longest some all =
 
 -- ---- the waits take so long, and one less does not
 
-waits_more : (pace : Pace) (length k : ℕ) → waits_time pace length (k + 1) ≡ length + waits_time pace (next_length pace length) k
+pub waits_more : (pace : Pace) (length k : ℕ) → waits_time pace length (k + 1) ≡ length + waits_time pace (next_length pace length) k
 unfolding waits_time
 waits_more pace length k = ap (waits_time pace length) (add-one k)
 
@@ -106,7 +106,7 @@ too_short (suc n) pace length span k fewer =
     short_by (nat_le span length) pace length span _ k refl fewer (λ j less. too_short n pace (next_length pace length) (span - length) j less)
 
 -- more waits take no less
-waits_grow : (pace : Pace) (length j k : ℕ) → j ≤ k → waits_time pace length j ≤ waits_time pace length k
+pub waits_grow : (pace : Pace) (length j k : ℕ) → j ≤ k → waits_time pace length j ≤ waits_time pace length k
 unfolding waits_time
 waits_grow pace length zero k most = omega arith
 waits_grow pace length (suc i) zero most = absurd (omega (arith, most))

@@ -9,8 +9,9 @@ ghost use Rattle.xns_agenda.specs.declared.measure.TheConstants.Measure.{NONE};
 ghost use Rattle.xns_agenda.specs.declared.pace.Pace.{Pace};
 ghost use Rattle.xns_agenda.specs.declared.smoothed.Smoothed.{Smoothed};
 ghost use Rattle.xns_agenda.specs.declared.clock.Clock.{Clock};
+ghost use Rattle.xns_agenda.specs.Patience.{Vain};
 ghost use Rattle.xns_agenda.specs.Waiting.{Lacks, Unheard, Waiting, Silence, last_time, act_at, after_act, after_step, due_time, is_third_reply, later};
-ghost use Rattle.xns_agenda.specs.declared.act.Act.TheVariants.{Again};
+ghost use Rattle.xns_agenda.specs.declared.act.Act.TheVariants.{Again, GiveUp};
 ghost use Rattle.xns_agenda.specs.declared.due.Due.TheVariants.{AgainAt};
 
 /// Between two words of the peer at most as many packets go out by the time alone as are borne, whatever else is done. Each
@@ -80,4 +81,13 @@ pub fn a_silent_peer_is_borne()
         → borne m pace ≡ pace.tries }
     ensures usual { (pace : Pace) → pace.first ≡ 250 → pace.longest ≡ 8000 → pace.tries ≡ 8 → pace.patience ≡ 32000
         → (borne NONE pace ≡ 8) × (waits_time pace (first_wait NONE pace) 9 ≡ 39750) }
+{}
+
+/// A silent peer is given up no sooner than the pace says. Where something waits for it that begins to wait at `start`, at least as many packets
+/// have gone out again as the tries say (`tries`), and the patience has passed since (`patience`), but where so many packets have gone out as
+/// can be counted, or at the end of time.
+pub fn no_peer_is_given_up_early()
+    ensures tries { (w v : Waiting) (start n now : ℕ) → w.misses ≡ 0 → Vain start w n v → act_at v now ≡ GiveUp → w.pace.tries ≤ n }
+    ensures patience { (w v : Waiting) (start n now : ℕ) → w.misses ≡ 0 → Vain start w n v → act_at v now ≡ GiveUp → n < most_borne
+        → later start w.pace.patience ≤ now }
 {}
