@@ -3,6 +3,7 @@ mod Beside
 mod Free
 mod Later
 mod Measures
+mod Patience
 mod Putting
 mod Repeats
 mod Silent

@@ -1,6 +1,6 @@
 -- How long a peer takes to acknowledge, as it is measured, and how long is waited by that. Times are in milliseconds.
-use Rattle.std.specs.Prelude.{ℕ, ◌+◌, ◌-◌, ◌*◌, ◌/◌, ◌^◌, ◌≤◌, Bool, true, false, ◌&&◌, ◌==◌, nat_le, nat_lt, min, max, if◌then◌else◌, Option, Some, None}
-use Rattle.std.specs.Int.{abs_diff, leading_zeros, w32}
+use Rattle.std.specs.Prelude.{ℕ, zero, suc, ◌+◌, ◌-◌, ◌*◌, ◌/◌, ◌^◌, ◌≤◌, Bool, true, false, ◌&&◌, ◌==◌, nat_le, nat_lt, min, max, if◌then◌else◌, Option, Some, None}
+use Rattle.std.specs.Int.{abs_diff}
 use Rattle.xns_agenda.specs.declared.measure.Measure.{Measure}
 use Rattle.xns_agenda.specs.declared.pace.Pace.{Pace}
 use Rattle.xns_agenda.specs.declared.smoothed.Smoothed.{Smoothed}
@@ -104,12 +104,27 @@ wait_by (Some s) doubts pace = min (max (estimate s pace.least) (doubted_wait pa
 abbrev pub first_wait : Measure → Pace → ℕ
 first_wait m pace = wait_by m.smoothed m.doubts pace
 
--- how many waits are shorter than `wait`, where the first wait is `length` long, and each is twice as long as the one
--- before
-abbrev pub shorter_waits : (length wait : ℕ) → ℕ
-shorter_waits length wait = 32 - leading_zeros w32 ((wait - 1) / length)
+-- the next wait is twice as long, up to the longest
+abbrev pub next_length : Pace → ℕ → ℕ
+next_length pace length = min (length * 2) pace.longest
 
--- how many packets are borne without a word of the peer: as many as the pace says, and one more for each wait that is
--- shorter than the pace's first wait
+-- how long so many waits take together, the first of which is `length` long
+unfoldable pub waits_time : Pace → (length count : ℕ) → ℕ
+waits_time pace length zero = 0
+waits_time pace length (suc n) = length + waits_time pace (next_length pace length) n
+
+-- ---- how long a silent peer is borne
+
+-- how many waits have to come after one that is `length` long, until all of them together take `span`; no more than `most` are counted
+unfoldable pub further_waits : (most : ℕ) → Pace → (length span : ℕ) → ℕ
+further_waits zero pace length span = 0
+further_waits (suc n) pace length span = if nat_le span length then 0 else 1 + further_waits n pace (next_length pace length) (span - length)
+
+-- packets in vain are counted by 16 bits
+abbrev pub most_borne : ℕ
+most_borne = 65535
+
+-- how many packets are borne without a word of the peer: one goes out after each wait but the last, and all of the waits together take the
+-- pace's patience; at least as many as the pace's tries. Each wait takes a millisecond at least, so no more come than the patience has
 abbrev pub borne : Measure → Pace → ℕ
-borne m pace = pace.tries + shorter_waits (first_wait m pace) pace.first
+borne m pace = max pace.tries (min (further_waits pace.patience pace (first_wait m pace) pace.patience) most_borne)

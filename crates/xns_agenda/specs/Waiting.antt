@@ -1,6 +1,6 @@
 -- When a connection says something again, asks its peer for a word, and is given up. Times are in milliseconds.
-use Rattle.std.specs.Prelude.{◌≡◌, ℕ, ◌+◌, ◌-◌, ◌*◌, ◌^◌, ◌<◌, ◌≤◌, Bool, true, false, not, ◌&&◌, ◌==◌, nat_le, min, if◌then◌else◌, Option, Some, None, IfSome}
-use Rattle.xns_agenda.specs.Measuring.{IsBounded, begun_timing, borne, first_wait, is_late, is_vain, learnt}
+use Rattle.std.specs.Prelude.{◌≡◌, ℕ, ◌+◌, ◌-◌, ◌^◌, ◌<◌, ◌≤◌, Bool, true, false, not, ◌&&◌, ◌==◌, nat_le, min, if◌then◌else◌, Option, Some, None, IfSome}
+use Rattle.xns_agenda.specs.Measuring.{IsBounded, begun_timing, borne, first_wait, is_late, is_vain, learnt, next_length}
 use Rattle.xns_agenda.specs.Replying.{counted, is_third}
 use Rattle.xns_agenda.specs.declared.act.Act.{Act}
 use Rattle.xns_agenda.specs.declared.act.Act.TheVariants.{Nothing, Again, Ask, GiveUp, Forget}
@@ -43,10 +43,6 @@ last_time = 2 ^ 64 - 1
 -- the time `span` after `now`, and the last time where that would be later
 abbrev pub later : ℕ → ℕ → ℕ
 later now span = min (now + span) last_time
-
--- the next wait is twice as long, up to the longest
-abbrev pub next_length : Pace → ℕ → ℕ
-next_length pace length = min (length * 2) pace.longest
 
 abbrev pub new_waiting : Pace → ℕ → Waiting
 new_waiting pace now = record { pace = pace; due = Never; length = pace.first; measure = NONE; timing = Ready; replies = none.NONE; misses = 0; heard_at = now }

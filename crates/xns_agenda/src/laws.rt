@@ -1,15 +1,17 @@
 //! What the definitions imply, each as the contract of a function that does nothing.
 
-ghost use Rattle.std.specs.Prelude.{◌≡◌, ◌≤◌, ◌<◌, ◌+◌, ◌-◌, ◌*◌, ◌^◌, ℕ, Bool, Option, true};
+ghost use Rattle.std.specs.Prelude.{◌≡◌, ◌≤◌, ◌<◌, ◌+◌, ◌-◌, ◌*◌, ℕ, Bool, Option, true};
 ghost use Rattle.std.specs.Option.{is_some};
 ghost use Rattle.xns_agenda.specs.Clock.{by_told, day, time_at, told_at};
-ghost use Rattle.xns_agenda.specs.Measuring.{borne, first_wait, shorter_waits, smoothed_on};
+ghost use Rattle.xns_agenda.specs.Measuring.{borne, first_wait, most_borne, next_length, smoothed_on, waits_time};
+ghost use Rattle.xns_agenda.specs.declared.measure.Measure.{Measure};
 ghost use Rattle.xns_agenda.specs.declared.measure.TheConstants.Measure.{NONE};
 ghost use Rattle.xns_agenda.specs.declared.pace.Pace.{Pace};
 ghost use Rattle.xns_agenda.specs.declared.smoothed.Smoothed.{Smoothed};
 ghost use Rattle.xns_agenda.specs.declared.clock.Clock.{Clock};
-ghost use Rattle.xns_agenda.specs.Waiting.{Lacks, Unheard, Waiting, Silence, last_time, act_at, after_act, after_step, due_time, is_third_reply, later, next_length};
-ghost use Rattle.xns_agenda.specs.declared.act.Act.TheVariants.{Again};
+ghost use Rattle.xns_agenda.specs.Patience.{Vain};
+ghost use Rattle.xns_agenda.specs.Waiting.{Lacks, Unheard, Waiting, Silence, last_time, act_at, after_act, after_step, due_time, is_third_reply, later};
+ghost use Rattle.xns_agenda.specs.declared.act.Act.TheVariants.{Again, GiveUp};
 ghost use Rattle.xns_agenda.specs.declared.due.Due.TheVariants.{AgainAt};
 
 /// Between two words of the peer at most as many packets go out by the time alone as are borne, whatever else is done. Each
@@ -56,13 +58,36 @@ pub fn a_clock_goes_on()
     ensures told { (c : Clock) (span : ℕ) → 0 < span → c.told + span < last_time → by_told c (c.latest + span) ≡ c.told + span }
 {}
 
-/// How long is waited: as the pace says, where nothing was measured, and so many packets are borne too (`unmeasured`). Where each time that is
-/// measured is the same, that is the smoothed time (`steady`). So many waits are shorter than another one: the next is not (`enough`), and
-/// the last of them is (`shorter`).
+/// How long is waited: as the pace says, where nothing was measured (`unmeasured`). Where each time that is measured is the same, that is the
+/// smoothed time (`steady`).
 pub fn a_wait_is_measured()
-    ensures unmeasured { (pace : Pace) → (first_wait NONE pace ≡ pace.first) × (borne NONE pace ≡ pace.tries) }
+    ensures unmeasured { (pace : Pace) → first_wait NONE pace ≡ pace.first }
     ensures steady { (s : Smoothed) (time : ℕ) → s.time8 ≡ 8 * time → (smoothed_on s time).time8 ≡ 8 * time }
-    ensures enough { (length wait : ℕ) → 1 ≤ length → 1 ≤ wait → wait < 2 ^ 32 → wait ≤ length * 2 ^ shorter_waits length wait }
-    ensures shorter { (length wait k : ℕ) → 1 ≤ length → 1 ≤ wait → wait < 2 ^ 32 → shorter_waits length wait ≡ k + 1
-        → length * 2 ^ k < wait }
+{}
+
+/// How long a silent peer is borne. One packet goes out after each wait but the last, and the waits together take at least the patience
+/// (`patient`), unless so many packets go out as can be counted; at least as many go out as the tries say (`tries`), and no more than can be
+/// counted (`counted`). After fewer packets than are borne, but not fewer than the tries, the waits have not taken the patience (`no_longer`).
+/// Where the first waits have taken the patience, the tries alone say how many (`tries_alone`). With the usual numbers, where nothing was
+/// measured, eight packets are borne, and the nine waits take 39,750 ms (`usual`).
+pub fn a_silent_peer_is_borne()
+    ensures patient { (m : Measure) (pace : Pace) → borne m pace < most_borne
+        → pace.patience ≤ waits_time pace (first_wait m pace) (borne m pace + 1) }
+    ensures tries { (m : Measure) (pace : Pace) → pace.tries ≤ borne m pace }
+    ensures counted { (m : Measure) (pace : Pace) → pace.tries ≤ most_borne → borne m pace ≤ most_borne }
+    ensures no_longer { (m : Measure) (pace : Pace) (k : ℕ) → pace.tries ≤ k → k < borne m pace
+        → waits_time pace (first_wait m pace) (k + 1) < pace.patience }
+    ensures tries_alone { (m : Measure) (pace : Pace) → pace.patience ≤ waits_time pace (first_wait m pace) (pace.tries + 1)
+        → borne m pace ≡ pace.tries }
+    ensures usual { (pace : Pace) → pace.first ≡ 250 → pace.longest ≡ 8000 → pace.tries ≡ 8 → pace.patience ≡ 32000
+        → (borne NONE pace ≡ 8) × (waits_time pace (first_wait NONE pace) 9 ≡ 39750) }
+{}
+
+/// A silent peer is given up no sooner than the pace says. Where something waits for it that begins to wait at `start`, at least as many packets
+/// have gone out again as the tries say (`tries`), and the patience has passed since (`patience`), but where so many packets have gone out as
+/// can be counted, or at the end of time.
+pub fn no_peer_is_given_up_early()
+    ensures tries { (w v : Waiting) (start n now : ℕ) → w.misses ≡ 0 → Vain start w n v → act_at v now ≡ GiveUp → w.pace.tries ≤ n }
+    ensures patience { (w v : Waiting) (start n now : ℕ) → w.misses ≡ 0 → Vain start w n v → act_at v now ≡ GiveUp → n < most_borne
+        → later start w.pace.patience ≤ now }
 {}

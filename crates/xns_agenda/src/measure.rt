@@ -1,7 +1,7 @@
 //! How long is waited, by what was measured.
 
-ghost use Rattle.std.specs.Prelude.{◌≡◌, ◌≤◌, ◌+◌, ◌-◌, ◌*◌, ◌/◌, ◌^◌, Some, None, IfSome};
-ghost use Rattle.xns_agenda.specs.Measuring.{IsBounded, borne, doubted, doubted_wait, expected, first_wait, half_time, is_expected, learnt, sampled, shorter_waits, smoothed_by};
+ghost use Rattle.std.specs.Prelude.{◌≡◌, ◌≤◌, ◌+◌, ◌-◌, Some, None, IfSome};
+ghost use Rattle.xns_agenda.specs.Measuring.{IsBounded, borne, doubted, doubted_wait, expected, first_wait, half_time, is_expected, learnt, most_borne, sampled, smoothed_by};
 
 use crate::pace::Pace;
 use crate::smoothed::Smoothed;
@@ -14,17 +14,6 @@ pub struct Measure {
     pub smoothed: Option<Smoothed>,
     /// How often something went out again, perhaps too early, since a time was measured.
     pub doubts: u8,
-}
-
-/// How many waits are shorter than this one, where the first of them is so long, and each is twice the last.
-fn shorter_waits(length: u32, wait: u32) -> u16
-    requires length { 1 ≤ length }
-    requires wait { 1 ≤ wait }
-    ensures value { result ≡ shorter_waits length wait }
-    ensures most { result ≤ 32 }
-{
-    let times = (wait - 1) / length;
-    (32 - times.leading_zeros()) as u16
 }
 
 /// By so many doubts at least so long is waited.
@@ -50,6 +39,9 @@ impl Measure {
         doubts: 0,
     };
 
+    /// The most packets that are borne: so many are counted by 16 bits.
+    pub const MOST_BORNE: u16 = u16::MAX;
+
     /// The first wait for an acknowledgement.
     pub fn first_wait(self, pace: &Pace) -> u32
         requires { IfSome self.smoothed IsBounded }
@@ -71,9 +63,11 @@ impl Measure {
     pub fn borne(self, pace: &Pace) -> u16
         requires { IfSome self.smoothed IsBounded }
         ensures value { result ≡ borne self pace.now }
-        ensures most { result ≤ 287 }
+        ensures most { result ≤ most_borne }
     {
-        u16::from(pace.tries) + shorter_waits(self.first_wait(pace), pace.first)
+        let waits = pace.further_waits(self.first_wait(pace), pace.patience);
+        let patient = waits.min(u32::from(Measure::MOST_BORNE)) as u16;
+        patient.max(u16::from(pace.tries))
     }
 
     /// After a time that was measured.

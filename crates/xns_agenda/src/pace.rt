@@ -1,4 +1,4 @@
-//! How long a connection waits, and how many waits it bears.
+//! How long a connection waits, and how long it bears a silent peer.
 
 ghost use Rattle.std.specs.Prelude.{◌≤◌};
 
@@ -13,8 +13,10 @@ pub struct Pace {
     pub least: u32,
     /// How long the peer may be silent before it is asked, where nothing waits for it; 0: for ever, unless a word of it is wanted.
     pub idle: u32,
-    /// How many waits without a word of the peer are borne, beside measured ones that are shorter than the first.
+    /// How many packets are borne at least to which there is no word of the peer.
     pub tries: u8,
+    /// How long the waits take together at least after which a silent peer is given up.
+    pub patience: u32,
     ghost some: { 1 ≤ first },
     ghost ordered: { first ≤ longest },
     ghost short: { 1 ≤ least },
@@ -22,6 +24,40 @@ pub struct Pace {
 }
 
 impl Pace {
+    ghost use Rattle.std.specs.Prelude.{◌≡◌, ◌≤◌, ℕ};
+    ghost use Rattle.xns_agenda.specs.Measuring.{further_waits, next_length};
+
     /// How long the peer may be silent usually, in milliseconds.
     pub const USUAL_IDLE: u32 = 10_000;
+
+    /// How long is waited after a wait of this length.
+    pub fn next_length(&self, length: u32) -> u32
+        requires { length ≤ self.now.longest }
+        ensures value { result ≡ next_length self.now length }
+        ensures least { length ≤ result }
+        ensures most { result ≤ self.now.longest }
+    {
+        if length > self.longest / 2 {
+            self.longest
+        } else {
+            length * 2
+        }
+    }
+
+    #[tactic(auto, using(crate::proofs::Measures::none_further, crate::proofs::Measures::all_longest))]
+    /// How many waits have to come after one of this length, until all of them together take this span.
+    pub fn further_waits(&self, length: u32, span: u32) -> u32
+        requires some { 1 ≤ length }
+        requires longest { length ≤ self.now.longest }
+        ensures value { (most : ℕ) → span ≤ most → result ≡ further_waits most self.now length span }
+        ensures most { result ≤ span }
+    {
+        if span <= length {
+            return 0;
+        }
+        if length == self.longest {
+            return (span - 1) / length;
+        }
+        self.further_waits(self.next_length(length), span - length) + 1
+    }
 }

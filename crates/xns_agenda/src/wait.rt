@@ -2,7 +2,7 @@
 
 ghost use Rattle.std.specs.Prelude.{◌≡◌, ◌<◌, ◌≤◌};
 ghost use Rattle.xns_agenda.specs.Measuring.{borne, is_vain};
-ghost use Rattle.xns_agenda.specs.Waiting.{later, next_length, idle_due, idle_span};
+ghost use Rattle.xns_agenda.specs.Waiting.{later, idle_due, idle_span};
 ghost use Rattle.xns_agenda.specs.declared.act.Act.TheVariants.{Again, Ask};
 ghost use Rattle.xns_agenda.specs.declared.due.Due.TheVariants.{AgainAt, AskAt};
 
@@ -51,20 +51,6 @@ fn later(now: u64, span: u32) -> u64
     ensures { result ≡ later now span }
 {
     now.saturating_add(u64::from(span))
-}
-
-/// How long is waited after a wait of this length.
-fn next_length(length: u32, pace: &Pace) -> u32
-    requires { length ≤ pace.now.longest }
-    ensures value { result ≡ next_length pace.now length }
-    ensures least { length ≤ result }
-    ensures most { result ≤ pace.now.longest }
-{
-    if length > pace.longest / 2 {
-        pace.longest
-    } else {
-        length * 2
-    }
 }
 
 /// How long a peer may be silent for which nothing waits; 0: for ever. Where a word of the peer is wanted it may not be for ever.
@@ -171,7 +157,7 @@ impl Wait {
         ensures { self.new ≡ begun AgainAt self.old now }
     {
         self.due = Due::AgainAt(later(now, self.length));
-        self.length = next_length(self.length, &self.pace);
+        self.length = self.pace.next_length(self.length);
     }
 
     /// After a step after which something waits for the peer.
@@ -313,7 +299,7 @@ impl Wait {
         self.misses += 1;
         self.timing = Timing::Resent(now);
         self.due = Due::AgainAt(later(now, self.length));
-        self.length = next_length(self.length, &self.pace);
+        self.length = self.pace.next_length(self.length);
     }
 
     /// A packet asks the peer, and the next wait begins.
@@ -323,7 +309,7 @@ impl Wait {
     {
         self.misses += 1;
         self.due = Due::AskAt(later(now, self.length));
-        self.length = next_length(self.length, &self.pace);
+        self.length = self.pace.next_length(self.length);
     }
 
     /// What is to be done at this time: it counts as done. Before its time nothing is.

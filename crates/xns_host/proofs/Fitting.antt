@@ -26,9 +26,11 @@ fit_of s none =
     let f = past _ _ _ e.1 in
     let g = past _ _ _ f.1 in
     let h = past _ _ _ g.1 in
+    let i = past _ _ _ h.1 in
     let connections = within _ _ _ a.0 in
     let least = within _ _ _ f.0 in
-    let strays = within _ _ _ h.0 in
+    let patience = within _ _ _ h.0 in
+    let strays = within _ _ _ i.0 in
     record {
       some_connections = connections.0;
       connections = connections.1;
@@ -39,6 +41,8 @@ fit_of s none =
       some_least_wait = least.0;
       least_wait = least.1;
       tries = some s.tries g.0;
+      some_patience = patience.0;
+      patience = patience.1;
       some_strays = strays.0;
       strays = strays.1;
     }

@@ -9,7 +9,7 @@ use Rattle.xns_host.specs.declared.host_fault.HostFault.TheVariants.{OutOfRange}
 use Rattle.xns_agenda.specs.Waiting.{usual_idle}
 use Rattle.xns_agenda.specs.declared.pace.Pace.{Pace}
 use Rattle.xns_host.specs.declared.setting.Setting.{Setting}
-use Rattle.xns_host.specs.declared.setting.Setting.TheVariants.{Connections, Window, Backlog, FirstWait, LongestWait, LeastWait, Tries, Strays}
+use Rattle.xns_host.specs.declared.setting.Setting.TheVariants.{Connections, Window, Backlog, FirstWait, LongestWait, LeastWait, Tries, Patience, Strays}
 use Rattle.xns_host.specs.declared.settings.Settings.{Settings}
 
 -- times are in milliseconds
@@ -23,6 +23,7 @@ usual_settings = record {
   least_wait = 10;
   idle = usual_idle;
   tries = 8;
+  patience = 32000;
   strays = 16;
   answers_echo = true;
   tells_opened = false;
@@ -35,6 +36,10 @@ most_connections = 65535
 abbrev pub most_strays : ℕ
 most_strays = 1024
 
+-- a day
+abbrev pub most_patience : ℕ
+most_patience = 86400000
+
 -- each setting is in its range
 pub record IsFit (s : Settings) : Type 0 where
   pub some_connections : 1 ≤ s.connections
@@ -46,6 +51,8 @@ pub record IsFit (s : Settings) : Type 0 where
   pub some_least_wait : 1 ≤ s.least_wait
   pub least_wait : s.least_wait ≤ s.first_wait
   pub tries : 1 ≤ s.tries
+  pub some_patience : 1 ≤ s.patience
+  pub patience : s.patience ≤ most_patience
   pub some_strays : 1 ≤ s.strays
   pub strays : s.strays ≤ most_strays
 
@@ -62,6 +69,7 @@ wrong_setting s =
     else if nat_lt s.longest_wait s.first_wait then Some LongestWait
     else if not (is_within 1 s.least_wait s.first_wait) then Some LeastWait
     else if s.tries == 0 then Some Tries
+    else if not (is_within 1 s.patience most_patience) then Some Patience
     else if not (is_within 1 s.strays most_strays) then Some Strays
     else None
 
@@ -79,6 +87,7 @@ pub record IsPaceOf (s : Settings) (p : Pace) : Type 0 where
   pub least : p.least ≡ s.least_wait
   pub idle : p.idle ≡ s.idle
   pub tries : p.tries ≡ s.tries
+  pub patience : p.patience ≡ s.patience
 
 -- what a connection is made with
 pub record AreTermsOf (s : Settings) (t : Terms) : Type 0 where

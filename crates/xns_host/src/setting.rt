@@ -8,5 +8,6 @@ pub enum Setting {
     LongestWait,
     LeastWait,
     Tries,
+    Patience,
     Strays,
 }

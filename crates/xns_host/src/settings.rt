@@ -25,9 +25,10 @@ pub struct Settings {
     /// How long the peer may be silent before it is asked for a word, where nothing waits for it. 0: it is never asked, but after 10 seconds
     /// while a call wants its answer or the connection closes.
     pub idle: u32,
-    /// How many waits without a word of the peer are borne: from 1. After one more it is given up. Measured waits that are shorter than the
-    /// first one do not count.
+    /// How many packets go out in vain at least before a silent peer is given up: from 1.
     pub tries: u8,
+    /// How long the waits in vain take together at least before a silent peer is given up: 1 to 86,400,000, a day.
+    pub patience: u32,
     /// How many packets of no connection wait to go out at most: 1 to 1,024.
     pub strays: usize,
     /// Whether Echo requests are answered: of the programs at one station one should.
@@ -49,6 +50,7 @@ impl Default for Settings {
             least_wait: 10,
             idle: Pace::USUAL_IDLE,
             tries: 8,
+            patience: 32_000,
             strays: 16,
             answers_echo: true,
             tells_opened: false,
@@ -89,6 +91,9 @@ impl Settings {
         if self.tries == 0 {
             return Some(Setting::Tries);
         }
+        if !is_within(1, self.patience as usize, 86_400_000) {
+            return Some(Setting::Patience);
+        }
         if !is_within(1, self.strays, 1_024) {
             return Some(Setting::Strays);
         }
@@ -117,6 +122,7 @@ impl Settings {
             least: self.least_wait,
             idle: self.idle,
             tries: self.tries,
+            patience: self.patience,
         }
     }
 

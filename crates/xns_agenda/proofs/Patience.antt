@@ -1,0 +1,134 @@
+-- A peer that says no word is waited for as long as the patience says.
+use Rattle.std.proofs.Common.{◌≡◌, ◌∙◌, ap, add-one, refl, sym, subst, ℕ, zero, suc, ◌+◌, ◌<◌, ◌≤◌, Bool, true, false, arith}
+use Rattle.std.specs.Prelude.{nat_le, if◌then◌else◌}
+use Rattle.std.proofs.lemmas.Bool.{leb-true}
+use Rattle.xns_agenda.specs.Measuring.{borne, first_wait, most_borne, next_length, waits_time}
+use Rattle.xns_agenda.specs.Waiting.{Waiting, act_at, act_by, after_by, after_step, later, timed, unless_silent, waiting_on}
+use Rattle.xns_agenda.specs.Patience.{Vain, begins, steps, sends}
+use Rattle.xns_agenda.specs.declared.act.Act.{Act}
+use Rattle.xns_agenda.specs.declared.act.Act.TheVariants.{Nothing, Again, GiveUp}
+use Rattle.xns_agenda.specs.declared.due.Due.{Due}
+use Rattle.xns_agenda.specs.declared.due.Due.TheVariants.{AgainAt}
+use Rattle.xns_agenda.specs.declared.pace.Pace.{Pace}
+use Rattle.xns_agenda.proofs.Measures.{patient, tried, waits_grow}
+
+-- ---- how long a wait is, after so many
+
+unfoldable length_after : Pace → (length count : ℕ) → ℕ
+length_after pace length zero = length
+length_after pace length (suc n) = length_after pace (next_length pace length) n
+
+next_after : (pace : Pace) (length n : ℕ) → length_after pace length (suc n) ≡ next_length pace (length_after pace length n)
+unfolding length_after
+next_after pace length zero = refl
+next_after pace length (suc n) = next_after pace (next_length pace length) n
+
+time_after : (pace : Pace) (length n : ℕ) → waits_time pace length (suc n) ≡ waits_time pace length n + length_after pace length n
+unfolding length_after waits_time
+time_after pace length zero = omega arith
+time_after pace length (suc n) = let rest = time_after pace (next_length pace length) n in omega (arith, rest)
+
+-- ---- from the first wait on
+
+record Waited (start : ℕ) (w : Waiting) (n : ℕ) (v : Waiting) : Type 0 where
+  pub pace : v.pace ≡ w.pace
+  pub measure : v.measure ≡ w.measure
+  pub misses : v.misses ≡ w.misses + n
+  pub length : v.length ≡ length_after w.pace (first_wait w.measure w.pace) (suc n)
+  pub until : ℕ
+  pub due : v.due ≡ AgainAt until
+  pub late : later start (waits_time w.pace (first_wait w.measure w.pace) (suc n)) ≤ until
+
+begun_at : (start : ℕ) (w : Waiting) → Waited start w 0 (timed w start)
+unfolding length_after waits_time
+begun_at start w = record {
+  pace = refl;
+  measure = refl;
+  misses = omega arith;
+  length = refl;
+  until = later start (first_wait w.measure w.pace);
+  due = refl;
+  late = omega arith;
+}
+
+-- a packet goes out again only when the wait is over
+over : (b : Bool) (v : Waiting) (t now : ℕ) → nat_le t now ≡ b → (if b then unless_silent v Again else Nothing) ≡ Again → t ≤ now
+over true v t now test is = leb-true t now test
+over false v t now test is = absurd (cc)
+
+given_by : (b : Bool) → (if b then GiveUp else Again) ≡ GiveUp → b ≡ true
+given_by true is = refl
+given_by false is = absurd (cc)
+
+record GivenUp (v : Waiting) (t now : ℕ) : Type 0 where
+  pub over : t ≤ now
+  pub many : borne v.measure v.pace ≤ v.misses
+
+given_up : (b : Bool) (v : Waiting) (t now : ℕ) → nat_le t now ≡ b → (if b then unless_silent v Again else Nothing) ≡ GiveUp → GivenUp v t now
+given_up true v t now test is = record {
+  over = leb-true t now test;
+  many = leb-true (borne v.measure v.pace) v.misses (given_by (nat_le (borne v.measure v.pace) v.misses) is);
+}
+given_up false v t now test is = absurd (cc)
+
+later_on : (start time until now length : ℕ) → later start time ≤ until → until ≤ now → later start (time + length) ≤ later now length
+later_on start time until now length late more = grind arith
+
+sent_again : (start : ℕ) (w v : Waiting) (n now : ℕ) → Waited start w n v → act_at v now ≡ Again → Waited start w (n + 1) (after_by v Again now)
+sent_again start w v n now before is =
+    let test : act_by v (AgainAt before.until) now ≡ Again = ap (λ (d : Due). act_by v d now) (sym before.due) ∙ is in
+    let more = over (nat_le before.until now) v before.until now refl test in
+    let length = before.length in
+    let first : ℕ = first_wait w.measure w.pace in
+    let sum : waits_time w.pace first (suc (suc n)) ≡ waits_time w.pace first (suc n) + v.length
+    = time_after w.pace first (suc n) ∙ ap (λ (l : ℕ). waits_time w.pace first (suc n) + l) (sym length) in
+    let misses = before.misses in
+    subst (λ (k : ℕ). Waited start w k (after_by v Again now)) (sym (add-one n)) (record {
+      pace = before.pace;
+      measure = before.measure;
+      misses = omega (arith, misses);
+      length = ap (λ (p : Pace). next_length p v.length) before.pace ∙ ap (next_length w.pace) length ∙ sym (next_after w.pace first (suc n));
+      until = later now v.length;
+      due = refl;
+      late = subst (λ (t : ℕ). later start t ≤ later now v.length) (sym sum)
+          (later_on start (waits_time w.pace first (suc n)) before.until now v.length before.late more);
+    })
+
+waited : {start : ℕ} {w : Waiting} {n : ℕ} {v : Waiting} → Vain start w n v → Waited start w n v
+waited {start = start} {w = w} begins = begun_at start w
+waited {start = start} {w = w} {n = n} (steps {v = v} before wants now) =
+    let b = waited before in
+    let same : after_step v true wants now ≡ v = ap (λ (d : Due). waiting_on v d now) b.due in
+    subst (λ (u : Waiting). Waited start w n u) (sym same) b
+waited {start = start} {w = w} (sends {n = n} {v = v} before now is) =
+    let b = sent_again start w v n now (waited before) is in
+    subst (λ (a : Act). Waited start w (n + 1) (after_by v a now)) (sym is) b
+
+-- ---- who is given up
+
+pub record Early (start : ℕ) (w : Waiting) (n now : ℕ) : Type 0 where
+  pub tries : w.pace.tries ≤ n
+  pub patience : n < most_borne → later start w.pace.patience ≤ now
+
+later_by : (start a b until now : ℕ) → a ≤ b → later start b ≤ until → until ≤ now → later start a ≤ now
+later_by start a b until now less late over = grind arith
+
+pub not_early : (w v : Waiting) (start n now : ℕ) → w.misses ≡ 0 → Vain start w n v → act_at v now ≡ GiveUp → Early start w n now
+not_early w v start n now none vain is =
+    let b = waited vain in
+    let test : act_by v (AgainAt b.until) now ≡ GiveUp = ap (λ (d : Due). act_by v d now) (sym b.due) ∙ is in
+    let g = given_up (nat_le b.until now) v b.until now refl test in
+    let same : borne v.measure v.pace ≡ borne w.measure w.pace
+    = ap (λ (p : Pace). borne v.measure p) b.pace ∙ ap (λ m. borne m w.pace) b.measure in
+    let misses = b.misses in
+    let many = g.many in
+    let all : borne w.measure w.pace ≤ n = omega (arith, none, same, misses, many) in
+    let tries = tried w.measure w.pace in
+    record {
+      tries = omega (arith, tries, all);
+      patience = λ few.
+          let first : ℕ = first_wait w.measure w.pace in
+          let enough = patient w.measure w.pace (omega (arith, all, few)) in
+          let grown = waits_grow w.pace first (borne w.measure w.pace + 1) (suc n) (omega (arith, all)) in
+          later_by start w.pace.patience (waits_time w.pace first (suc n)) b.until now (omega (arith, enough, grown)) b.late g.over;
+    }
