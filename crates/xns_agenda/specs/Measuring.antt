@@ -41,14 +41,17 @@ abbrev pub expected : Option Smoothed → Pace → ℕ
 expected None pace = pace.first
 expected (Some s) pace = estimate s pace.least
 
--- the shortest time that a reply may have taken: half of the smoothed one
-abbrev pub half_time : Option Smoothed → Pace → ℕ
-half_time None pace = pace.least - pace.least / 2
-half_time (Some s) pace = s.time8 / 8 - s.time8 / 8 / 2
+-- the soonest that is to be expected: half of the smoothed time, less what it varies by, which counts at least so much
+abbrev pub soonest : Smoothed → (least : ℕ) → ℕ
+soonest s least = s.time8 / 8 - s.time8 / 8 / 2 - max least s.varies4
+
+abbrev pub expected_from : Option Smoothed → Pace → ℕ
+expected_from None pace = pace.least - pace.least / 2
+expected_from (Some s) pace = soonest s pace.least
 
 -- the time that has passed since something went out again is one in which the peer may have acknowledged what went out again
 abbrev pub is_expected : Option Smoothed → Pace → (passed : ℕ) → Bool
-is_expected o pace passed = nat_le (half_time o pace) passed && nat_le passed (expected o pace)
+is_expected o pace passed = nat_le (expected_from o pace) passed && nat_le passed (expected o pace)
 
 -- ---- what is learnt where the peer acknowledges more, or opens the connection
 

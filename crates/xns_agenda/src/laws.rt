@@ -1,9 +1,9 @@
 //! What the definitions imply, each as the contract of a function that does nothing.
 
-ghost use Rattle.std.specs.Prelude.{◌≡◌, ◌≤◌, ◌<◌, ◌+◌, ◌-◌, ◌*◌, ℕ, Bool, Option, true};
+ghost use Rattle.std.specs.Prelude.{◌≡◌, ◌≤◌, ◌<◌, ◌+◌, ◌-◌, ◌*◌, ◌/◌, ℕ, Bool, Option, true};
 ghost use Rattle.std.specs.Option.{is_some};
 ghost use Rattle.xns_agenda.specs.Clock.{by_told, day, time_at, told_at};
-ghost use Rattle.xns_agenda.specs.Measuring.{borne, first_wait, most_borne, next_length, smoothed_on, waits_time};
+ghost use Rattle.xns_agenda.specs.Measuring.{borne, first_smoothed, first_wait, most_borne, next_length, smoothed_on, soonest, waits_time};
 ghost use Rattle.xns_agenda.specs.declared.measure.Measure.{Measure};
 ghost use Rattle.xns_agenda.specs.declared.measure.TheConstants.Measure.{NONE};
 ghost use Rattle.xns_agenda.specs.declared.pace.Pace.{Pace};
@@ -59,10 +59,13 @@ pub fn a_clock_goes_on()
 {}
 
 /// How long is waited: as the pace says, where nothing was measured (`unmeasured`). Where each time that is measured is the same, that is the
-/// smoothed time (`steady`).
+/// smoothed time (`steady`). After one time that was measured (`once`), and after a smoothed time of at most twice `least` (`near`), no
+/// acknowledgement of what went out again comes too soon.
 pub fn a_wait_is_measured()
     ensures unmeasured { (pace : Pace) → first_wait NONE pace ≡ pace.first }
     ensures steady { (s : Smoothed) (time : ℕ) → s.time8 ≡ 8 * time → (smoothed_on s time).time8 ≡ 8 * time }
+    ensures once { (time least : ℕ) → soonest (first_smoothed time) least ≡ 0 }
+    ensures near { (s : Smoothed) (least : ℕ) → s.time8 / 8 ≤ 2 * least → soonest s least ≡ 0 }
 {}
 
 /// How long a silent peer is borne. One packet goes out after each wait but the last, and the waits together take at least the patience

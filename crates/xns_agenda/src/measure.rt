@@ -1,7 +1,7 @@
 //! How long is waited, by what was measured.
 
 ghost use Rattle.std.specs.Prelude.{◌≡◌, ◌≤◌, ◌+◌, ◌-◌, Some, None, IfSome};
-ghost use Rattle.xns_agenda.specs.Measuring.{IsBounded, borne, doubted, doubted_wait, expected, first_wait, half_time, is_expected, learnt, most_borne, sampled, smoothed_by};
+ghost use Rattle.xns_agenda.specs.Measuring.{IsBounded, borne, doubted, doubted_wait, expected, expected_from, first_wait, is_expected, learnt, most_borne, sampled, smoothed_by};
 
 use crate::pace::Pace;
 use crate::smoothed::Smoothed;
@@ -92,17 +92,14 @@ impl Measure {
         requires { IfSome self.smoothed IsBounded }
         ensures { result ≡ is_expected self.smoothed pace.now passed }
     {
-        let (half, most) = match self.smoothed {
+        let (soonest, most) = match self.smoothed {
             None => (
                 u64::from(pace.least - pace.least / 2),
                 u64::from(pace.first),
             ),
-            Some(smoothed) => {
-                let time = smoothed.time8 / 8;
-                (time - time / 2, smoothed.estimate(pace.least))
-            }
+            Some(smoothed) => (smoothed.soonest(pace.least), smoothed.estimate(pace.least)),
         };
-        half <= passed && passed <= most
+        soonest <= passed && passed <= most
     }
 
     /// After the peer acknowledged what had gone out again so long ago, or what had gone out before.

@@ -1,7 +1,7 @@
 //! How long a peer takes to acknowledge, smoothed over the times that were measured.
 
 ghost use Rattle.std.specs.Prelude.{◌≡◌};
-ghost use Rattle.xns_agenda.specs.Measuring.{IsBounded, estimate, first_smoothed, smoothed_on};
+ghost use Rattle.xns_agenda.specs.Measuring.{IsBounded, estimate, first_smoothed, smoothed_on, soonest};
 
 /// How long a peer takes to acknowledge: the times that were measured, smoothed, in milliseconds.
 #[derive(Clone, Copy, Debug, PartialEq, Eq)]
@@ -44,5 +44,14 @@ impl Smoothed {
         ensures { result ≡ estimate self least }
     {
         self.time8 / 8 + self.varies4.max(u64::from(least))
+    }
+
+    /// The soonest that is to be expected: half of the time, less what it varies by, which counts at least so much.
+    pub fn soonest(self, least: u32) -> u64
+        requires { IsBounded self }
+        ensures { result ≡ soonest self least }
+    {
+        let time = self.time8 / 8;
+        (time - time / 2).saturating_sub(self.varies4.max(u64::from(least)))
     }
 }
