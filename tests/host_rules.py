@@ -18,7 +18,7 @@ from xns import Why
 
 DAY, LAST = 86_400_000, 2**64 - 1
 COURIER, CLIENT, NOBODY = 5, 3001, 9  # sockets: one that is served, that of the clients, one that is not served
-SETTINGS = {"first_wait": 20, "longest_wait": 100, "tries": 3}
+SETTINGS = {"first_wait": 20, "longest_wait": 100, "tries": 3, "patience": 300}
 IDLE = 200, None  # a play has one of them; by None idle peers are never asked
 MOST_TURNS, MOST_AT_ONCE = 3000, 10_000  # turns of a play that comes to its end; packets or events that are there at one time
 DEAD = Why.SILENT, Why.NOT_SERVED, Why.REFUSED

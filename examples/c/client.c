@@ -7,7 +7,7 @@
 #include "net.h"
 
 enum { PATIENT = 255 };
-static struct xns_settings settings = { .connections = 1, .first_wait = 100, .longest_wait = 1000, .tries = 6 }; /* a server that is silent for 4.5 seconds is gone */
+static struct xns_settings settings = { .connections = 1, .first_wait = 100, .longest_wait = 1000, .tries = 6, .patience = 4500 }; /* a server that is silent for 4.5 seconds is gone */
 static struct xns_host host;
 static size_t connection;
 static uint16_t sent[XNS_MOST_CALL_WORDS], words[XNS_MOST_MESSAGE_WORDS];

@@ -29,7 +29,7 @@ class Tally:
 def add(udp, place, numbers):
     udp.bind(("127.0.0.1", 0))
     own = CLIENT._replace(socket=udp.getsockname()[1])  # a socket that no other client has
-    client = xns.Client(udp, place, own, SERVER, first_wait=100, longest_wait=1000, tries=6)
+    client = xns.Client(udp, place, own, SERVER, first_wait=100, longest_wait=1000, tries=6, patience=4500)
     for number in numbers:
         answer = client.call(PROGRAM, VERSION, ADD, [number])
         print(answer.kind.name.lower(), *answer.words)

@@ -118,7 +118,7 @@ def _not_served(closed: Closed) -> NotServedError:
 
 class Client:
     """Calls, each of which waits for its answer. Between calls it says nothing, unless `wait` is called: a server that asks for a word meanwhile gives it up
-    after a while, with the settings of this module after 50 seconds."""
+    after a while, with the settings of this module after some 40 seconds."""
 
     def __init__(
         self,

@@ -22,6 +22,7 @@ _MOST_SETTINGS = {
     "idle": 2**32 - 1,
     "tries": 255,
     "least_wait": 2**16 - 1,
+    "patience": 86_400_000,
 }
 
 
@@ -82,6 +83,7 @@ class RawSettings(ctypes.Structure):
     _fields_ = [
         ("connections", c_size_t), ("window", c_size_t), ("backlog", c_size_t), ("first_wait", c_uint32), ("longest_wait", c_uint32),
         ("idle", c_uint32), ("tries", c_uint8), ("no_echo", c_uint8), ("least_wait", c_uint16), ("tells_opened", c_uint8),
+        ("patience", c_uint32),
     ]
 
     @staticmethod

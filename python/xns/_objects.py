@@ -175,9 +175,10 @@ class Host(Object):
         Settings: `connections` at most (64); `window` (8) and `backlog` (16) of each, in items; in milliseconds `first_wait` for an acknowledgement
         until a time is measured (250), `longest_wait` (8000), `least_wait`, by which a measured wait is longer than the time that was measured at
         least (10, or `first_wait` if that is less), and `idle`, after which a peer is asked for a word (10000; None: only while a call waits or a
-        connection closes, after that); `tries`, waits without a word of the peer that are borne, beside those shorter than `first_wait` (8); `answers_echo`
-        (True): of the programs at one station one should; `tells_opened` (False): an `Opened` tells when the peer of a connection of ours is there.
-        `BadArgumentError` where the longest wait is below the first, or the least one above it."""
+        connection closes, after that); a silent peer is given up once `tries` packets at least (8) went out in vain, and the waits in vain took
+        `patience` milliseconds at least (32000); `answers_echo` (True): of the programs at one station one should; `tells_opened` (False): an
+        `Opened` tells when the peer of a connection of ours is there. `BadArgumentError` where the longest wait is below the first, or the least
+        one above it."""
         super().__init__()
         given = octets(os.urandom(_SECRET) if secret is None else secret, "secret")
         if len(given) != _SECRET:

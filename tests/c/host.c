@@ -153,14 +153,14 @@ static void converse(size_t window, size_t backlog) {
 
 /* Between two packets of the peer so many packets go out, at these times, and then the peer counts as silent, which is told at once. Where the clock is set
  * back, the waits go on from there. */
-static void silent(void) {
-    const struct xns_settings settings = { .first_wait = 100, .longest_wait = 300, .tries = 4 };
-    static const uint64_t waits[] = { 100, 200, 300, 300 };
+static void silent(uint32_t patience, size_t packets) {
+    const struct xns_settings settings = { .first_wait = 100, .longest_wait = 300, .tries = 4, .patience = patience };
+    static const uint64_t waits[] = { 100, 200, 300, 300, 300 };
     uint64_t due = 1000;
     size_t number;
     open_both(&settings, &number);
     CHECK(xns_host_wake(&client) == 0 && carry(&client, NULL, CLIENT_VIA) && xns_host_wake(&client) == due + waits[0]);
-    for (size_t i = 0; i < 4; i++) {
+    for (size_t i = 0; i < packets; i++) {
         now = 5 * i;
         CHECK(!carry(&client, NULL, CLIENT_VIA));
         due = now + waits[i];
@@ -356,7 +356,9 @@ int main(void) {
     tags();
     close_behind_a_call();
     opened();
-    silent();
+    silent(1, 4);
+    silent(1200, 4); /* the waits in vain, and the last */
+    silent(1201, 5);
     abandoned();
     idle();
     closes_alone();

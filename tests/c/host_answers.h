@@ -248,7 +248,7 @@ static void short_buffers(void) {
 /* By the setting it is told once, before all else, that a connection of ours is open: also where its call was answered meanwhile; never where the peer is silent,
  * nor of one that a peer opened. */
 static void opened(void) {
-    const struct xns_settings told = { .tells_opened = 1 }, brief = { .first_wait = 100, .longest_wait = 100, .tries = 1, .tells_opened = UINT8_MAX };
+    const struct xns_settings told = { .tells_opened = 1 }, brief = { .first_wait = 100, .longest_wait = 100, .tries = 1, .patience = 200, .tells_opened = UINT8_MAX };
     struct xns_event event;
     size_t number;
     open_both(&told, &number);

@@ -26,7 +26,7 @@ static void initializers(void) {
     IS_INIT(xns_received, XNS_RECEIVED_INIT, one.took == 0 && one.acknowledged == 0 && one.reply == 0 && one.dropped == 0);
     IS_INIT(xns_endpoint, XNS_ENDPOINT_INIT, one.at == NULL && unused.at == NULL);
     IS_INIT(xns_host, XNS_HOST_INIT, one.at == NULL);
-    IS_INIT(xns_settings, XNS_SETTINGS_INIT, one.connections == 0 && one.window == 0 && one.first_wait == 0 && one.idle == 0 && one.tries == 0 && one.no_echo == 0 && one.least_wait == 0 && one.tells_opened == 0);
+    IS_INIT(xns_settings, XNS_SETTINGS_INIT, one.connections == 0 && one.window == 0 && one.first_wait == 0 && one.idle == 0 && one.tries == 0 && one.no_echo == 0 && one.least_wait == 0 && one.tells_opened == 0 && one.patience == 0);
     IS_INIT(xns_event, XNS_EVENT_INIT, one.kind == 0 && one.number == 0 && one.message.program == 0 && one.closed == 0 && one.fault == 0);
     IS_INIT(xns_cursor, XNS_CURSOR_INIT, one.place == 0 && one.fault == 0);
     IS_INIT(xns_program, XNS_PROGRAM_INIT, one.program == 0 && one.low == 0 && one.high == 0);

@@ -26,7 +26,7 @@ from relay import Relay, bound
 
 SERVER, CLIENT = xns.Address(1, bytes.fromhex("0000aa000102"), 5), xns.Address(1, bytes.fromhex("0000aa000304"), 0)
 FOLDER = os.environ.get("TALLY_C")
-PATIENCE = {"first_wait": 100, "longest_wait": 1000, "tries": 6}  # those of the client in C
+PATIENCE = {"first_wait": 100, "longest_wait": 1000, "tries": 6, "patience": 4500}  # those of the client in C
 REASONS = {  # why the client in C ended
     "": "well",
     "the peer does not answer": "silent",

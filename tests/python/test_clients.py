@@ -14,7 +14,7 @@ import xns
 from relay import LOCAL, Hub, bound
 
 SERVER, CLIENT = xns.Address(1, bytes.fromhex("0000aa000102"), 5), xns.Address(1, bytes.fromhex("0000aa000304"), 1024)
-QUICK = {"first_wait": 50, "longest_wait": 200, "tries": 3}
+QUICK = {"first_wait": 50, "longest_wait": 200, "tries": 3, "patience": 550}
 
 
 def answers(call):

@@ -10,7 +10,7 @@ from relay import LOCAL, Peer, bound, send_all_kinds
 
 SERVER, CLIENT = xns.Address(1, bytes.fromhex("0000aa000102"), 5), xns.Address(1, bytes.fromhex("0000aa000304"), 1024)
 PROGRAMS = [(7, 1, 2)]
-QUICK = {"first_wait": 50, "longest_wait": 200, "tries": 5, "idle": 500}  # asked after half a second, and silent after one more
+QUICK = {"first_wait": 50, "longest_wait": 200, "tries": 5, "patience": 950, "idle": 500}  # asked after half a second, and silent after one more
 
 
 def doubles(call):
@@ -120,7 +120,7 @@ class Serving(unittest.TestCase):
         self.thread.join(10)
         self.assertFalse(self.thread.is_alive())
         with self.assertRaises(TimeoutError):
-            self.client(longest_wait=50, tries=1).call(7, 1, 1)
+            self.client(longest_wait=50, tries=1, patience=100).call(7, 1, 1)
 
     def test_a_client_more_than_there_is_room_for_is_told_so_at_once(self):
         first, second = self.client(), self.client()

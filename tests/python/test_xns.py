@@ -385,19 +385,28 @@ class HostTest(unittest.TestCase):
             self.assertEqual((len(list(client.packets(108))), client.wake(), list(client.events())), (0, 508, []))
 
     def test_silence(self):
-        with xns.Host(THERE, first_wait=100, longest_wait=300, tries=4) as client:
-            number = client.connect(0, 3, 1024, HERE._replace(socket=5))
-            times, now = [], 0
+        for settings, sent, end in (
+            ({"first_wait": 100, "longest_wait": 300, "tries": 4, "patience": 1}, [0, 100, 300, 600, 900], 1200),
+            ({"first_wait": 100, "longest_wait": 300, "tries": 4, "patience": 1200}, [0, 100, 300, 600, 900], 1200),
+            ({"first_wait": 100, "longest_wait": 300, "tries": 4, "patience": 1201}, [0, 100, 300, 600, 900, 1200], 1500),
+            ({}, [0, 250, 750, 1750, 3750, 7750, 15750, 23750, 31750], 39750),
+        ):
+            self.assertEqual(self.silence(settings), (sent, [(end, xns.Why.SILENT)]))
+
+    def silence(self, settings):
+        """When packets of a host go out of which no peer hears, and when and why its connection is closed."""
+        with xns.Host(THERE, **settings) as client:
+            client.connect(0, 3, 1024, HERE._replace(socket=5))
+            times, ends, now = [], [], 0
             while now is not None:
                 times += [now for _ in client.packets(now)]
-                for event in client.events():
-                    self.assertEqual((event, now), (xns.Closed(number, xns.Why.SILENT, None), 1200))
+                ends += [(now, event.why) for event in client.events()]
                 now = client.wake()
-            self.assertEqual(times, [0, 100, 300, 600, 900])
+        return times, ends
 
     def test_opened(self):
         """By the setting it is told once, before all else, that a connection of ours is open; never where the peer is silent, nor of one that a peer opened."""
-        silent = {"first_wait": 100, "longest_wait": 100, "tries": 1}
+        silent = {"first_wait": 100, "longest_wait": 100, "tries": 1, "patience": 200}
         with xns.Host(THERE, tells_opened=True) as self.client, xns.Host(HERE, tells_opened=True) as self.service:
             self.service.serve(5, [(7, 1, 2)])
             self.number = self.client.connect(self.now, 3, THERE.socket, HERE._replace(socket=5))
@@ -499,7 +508,7 @@ class HostTest(unittest.TestCase):
             self.service.serve(200)
 
     def test_settings(self):
-        for name, value in (("tries", 0), ("tries", 256), ("window", 65), ("backlog", -1), ("connections", 65536), ("idle", 2**32), ("idle", 2**64), ("least_wait", 0), ("least_wait", 2**16)):
+        for name, value in (("tries", 0), ("tries", 256), ("window", 65), ("backlog", -1), ("connections", 65536), ("idle", 2**32), ("idle", 2**64), ("least_wait", 0), ("least_wait", 2**16), ("patience", 0), ("patience", 86_400_001)):
             with self.assertRaises(ValueError):
                 xns.Host(HERE, **{name: value})
         with self.assertRaises(xns.BadArgumentError):

@@ -25,6 +25,7 @@ settings_in s = record {
   least_wait = given_or (min usual_settings.least_wait (given_or usual_settings.first_wait s.first_wait)) s.least_wait;
   idle = idle_in usual_settings.idle s.idle;
   tries = given_or usual_settings.tries s.tries;
+  patience = given_or usual_settings.patience s.patience;
   strays = usual_settings.strays;
   answers_echo = s.no_echo == 0;
   tells_opened = not (s.tells_opened == 0);

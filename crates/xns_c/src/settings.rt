@@ -20,7 +20,7 @@ pub struct XnsSettings {
     /// How long the peer may be silent before it is asked for a word. The largest number: it is never asked, unless a call wants its answer or
     /// the connection closes.
     pub idle: u32,
-    /// How many waits without a word of the peer are borne.
+    /// How many packets go out in vain at least before a silent peer is given up.
     pub tries: u8,
     /// Whether Echo requests are left unanswered: 0 is no.
     pub no_echo: u8,
@@ -28,6 +28,8 @@ pub struct XnsSettings {
     pub least_wait: u16,
     /// Whether the program is told when a connection that it opened is confirmed: 0 is no.
     pub tells_opened: u8,
+    /// How long the waits in vain take together at least before a silent peer is given up.
+    pub patience: u32,
 }
 
 /// A number of things, or the usual one where it is 0.
@@ -51,7 +53,7 @@ fn short_time_in(given: u16, usual: u32) -> u32
     if given == 0 { usual } else { u32::from(given) }
 }
 
-/// How many waits are borne, or the usual number where it is 0.
+/// How many packets go out in vain, or the usual number where it is 0.
 fn tries_in(given: u8, usual: u8) -> u8
     ensures { result ≡ given_or usual given }
 {
@@ -87,6 +89,7 @@ impl XnsSettings {
             least_wait: short_time_in(self.least_wait, usual.least_wait.min(first_wait)),
             idle: idle_in(self.idle, usual.idle),
             tries: tries_in(self.tries, usual.tries),
+            patience: time_in(self.patience, usual.patience),
             strays: usual.strays,
             answers_echo: self.no_echo == 0,
             tells_opened: self.tells_opened != 0,
