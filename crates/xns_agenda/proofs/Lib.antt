@@ -1,4 +1,5 @@
 mod Agendas
+mod Asking
 mod Beside
 mod Free
 mod Later

@@ -14,16 +14,16 @@ use Rattle.xns_agenda.proofs.Measures.{patient, tried, waits_grow}
 
 -- ---- how long a wait is, after so many
 
-unfoldable length_after : Pace → (length count : ℕ) → ℕ
+unfoldable pub length_after : Pace → (length count : ℕ) → ℕ
 length_after pace length zero = length
 length_after pace length (suc n) = length_after pace (next_length pace length) n
 
-next_after : (pace : Pace) (length n : ℕ) → length_after pace length (suc n) ≡ next_length pace (length_after pace length n)
+pub next_after : (pace : Pace) (length n : ℕ) → length_after pace length (suc n) ≡ next_length pace (length_after pace length n)
 unfolding length_after
 next_after pace length zero = refl
 next_after pace length (suc n) = next_after pace (next_length pace length) n
 
-time_after : (pace : Pace) (length n : ℕ) → waits_time pace length (suc n) ≡ waits_time pace length n + length_after pace length n
+pub time_after : (pace : Pace) (length n : ℕ) → waits_time pace length (suc n) ≡ waits_time pace length n + length_after pace length n
 unfolding length_after waits_time
 time_after pace length zero = omega arith
 time_after pace length (suc n) = let rest = time_after pace (next_length pace length) n in omega (arith, rest)
@@ -71,7 +71,7 @@ given_up true v t now test is = record {
 }
 given_up false v t now test is = absurd (cc)
 
-later_on : (start time until now length : ℕ) → later start time ≤ until → until ≤ now → later start (time + length) ≤ later now length
+pub later_on : (start time until now length : ℕ) → later start time ≤ until → until ≤ now → later start (time + length) ≤ later now length
 later_on start time until now length late more = grind arith
 
 sent_again : (start : ℕ) (w v : Waiting) (n now : ℕ) → Waited start w n v → act_at v now ≡ Again → Waited start w (n + 1) (after_by v Again now)
@@ -110,7 +110,7 @@ pub record Early (start : ℕ) (w : Waiting) (n now : ℕ) : Type 0 where
   pub tries : w.pace.tries ≤ n
   pub patience : n < most_borne → later start w.pace.patience ≤ now
 
-later_by : (start a b until now : ℕ) → a ≤ b → later start b ≤ until → until ≤ now → later start a ≤ now
+pub later_by : (start a b until now : ℕ) → a ≤ b → later start b ≤ until → until ≤ now → later start a ≤ now
 later_by start a b until now less late over = grind arith
 
 pub not_early : (w v : Waiting) (start n now : ℕ) → w.misses ≡ 0 → Vain start w n v → act_at v now ≡ GiveUp → Early start w n now

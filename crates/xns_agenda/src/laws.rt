@@ -9,7 +9,7 @@ ghost use Rattle.xns_agenda.specs.declared.measure.TheConstants.Measure.{NONE};
 ghost use Rattle.xns_agenda.specs.declared.pace.Pace.{Pace};
 ghost use Rattle.xns_agenda.specs.declared.smoothed.Smoothed.{Smoothed};
 ghost use Rattle.xns_agenda.specs.declared.clock.Clock.{Clock};
-ghost use Rattle.xns_agenda.specs.Patience.{Vain};
+ghost use Rattle.xns_agenda.specs.Patience.{Asked, Vain};
 ghost use Rattle.xns_agenda.specs.Waiting.{Lacks, Unheard, Waiting, Silence, last_time, act_at, after_act, after_step, due_time, is_third_reply, later};
 ghost use Rattle.xns_agenda.specs.declared.act.Act.TheVariants.{Again, GiveUp};
 ghost use Rattle.xns_agenda.specs.declared.due.Due.TheVariants.{AgainAt};
@@ -88,9 +88,13 @@ pub fn a_silent_peer_is_borne()
 
 /// A silent peer is given up no sooner than the pace says. Where something waits for it that begins to wait at `start`, at least as many packets
 /// have gone out again as the tries say (`tries`), and the patience has passed since (`patience`), but where so many packets have gone out as
-/// can be counted, or at the end of time.
+/// can be counted, or at the end of time. Where nothing waits for it, at least as many packets have asked it (`asked`), and the patience has
+/// passed since its last word, if it is asked no sooner than after the longest wait (`idle`).
 pub fn no_peer_is_given_up_early()
     ensures tries { (w v : Waiting) (start n now : ℕ) → w.misses ≡ 0 → Vain start w n v → act_at v now ≡ GiveUp → w.pace.tries ≤ n }
     ensures patience { (w v : Waiting) (start n now : ℕ) → w.misses ≡ 0 → Vain start w n v → act_at v now ≡ GiveUp → n < most_borne
         → later start w.pace.patience ≤ now }
+    ensures asked { (w v : Waiting) (span n now : ℕ) → w.misses ≡ 0 → Asked span w n v → act_at v now ≡ GiveUp → w.pace.tries ≤ n }
+    ensures idle { (w v : Waiting) (span n now : ℕ) → w.misses ≡ 0 → Asked span w n v → act_at v now ≡ GiveUp → n < most_borne
+        → w.pace.longest ≤ span → later w.heard_at w.pace.patience ≤ now }
 {}

@@ -44,8 +44,8 @@ impl Pace {
         }
     }
 
-    #[tactic(auto, using(crate::proofs::Measures::none_further, crate::proofs::Measures::all_longest))]
     /// How many waits have to come after one of this length, until all of them together take this span.
+    #[tactic(auto, using(crate::proofs::Measures::none_further, crate::proofs::Measures::all_longest))]
     pub fn further_waits(&self, length: u32, span: u32) -> u32
         requires some { 1 ≤ length }
         requires longest { length ≤ self.now.longest }

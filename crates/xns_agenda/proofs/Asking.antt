@@ -1,0 +1,129 @@
+-- A peer that is asked for a word and says none is borne as long as the patience says.
+use Rattle.std.proofs.Common.{◌≡◌, ◌∙◌, ap, add-one, refl, sym, subst, ℕ, zero, suc, ◌+◌, ◌*◌, ◌<◌, ◌≤◌, Bool, true, false, Option, Some, None, arith}
+use Rattle.std.specs.Prelude.{nat_le, if◌then◌else◌}
+use Rattle.std.proofs.lemmas.Bool.{leb-true}
+use Rattle.std.proofs.Math.Nat.{min-le_right}
+use Rattle.xns_agenda.specs.Measuring.{borne, first_wait, most_borne, next_length, wait_by, waits_time}
+use Rattle.xns_agenda.specs.Waiting.{Waiting, act_at, act_by, after_by, after_step, idling, later, rested, unless_silent}
+use Rattle.xns_agenda.specs.Patience.{Asked, begins, steps, sends}
+use Rattle.xns_agenda.specs.declared.act.Act.{Act}
+use Rattle.xns_agenda.specs.declared.act.Act.TheVariants.{Nothing, Ask, GiveUp}
+use Rattle.xns_agenda.specs.declared.due.Due.{Due}
+use Rattle.xns_agenda.specs.declared.due.Due.TheVariants.{AskAt}
+use Rattle.xns_agenda.specs.declared.measure.Measure.{Measure}
+use Rattle.xns_agenda.specs.declared.pace.Pace.{Pace}
+use Rattle.xns_agenda.specs.declared.smoothed.Smoothed.{Smoothed}
+use Rattle.xns_agenda.proofs.Measures.{patient, tried, waits_grow}
+use Rattle.xns_agenda.proofs.Patience.{later_by, later_on, length_after, next_after, time_after}
+
+-- ---- no wait is longer than the longest
+
+longest_by : (o : Option Smoothed) (doubts : ℕ) (pace : Pace) → wait_by o doubts pace ≤ pace.longest
+longest_by None doubts pace = pace.ordered
+longest_by (Some s) doubts pace = grind arith
+
+longest_after : (pace : Pace) (length n : ℕ) → length ≤ pace.longest → length_after pace length n ≤ pace.longest
+unfolding length_after
+longest_after pace length zero most = most
+longest_after pace length (suc n) most = longest_after pace (next_length pace length) n (min-le_right (length * 2) pace.longest)
+
+-- ---- from the last word on
+
+record IsAsked (span : ℕ) (w : Waiting) (n : ℕ) (v : Waiting) : Type 0 where
+  pub pace : v.pace ≡ w.pace
+  pub measure : v.measure ≡ w.measure
+  pub misses : v.misses ≡ w.misses + n
+  pub length : v.length ≡ length_after w.pace (first_wait w.measure w.pace) n
+  pub until : ℕ
+  pub due : v.due ≡ AskAt until
+  pub late : later w.heard_at (span + waits_time w.pace (first_wait w.measure w.pace) n) ≤ until
+
+asked_first : (span : ℕ) (w : Waiting) → IsAsked span w 0 (record (rested w) { due = AskAt (later w.heard_at span) })
+unfolding length_after waits_time
+asked_first span w = record {
+  pace = refl;
+  measure = refl;
+  misses = omega arith;
+  length = refl;
+  until = later w.heard_at span;
+  due = refl;
+  late = omega arith;
+}
+
+over : (b : Bool) (v : Waiting) (t now : ℕ) → nat_le t now ≡ b → (if b then unless_silent v Ask else Nothing) ≡ Ask → t ≤ now
+over true v t now test is = leb-true t now test
+over false v t now test is = absurd (cc)
+
+given_by : (b : Bool) → (if b then GiveUp else Ask) ≡ GiveUp → b ≡ true
+given_by true is = refl
+given_by false is = absurd (cc)
+
+record GivenUp (v : Waiting) (t now : ℕ) : Type 0 where
+  pub over : t ≤ now
+  pub many : borne v.measure v.pace ≤ v.misses
+
+given_up : (b : Bool) (v : Waiting) (t now : ℕ) → nat_le t now ≡ b → (if b then unless_silent v Ask else Nothing) ≡ GiveUp → GivenUp v t now
+given_up true v t now test is = record {
+  over = leb-true t now test;
+  many = leb-true (borne v.measure v.pace) v.misses (given_by (nat_le (borne v.measure v.pace) v.misses) is);
+}
+given_up false v t now test is = absurd (cc)
+
+asked_again : (span : ℕ) (w v : Waiting) (n now : ℕ) → IsAsked span w n v → act_at v now ≡ Ask → IsAsked span w (n + 1) (after_by v Ask now)
+asked_again span w v n now before is =
+    let test : act_by v (AskAt before.until) now ≡ Ask = ap (λ (d : Due). act_by v d now) (sym before.due) ∙ is in
+    let more = over (nat_le before.until now) v before.until now refl test in
+    let length = before.length in
+    let first : ℕ = first_wait w.measure w.pace in
+    let one : waits_time w.pace first (suc n) ≡ waits_time w.pace first n + v.length
+    = time_after w.pace first n ∙ ap (λ (l : ℕ). waits_time w.pace first n + l) (sym length) in
+    let sum : span + waits_time w.pace first (suc n) ≡ span + waits_time w.pace first n + v.length = omega (arith, one) in
+    let misses = before.misses in
+    subst (λ (k : ℕ). IsAsked span w k (after_by v Ask now)) (sym (add-one n)) (record {
+      pace = before.pace;
+      measure = before.measure;
+      misses = omega (arith, misses);
+      length = ap (λ (p : Pace). next_length p v.length) before.pace ∙ ap (next_length w.pace) length ∙ sym (next_after w.pace first n);
+      until = later now v.length;
+      due = refl;
+      late = subst (λ (t : ℕ). later w.heard_at t ≤ later now v.length) (sym sum)
+          (later_on w.heard_at (span + waits_time w.pace first n) before.until now v.length before.late more);
+    })
+
+is_asked : {span : ℕ} {w : Waiting} {n : ℕ} {v : Waiting} → Asked span w n v → IsAsked span w n v
+is_asked {span = span} {w = w} begins = asked_first span w
+is_asked {span = span} {w = w} {n = n} (steps {v = v} before wants now) =
+    let b = is_asked before in
+    let same : after_step v false wants now ≡ v = ap (λ (d : Due). idling v d wants) b.due in
+    subst (λ (u : Waiting). IsAsked span w n u) (sym same) b
+is_asked {span = span} {w = w} (sends {n = n} {v = v} before now is) =
+    let b = asked_again span w v n now (is_asked before) is in
+    subst (λ (a : Act). IsAsked span w (n + 1) (after_by v a now)) (sym is) b
+
+-- ---- who is given up
+
+pub record Asking (span : ℕ) (w : Waiting) (n now : ℕ) : Type 0 where
+  pub tries : w.pace.tries ≤ n
+  pub patience : n < most_borne → w.pace.longest ≤ span → later w.heard_at w.pace.patience ≤ now
+
+pub not_early : (w v : Waiting) (span n now : ℕ) → w.misses ≡ 0 → Asked span w n v → act_at v now ≡ GiveUp → Asking span w n now
+not_early w v span n now none asked is =
+    let b = is_asked asked in
+    let test : act_by v (AskAt b.until) now ≡ GiveUp = ap (λ (d : Due). act_by v d now) (sym b.due) ∙ is in
+    let g = given_up (nat_le b.until now) v b.until now refl test in
+    let same : borne v.measure v.pace ≡ borne w.measure w.pace
+    = ap (λ (p : Pace). borne v.measure p) b.pace ∙ ap (λ (m : Measure). borne m w.pace) b.measure in
+    let misses = b.misses in
+    let many = g.many in
+    let all : borne w.measure w.pace ≤ n = omega (arith, none, same, misses, many) in
+    let tries = tried w.measure w.pace in
+    record {
+      tries = omega (arith, tries, all);
+      patience = λ few long.
+          let first : ℕ = first_wait w.measure w.pace in
+          let enough = patient w.measure w.pace (omega (arith, all, few)) in
+          let last = longest_after w.pace first n (longest_by w.measure.smoothed w.measure.doubts w.pace) in
+          let grown = waits_grow w.pace first (borne w.measure w.pace + 1) (suc n) (omega (arith, all)) in
+          let one = time_after w.pace first n in
+          later_by w.heard_at w.pace.patience (span + waits_time w.pace first n) b.until now (omega (arith, enough, grown, one, last, long)) b.late g.over;
+    }
