@@ -8,7 +8,7 @@ ghost use Rattle.xns_host.specs.declared.host_fault.HostFault.{HostFault};
 ghost use Rattle.xns_host.specs.declared.host_fault.HostFault.TheVariants.{NoMemory};
 
 use crate::host_fault::HostFault;
-use crate::refusing::{lacks_version, ECHO_SOCKET};
+use crate::refusing::{ECHO_SOCKET, lacks_version};
 use courier_sessions::Program;
 use std::alloc::{AllocError, Global};
 use std::collections::BTreeMap;
