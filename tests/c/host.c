@@ -229,7 +229,7 @@ static void idle(void) {
 /* A connection that closes is closed as silent, even where the setting is never to probe, once the peer has acknowledged End and gone away: behind the answer
  * nothing of the peer comes, and nothing waits for the peer. */
 static void closes_alone(void) {
-    const struct xns_settings settings = { .idle = UINT32_MAX, .first_wait = 100, .longest_wait = 300, .tries = 4 };
+    const struct xns_settings settings = { .idle = UINT32_MAX, .first_wait = 100, .longest_wait = 300, .tries = 4, .patience = 1200 };
     uint8_t packet[XNS_LONGEST_PACKET];
     struct xns_event call;
     uint64_t via, then;
