@@ -24,13 +24,13 @@ use xns_lines::{Page, Report};
 pub fn tell(
     scratch: &mut Scratch,
     page: &mut Page,
-    heading: Heading<'_>,
+    heading: &Heading<'_>,
     calls: &mut Calls,
     heard: Heard,
 ) -> Result<(), AllocError>
-    ensures text { Adds result page.old.text page.new.text (heard_text heading.entry calls.old heard) }
+    ensures text { Adds result page.old.text page.new.text (heard_text heading.now calls.old heard) }
     ensures refused { OnOk result (page.new.is_refused ≡ (page.old.is_refused || is_fault heard)) }
-    ensures calls { OnOk result (calls.new ≡ calls_after heading.entry calls.old heard) }
+    ensures calls { OnOk result (calls.new ≡ calls_after heading.now calls.old heard) }
 {
     match heard {
         Heard::Nothing => Ok(()),
@@ -47,33 +47,33 @@ pub fn tell(
 pub fn tell_whole(
     scratch: &mut Scratch,
     report: &mut Report,
-    heading: Heading<'_>,
+    heading: &Heading<'_>,
     calls: &mut Calls,
     message: WholeMessage<'_>,
 ) -> Result<(), AllocError>
-    ensures text { Adds result report.old report.new (message_line heading.entry calls.old message.entry) }
-    ensures calls { OnOk result (calls.new ≡ after_message heading.entry calls.old message.entry) }
+    ensures text { Adds result report.old report.new (message_line heading.now calls.old message.entry) }
+    ensures calls { OnOk result (calls.new ≡ after_message heading.now calls.old message.entry) }
 {
     let head = message.head();
     let alloc = scratch.alloc;
     let words = scratch.words_of_whole(message)?;
-    tell_words(alloc, report, &heading, calls, head, words)
+    tell_words(alloc, report, heading, calls, head, words)
 }
 
 /// Prints a message. A call waits for its answer then, and the call of an answer no longer.
 fn tell_message(
     scratch: &mut Scratch,
     report: &mut Report,
-    heading: Heading<'_>,
+    heading: &Heading<'_>,
     calls: &mut Calls,
     message: &PiecedMessage,
 ) -> Result<(), AllocError>
-    ensures text { Adds result report.old report.new (message_line heading.entry calls.old message.now) }
-    ensures calls { OnOk result (calls.new ≡ after_message heading.entry calls.old message.now) }
+    ensures text { Adds result report.old report.new (message_line heading.now calls.old message.now) }
+    ensures calls { OnOk result (calls.new ≡ after_message heading.now calls.old message.now) }
 {
     let alloc = scratch.alloc;
     let words = scratch.words_of(message)?;
-    tell_words(alloc, report, &heading, calls, message.head(), words)
+    tell_words(alloc, report, heading, calls, message.head(), words)
 }
 
 /// Prints the message of these words.
@@ -125,7 +125,7 @@ fn tell_words(
             reason,
         } => {
             let of = answer(calls, transaction);
-            append_answer_front(report, *heading, b" reject ", transaction, of)?;
+            append_answer_front(report, heading, b" reject ", transaction, of)?;
             append_error(
                 report,
                 b" reason ",
@@ -144,7 +144,7 @@ fn tell_words(
         Head::Abort { transaction, error } => {
             let of = answer(calls, transaction);
             let shown = name_abort(alloc, programs, of, error, words)?;
-            append_answer_front(report, *heading, b" abort ", transaction, of)?;
+            append_answer_front(report, heading, b" abort ", transaction, of)?;
             append_error(report, b" error ", error, b" args ", words, &shown)?;
             append_answer_end(report, of, time, &shown)
         }
