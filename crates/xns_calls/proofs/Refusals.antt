@@ -39,7 +39,7 @@ use Rattle.xns_calls.specs.Speech.{heard_of}
 use Rattle.xns_calls.specs.Naming.{Programs, named_abort, named_call, named_return}
 use Rattle.xns_calls.specs.Telling.{answer_line, call_line, call_of, heard_text, is_fault, message_line}
 use Rattle.xns_calls.specs.Texts.{answer_end, answer_front, call_end, call_front, end_text, flow_line, heading_text, line_or_dash, missing_line, refused_line, repeats_line, words_behind}
-use Rattle.xns_calls.specs.declared.unanswered.Calls.{Calls}
+use Rattle.xns_calls.specs.Unanswered.{Calls}
 use Rattle.xns_calls.specs.declared.connection.Connection.{Connection}
 use Rattle.xns_calls.specs.declared.early.Early.{Early}
 use Rattle.xns_dump.specs.declared.flows.flow.Flow.{Flow}

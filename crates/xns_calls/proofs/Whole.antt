@@ -30,7 +30,7 @@ use Rattle.xns_calls.specs.declared.heard.Heard.TheVariants as heard
 use Rattle.xns_calls.specs.declared.speech.Speech.{Speech}
 use Rattle.xns_calls.specs.declared.speech.Speech.TheVariants.{Hearing, Waiting}
 use Rattle.xns_calls.specs.declared.track.Track.{Track}
-use Rattle.xns_calls.specs.declared.unanswered.Calls.{Calls}
+use Rattle.xns_calls.specs.Unanswered.{Calls}
 use Rattle.xns_calls.proofs.Gaps.{AreFrom, AreKept, IsKnown, IsOrdered, Kept, by_test, captured_in_known, event_ordered, event_whole, events_ordered, kept_cases, kept_next, known_step, event_known, late_kept, le_tells, lt_tells, lt_true, new_ordered, next_of, not_less, read_next_of, rest_kept}
 use Rattle.xns_calls.proofs.Steps.{early_of, next_early, passed_early, read_early, with_early}
 

@@ -19,7 +19,6 @@ use crate::side::Side;
 use crate::speech::Speech;
 use crate::texts::append_flow_line;
 use crate::track::Track;
-use crate::unanswered::Calls;
 use courier_messages::Incoming;
 use std::alloc::{AllocError, Global};
 use xns_idp::Packet;
@@ -43,14 +42,15 @@ pub fn advance(
     let Some(track) = &mut own.track else {
         return Ok(());
     };
-    let mut calls = Calls {
-        own: own.call,
-        asked: other.call,
-    };
-    bring(scratch, page, heading, track, &mut calls, number)?;
-    own.call = calls.own;
-    other.call = calls.asked;
-    Ok(())
+    bring(
+        scratch,
+        page,
+        heading,
+        track,
+        &mut own.call,
+        &mut other.call,
+        number,
+    )
 }
 
 /// The number to which the flow is brought where this one takes effect. It is none where the flow keeps no items.
@@ -146,19 +146,21 @@ fn take_new(
     let Some(track) = &mut own.track else {
         return Ok(());
     };
-    let mut calls = Calls {
-        own: own.call,
-        asked: other.call,
-    };
     let item = Carried {
         item: Item::carried(scratch.alloc, header, content)?,
         acknowledged,
         line: heading.origin.number,
     };
-    keep_item(scratch, page, heading, track, &mut calls, number, item)?;
-    own.call = calls.own;
-    other.call = calls.asked;
-    Ok(())
+    keep_item(
+        scratch,
+        page,
+        heading,
+        track,
+        &mut own.call,
+        &mut other.call,
+        number,
+        item,
+    )
 }
 
 /// Brings the flow behind to what takes effect of it. Memory is refused only where that flow keeps items.

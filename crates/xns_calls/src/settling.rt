@@ -12,7 +12,6 @@ use crate::heading::Heading;
 use crate::scratch::Scratch;
 use crate::side::Side;
 use crate::track::Track;
-use crate::unanswered::Calls;
 use std::alloc::AllocError;
 use xns_lines::Page;
 use xns_spp::MOST_PENDING;
@@ -84,14 +83,14 @@ fn read_own(
     let Some(track) = &mut own.track else {
         return Ok(());
     };
-    let mut calls = Calls {
-        own: own.call,
-        asked: other.call,
-    };
-    read_first(scratch, page, heading, track, &mut calls)?;
-    own.call = calls.own;
-    other.call = calls.asked;
-    Ok(())
+    read_first(
+        scratch,
+        page,
+        heading,
+        track,
+        &mut own.call,
+        &mut other.call,
+    )
 }
 
 /// Reads the first item of a flow, or of the one behind it, if it comes next.

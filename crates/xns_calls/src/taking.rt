@@ -15,7 +15,6 @@ use crate::scratch::Scratch;
 use crate::settling::{is_free, settle};
 use crate::side::Side;
 use crate::track::Track;
-use crate::unanswered::Calls;
 use std::alloc::AllocError;
 use xns_idp::Packet;
 use xns_lines::Page;
@@ -76,17 +75,18 @@ fn read_at_once(
     let Some(track) = &mut own.track else {
         return Ok(());
     };
-    let mut calls = Calls {
-        own: own.call,
-        asked: other.call,
-    };
     let next = number + 1;
     read_arrived(
-        scratch, page, heading, track, &mut calls, next, header, content,
-    )?;
-    own.call = calls.own;
-    other.call = calls.asked;
-    Ok(())
+        scratch,
+        page,
+        heading,
+        track,
+        &mut own.call,
+        &mut other.call,
+        next,
+        header,
+        content,
+    )
 }
 
 /// Takes a packet of a flow, and reads what can be read then: the packet's own item where it lies, if that is all.
