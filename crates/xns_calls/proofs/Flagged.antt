@@ -18,7 +18,7 @@ use Rattle.xns_calls.specs.Read.{kept_count, one_read, own_read, read_in_track, 
 use Rattle.xns_calls.specs.Turns.{next_turn}
 use Rattle.xns_calls.specs.Speech.{heard_of}
 use Rattle.xns_calls.specs.Telling.{heard_text, is_fault}
-use Rattle.xns_calls.specs.declared.unanswered.Calls.{Calls}
+use Rattle.xns_calls.specs.Unanswered.{Calls}
 use Rattle.xns_calls.specs.declared.early.Early.{Early}
 use Rattle.xns_calls.specs.declared.due.Due.{Due}
 use Rattle.xns_calls.specs.declared.heading.Heading.{Heading}

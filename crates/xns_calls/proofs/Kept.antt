@@ -1,8 +1,6 @@
 -- The items that are kept lie in two rows, one behind the other.
-use Rattle.std.proofs.Common.{◌≡◌, ◌∙◌, ap, sym, refl, arith, ℕ, ◌+◌, ◌<◌, ◌≤◌, ◌==◌, Bool, true, false, cond, List, [], ◌∷◌, ◌++◌, length}
-use Rattle.std.specs.Prelude.{nat_lt, ◌||◌}
-use Rattle.std.specs.List.{list_any}
-use Rattle.std.proofs.lemmas.List.Folds.{list_any-append}
+use Rattle.std.proofs.Common.{◌≡◌, ◌∙◌, ap, sym, refl, arith, ℕ, ◌+◌, ◌<◌, ◌≤◌, Bool, true, false, cond, List, [], ◌∷◌, ◌++◌, length}
+use Rattle.std.specs.Prelude.{nat_lt}
 use Rattle.xns_calls.specs.AtEnd.{earlier, earliest}
 use Rattle.xns_calls.specs.declared.early.Early.{Early}
 use Rattle.xns_calls.specs.declared.first_kept.FirstKept.{FirstKept}
@@ -25,10 +23,6 @@ all_step false b m l k same le = absurd (omega (arith, le))
 pub below_all : (n : ℕ) (xs ys : List Early) → length xs ≤ below n xs → below n (xs ++ ys) ≡ below n xs + below n ys
 below_all n [] ys le = let none : 0 + below n ys ≡ below n ys = omega arith in sym none
 below_all n (e ∷ xs) ys le = all_step (nat_lt e.number n) (below n xs) (below n (xs ++ ys)) (length xs) (below n ys) (below_all n xs ys) (omega (arith, le))
-
-pub any_joined : (m : ℕ) (xs ys : List Early)
-    → list_any (λ early. early.number == m) (xs ++ ys) ≡ (list_any (λ early. early.number == m) xs || list_any (λ early. early.number == m) ys)
-any_joined m xs ys = list_any-append (λ early. early.number == m) xs ys
 
 -- ---- which of them was captured first
 

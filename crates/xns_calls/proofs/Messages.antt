@@ -11,7 +11,7 @@ use Rattle.xns_calls.specs.declared.heading.Heading.{Heading}
 use Rattle.xns_calls.specs.declared.heard.Heard.{Heard}
 use Rattle.xns_calls.specs.declared.heard.Heard.TheVariants as heard
 use Rattle.xns_calls.specs.declared.speech.Speech.{Speech}
-use Rattle.xns_calls.specs.declared.unanswered.Calls.{Calls}
+use Rattle.xns_calls.specs.Unanswered.{Calls}
 
 -- one thing more is heard, which is no fault
 one_more : (h : Heading) (calls : Calls) (x : Heard) (rest : List (Heading × Message)) → is_fault x ≡ false

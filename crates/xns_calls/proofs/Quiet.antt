@@ -14,7 +14,7 @@ use Rattle.xns_calls.specs.Repeats.{repeats_text}
 use Rattle.xns_calls.specs.Naming.{Programs, named_abort, named_call, named_return}
 use Rattle.xns_calls.specs.Telling.{answer_line, call_line, call_of, message_line}
 use Rattle.xns_calls.specs.Texts.{answer_end, answer_front, call_end, call_front, end_text, flow_line, heading_text, line_or_dash, missing_line, refused_line, repeats_line, words_behind}
-use Rattle.xns_calls.specs.declared.unanswered.Calls.{Calls}
+use Rattle.xns_calls.specs.Unanswered.{Calls}
 use Rattle.xns_calls.specs.declared.heading.Heading.{Heading}
 use Rattle.xns_calls.specs.TimeTexts.{digits_text, fraction_text, from_to_text, seconds_text, time_text, took, took_since, took_text}
 use Rattle.xns_calls.specs.declared.origin.ShownTime.{ShownTime}

@@ -30,7 +30,7 @@ use Rattle.xns_calls.specs.declared.heard.Heard.TheVariants as heard
 use Rattle.xns_calls.specs.declared.speech.Speech.{Speech}
 use Rattle.xns_calls.specs.declared.speech.Speech.TheVariants.{Hearing, Waiting}
 use Rattle.xns_calls.specs.declared.track.Track.{Track}
-use Rattle.xns_calls.specs.declared.unanswered.Calls.{Calls}
+use Rattle.xns_calls.specs.Unanswered.{Calls}
 use Rattle.xns_calls.proofs.Comparing.{by_test, le_tells, lt_tells, lt_true, not_less}
 use Rattle.xns_calls.proofs.Gaps.{AreKept, event_whole, kept_next, late_kept, rest_kept}
 use Rattle.xns_calls.proofs.Known.{captured_in_known, event_ordered, events_ordered, kept_cases, known_step, event_known, new_ordered}

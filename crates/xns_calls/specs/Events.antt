@@ -11,7 +11,7 @@ use Rattle.xns_calls.specs.declared.early.Early.{Early}
 use Rattle.xns_calls.specs.declared.due.Due.{Due}
 use Rattle.xns_calls.specs.declared.heading.Heading.{Heading}
 use Rattle.xns_calls.specs.declared.track.Track.{Track}
-use Rattle.xns_calls.specs.declared.unanswered.Calls.{Calls}
+use Rattle.xns_calls.specs.Unanswered.{Calls}
 
 -- an item of the flow is captured, or takes effect what acknowledges all its items below a number, or the next item is read if it is kept;
 -- or what other packets and lines do meanwhile, by which the calls without an answer, the text of the line, and whether something was refused, are others

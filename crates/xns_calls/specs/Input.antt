@@ -36,7 +36,7 @@ use Rattle.xns_dump.specs.declared.flows.flow.Flow.{Flow}
 use Rattle.xns_calls.specs.declared.heading.Heading.{Heading}
 use Rattle.xns_calls.specs.declared.origin.Origin.{Origin}
 use Rattle.xns_calls.specs.declared.track.Track.{Track}
-use Rattle.xns_calls.specs.declared.unanswered.Calls.{Calls}
+use Rattle.xns_calls.specs.Unanswered.{Calls}
 
 -- ---- the packets of the lines
 

@@ -6,7 +6,7 @@ use Rattle.xns_calls.specs.declared.heard.Heard.{Heard}
 use Rattle.xns_calls.specs.declared.heard.Heard.TheVariants as heard
 use Rattle.xns_calls.specs.declared.speech.Speech.{Speech}
 use Rattle.xns_calls.specs.declared.heading.Heading.{Heading}
-use Rattle.xns_calls.specs.declared.unanswered.Calls.{Calls}
+use Rattle.xns_calls.specs.Unanswered.{Calls}
 use Rattle.xns_calls.specs.Reading.{Told, said_item}
 use Rattle.xns_calls.specs.Speech.{after_item, heard_of}
 use Rattle.xns_calls.specs.Telling.{after_message, is_fault, message_line}

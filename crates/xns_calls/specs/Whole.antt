@@ -8,7 +8,7 @@ use Rattle.xns_calls.specs.Events.{AreWithinReach, Event, IsAmong, acknowledged,
 use Rattle.xns_calls.specs.Reading.{Told}
 use Rattle.xns_calls.specs.Telling.{message_line}
 use Rattle.xns_calls.specs.declared.heading.Heading.{Heading}
-use Rattle.xns_calls.specs.declared.unanswered.Calls.{Calls}
+use Rattle.xns_calls.specs.Unanswered.{Calls}
 
 -- an item that is captured is the one of its number
 abbrev pub IsOf : List Item → Event → Type 0

@@ -43,12 +43,12 @@ fn end_turn(own: &Side, other: &Side) -> Option<bool>
 fn end_own(
     scratch: &mut Scratch,
     page: &mut Page,
-    heading: Heading<'_>,
+    heading: &Heading<'_>,
     own: &mut Side,
     other: &mut Side,
 ) -> Result<(), AllocError>
     ensures front { page.new.text.front ≡ page.old.text.front }
-    ensures scene { OnOk result (scene own.new other.new page.new ≡ own_ended heading.entry (scene own.old other.old page.old)) }
+    ensures scene { OnOk result (scene own.new other.new page.new ≡ own_ended heading.now (scene own.old other.old page.old)) }
 {
     let Some(first) = first_at_end(own) else {
         return Ok(());
@@ -61,16 +61,16 @@ fn end_own(
 fn end_of(
     scratch: &mut Scratch,
     page: &mut Page,
-    heading: Heading<'_>,
+    heading: &Heading<'_>,
     own: &mut Side,
     other: &mut Side,
     is_other: bool,
 ) -> Result<(), AllocError>
     ensures front { page.new.text.front ≡ page.old.text.front }
-    ensures scene { OnOk result (scene own.new other.new page.new ≡ ended_of heading.entry (Some is_other) (scene own.old other.old page.old)) }
+    ensures scene { OnOk result (scene own.new other.new page.new ≡ ended_of heading.now (Some is_other) (scene own.old other.old page.old)) }
 {
     if is_other {
-        end_own(scratch, page, heading.of_other(), other, own)
+        end_own(scratch, page, &heading.of_other(), other, own)
     } else {
         end_own(scratch, page, heading, own, other)
     }
@@ -80,12 +80,12 @@ fn end_of(
 fn end_all(
     scratch: &mut Scratch,
     page: &mut Page,
-    heading: Heading<'_>,
+    heading: &Heading<'_>,
     own: &mut Side,
     other: &mut Side,
 ) -> Result<(), AllocError>
     ensures front { page.new.text.front ≡ page.old.text.front }
-    ensures scene { OnOk result (scene own.new other.new page.new ≡ both_ended heading.entry (scene own.old other.old page.old)) }
+    ensures scene { OnOk result (scene own.new other.new page.new ≡ both_ended heading.now (scene own.old other.old page.old)) }
 {
     while let Some(is_other) = end_turn(own, other) {
         end_of(scratch, page, heading, own, other, is_other)?;
@@ -98,13 +98,13 @@ fn end_all(
 pub fn end_flows(
     scratch: &mut Scratch,
     page: &mut Page,
-    heading: Heading<'_>,
+    heading: &Heading<'_>,
     own: &mut Side,
     other: &mut Side,
 ) -> Result<(), AllocError>
     ensures front { page.new.text.front ≡ page.old.text.front }
     ensures memory { OnErr result (is_some (end_turn_of own.old.track other.old.track) ≡ true) }
-    ensures scene { OnOk result (scene own.new other.new page.new ≡ both_ended heading.entry (scene own.old other.old page.old)) }
+    ensures scene { OnOk result (scene own.new other.new page.new ≡ both_ended heading.now (scene own.old other.old page.old)) }
 {
     if end_turn(own, other).is_none() {
         return Ok(());

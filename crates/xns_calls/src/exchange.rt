@@ -19,7 +19,6 @@ use crate::side::Side;
 use crate::speech::Speech;
 use crate::texts::append_flow_line;
 use crate::track::Track;
-use crate::unanswered::Calls;
 use courier_messages::Incoming;
 use std::alloc::{AllocError, Global};
 use xns_idp::Packet;
@@ -32,25 +31,26 @@ use xns_spp::{Header, Item, MOST_PENDING};
 pub fn advance(
     scratch: &mut Scratch,
     page: &mut Page,
-    heading: Heading<'_>,
+    heading: &Heading<'_>,
     own: &mut Side,
     other: &mut Side,
     number: u64,
 ) -> Result<(), AllocError>
     ensures front { page.new.text.front ≡ page.old.text.front }
-    ensures scene { OnOk result (scene own.new other.new page.new ≡ advanced heading.entry number (scene own.old other.old page.old)) }
+    ensures scene { OnOk result (scene own.new other.new page.new ≡ advanced heading.now number (scene own.old other.old page.old)) }
 {
     let Some(track) = &mut own.track else {
         return Ok(());
     };
-    let mut calls = Calls {
-        own: own.call,
-        asked: other.call,
-    };
-    bring(scratch, page, heading, track, &mut calls, number)?;
-    own.call = calls.own;
-    other.call = calls.asked;
-    Ok(())
+    bring(
+        scratch,
+        page,
+        heading,
+        track,
+        &mut own.call,
+        &mut other.call,
+        number,
+    )
 }
 
 /// The number to which the flow is brought where this one takes effect. It is none where the flow keeps no items.
@@ -87,7 +87,7 @@ fn begun(alloc: Global, field: u16) -> Track
 pub fn begin(
     alloc: Global,
     page: &mut Page,
-    heading: Heading<'_>,
+    heading: &Heading<'_>,
     own: &mut Side,
     packet: &Packet<'_>,
     header: &Header,
@@ -95,7 +95,7 @@ pub fn begin(
     ensures front { page.new.text.front ≡ page.old.text.front }
     ensures memory { OnErr result (own.old.track ≡ None) }
     ensures scene { OnOk result ((other : Side) → scene own.new other page.new
-        ≡ begun_of heading.entry (packet_model packet.now) header.now (scene own.old other page.old)) }
+        ≡ begun_of heading.now (packet_model packet.now) header.now (scene own.old other page.old)) }
 {
     if own.track.is_none() {
         append_flow_line(&mut page.text, heading, packet, header)?;
@@ -130,7 +130,7 @@ fn new_number(side: &Side, field: u16) -> Option<u64>
 fn take_new(
     scratch: &mut Scratch,
     page: &mut Page,
-    heading: Heading<'_>,
+    heading: &Heading<'_>,
     own: &mut Side,
     other: &mut Side,
     number: u64,
@@ -141,24 +141,26 @@ fn take_new(
     requires { number < most_numbers }
     ensures front { page.new.text.front ≡ page.old.text.front }
     ensures scene { OnOk result (scene own.new other.new page.new
-        ≡ after_new heading.entry number (carried heading.entry acknowledged header.now content.now) (scene own.old other.old page.old)) }
+        ≡ after_new heading.now number (carried heading.now acknowledged header.now content.now) (scene own.old other.old page.old)) }
 {
     let Some(track) = &mut own.track else {
         return Ok(());
-    };
-    let mut calls = Calls {
-        own: own.call,
-        asked: other.call,
     };
     let item = Carried {
         item: Item::carried(scratch.alloc, header, content)?,
         acknowledged,
         line: heading.origin.number,
     };
-    keep_item(scratch, page, heading, track, &mut calls, number, item)?;
-    own.call = calls.own;
-    other.call = calls.asked;
-    Ok(())
+    keep_item(
+        scratch,
+        page,
+        heading,
+        track,
+        &mut own.call,
+        &mut other.call,
+        number,
+        item,
+    )
 }
 
 /// Brings the flow behind to what takes effect of it. Memory is refused only where that flow keeps items.
@@ -166,19 +168,19 @@ fn take_new(
 pub fn reach_other(
     scratch: &mut Scratch,
     page: &mut Page,
-    heading: Heading<'_>,
+    heading: &Heading<'_>,
     own: &mut Side,
     other: &mut Side,
     number: Option<u64>,
 ) -> Result<(), AllocError>
     ensures front { page.new.text.front ≡ page.old.text.front }
     ensures memory { OnErr result (is_some (reached_of other.old.track number) ≡ true) }
-    ensures scene { OnOk result (scene own.new other.new page.new ≡ other_reached heading.entry number (scene own.old other.old page.old)) }
+    ensures scene { OnOk result (scene own.new other.new page.new ≡ other_reached heading.now number (scene own.old other.old page.old)) }
 {
     let Some(number) = reached(other, number) else {
         return Ok(());
     };
-    advance(scratch, page, heading.of_other(), other, own, number)
+    advance(scratch, page, &heading.of_other(), other, own, number)
 }
 
 /// Brings the packet's own flow to what takes effect of it. Memory is refused only where that flow keeps items.
@@ -186,14 +188,14 @@ pub fn reach_other(
 fn reach_own(
     scratch: &mut Scratch,
     page: &mut Page,
-    heading: Heading<'_>,
+    heading: &Heading<'_>,
     own: &mut Side,
     other: &mut Side,
     number: Option<u64>,
 ) -> Result<(), AllocError>
     ensures front { page.new.text.front ≡ page.old.text.front }
     ensures memory { OnErr result (is_some (reached_of own.old.track number) ≡ true) }
-    ensures scene { OnOk result (scene own.new other.new page.new ≡ own_reached heading.entry number (scene own.old other.old page.old)) }
+    ensures scene { OnOk result (scene own.new other.new page.new ≡ own_reached heading.now number (scene own.old other.old page.old)) }
 {
     let Some(number) = reached(own, number) else {
         return Ok(());
@@ -206,7 +208,7 @@ fn reach_own(
 fn take_data(
     scratch: &mut Scratch,
     page: &mut Page,
-    heading: Heading<'_>,
+    heading: &Heading<'_>,
     own: &mut Side,
     other: &mut Side,
     acknowledged: Option<u64>,
@@ -217,7 +219,7 @@ fn take_data(
     ensures front { page.new.text.front ≡ page.old.text.front }
     ensures memory { OnErr result (brings_new own.old.track header.now.sequence ≡ true) }
     ensures scene { OnOk result (scene own.new other.new page.new
-        ≡ after_data heading.entry acknowledged (packet_model packet.now) header.now content.now (scene own.old other.old page.old)) }
+        ≡ after_data heading.now acknowledged (packet_model packet.now) header.now content.now (scene own.old other.old page.old)) }
 {
     begin(scratch.alloc, page, heading, own, packet, header)?;
     let Some(number) = new_number(own, header.sequence) else {
@@ -241,7 +243,7 @@ fn take_data(
 fn take_content(
     scratch: &mut Scratch,
     page: &mut Page,
-    heading: Heading<'_>,
+    heading: &Heading<'_>,
     own: &mut Side,
     other: &mut Side,
     acknowledged: Option<u64>,
@@ -252,7 +254,7 @@ fn take_content(
     ensures front { page.new.text.front ≡ page.old.text.front }
     ensures memory { OnErr result (brings_data header.now own.old.track ≡ true) }
     ensures scene { OnOk result (scene own.new other.new page.new
-        ≡ after_content heading.entry acknowledged (packet_model packet.now) header.now content.now (scene own.old other.old page.old)) }
+        ≡ after_content heading.now acknowledged (packet_model packet.now) header.now content.now (scene own.old other.old page.old)) }
 {
     if header.control & SYSTEM != 0 {
         return Ok(());
@@ -276,7 +278,7 @@ fn take_content(
 pub fn take_kept(
     scratch: &mut Scratch,
     page: &mut Page,
-    heading: Heading<'_>,
+    heading: &Heading<'_>,
     own: &mut Side,
     other: &mut Side,
     due: Due,
@@ -287,7 +289,7 @@ pub fn take_kept(
     ensures front { page.new.text.front ≡ page.old.text.front }
     ensures memory { OnErr result (wants_to_take due header.now (scene own.old other.old page.old) ≡ true) }
     ensures scene { OnOk result (scene own.new other.new page.new
-        ≡ after_packet heading.entry due (packet_model packet.now) header.now content.now (scene own.old other.old page.old)) }
+        ≡ after_packet heading.now due (packet_model packet.now) header.now content.now (scene own.old other.old page.old)) }
 {
     reach_other(scratch, page, heading, own, other, due.other)?;
     take_content(

@@ -53,7 +53,7 @@ fn boxed_none(alloc: Global) -> Result<Box<Side>, AllocError>
 fn take_alone(
     scratch: &mut Scratch,
     page: &mut Page,
-    heading: Heading<'_>,
+    heading: &Heading<'_>,
     own: &mut Side,
     due: Due,
     packet: &Packet<'_>,
@@ -63,7 +63,7 @@ fn take_alone(
     ensures front { page.new.text.front ≡ page.old.text.front }
     ensures memory { OnErr result (wants_memory due header.now (scene own.old no_side page.old) ≡ true) }
     ensures scene { OnOk result (scene own.new no_side page.new
-        ≡ handled heading.entry due (packet_model packet.now) header.now content.now (scene own.old no_side page.old)) }
+        ≡ handled heading.now due (packet_model packet.now) header.now content.now (scene own.old no_side page.old)) }
 {
     let mut other = Side::none();
     take_packet(
@@ -75,7 +75,7 @@ fn take_alone(
 fn take_before(
     scratch: &mut Scratch,
     page: &mut Page,
-    heading: Heading<'_>,
+    heading: &Heading<'_>,
     other: &mut Side,
     due: Due,
     packet: &Packet<'_>,
@@ -86,7 +86,7 @@ fn take_before(
     ensures front { page.new.text.front ≡ page.old.text.front }
     ensures memory { OnErr result (wants_memory due header.now (scene no_side other.old page.old) ≡ true) }
     ensures scene { OnOk result (scene no_side other.new page.new
-        ≡ handled heading.entry due (packet_model packet.now) header.now content.now (scene no_side other.old page.old)) }
+        ≡ handled heading.now due (packet_model packet.now) header.now content.now (scene no_side other.old page.old)) }
 {
     let mut own = Side::none();
     take_packet(
@@ -98,12 +98,12 @@ fn take_before(
 fn end_alone(
     scratch: &mut Scratch,
     page: &mut Page,
-    heading: Heading<'_>,
+    heading: &Heading<'_>,
     own: &mut Side,
 ) -> Result<(), AllocError>
     ensures front { page.new.text.front ≡ page.old.text.front }
     ensures memory { OnErr result (is_some (end_turn own.old.track None) ≡ true) }
-    ensures scene { OnOk result (scene own.new no_side page.new ≡ both_ended heading.entry (scene own.old no_side page.old)) }
+    ensures scene { OnOk result (scene own.new no_side page.new ≡ both_ended heading.now (scene own.old no_side page.old)) }
 {
     let mut other = Side::none();
     end_flows(scratch, page, heading, own, &mut other)
@@ -172,7 +172,7 @@ impl KeptSide {
         &mut self,
         scratch: &mut Scratch,
         page: &mut Page,
-        heading: Heading<'_>,
+        heading: &Heading<'_>,
         first: &mut Side,
         due: Due,
         packet: &Packet<'_>,
@@ -182,7 +182,7 @@ impl KeptSide {
         ensures front { page.new.text.front ≡ page.old.text.front }
         ensures memory { OnErr result (wants_memory due header.now (scene self.old first.old page.old) ≡ true) }
         ensures scene { OnOk result (scene self.new first.new page.new
-            ≡ handled heading.entry due (packet_model packet.now) header.now content.now (scene self.old first.old page.old)) }
+            ≡ handled heading.now due (packet_model packet.now) header.now content.now (scene self.old first.old page.old)) }
     {
         match &mut self.side {
             Some(side) => take_packet(
@@ -223,7 +223,7 @@ impl KeptSide {
         &mut self,
         scratch: &mut Scratch,
         page: &mut Page,
-        heading: Heading<'_>,
+        heading: &Heading<'_>,
         first: &mut Side,
         due: Due,
         packet: &Packet<'_>,
@@ -233,7 +233,7 @@ impl KeptSide {
         ensures front { page.new.text.front ≡ page.old.text.front }
         ensures memory { OnErr result (wants_memory due header.now (scene first.old self.old page.old) ≡ true) }
         ensures scene { OnOk result (scene first.new self.new page.new
-            ≡ handled heading.entry due (packet_model packet.now) header.now content.now (scene first.old self.old page.old)) }
+            ≡ handled heading.now due (packet_model packet.now) header.now content.now (scene first.old self.old page.old)) }
     {
         match &mut self.side {
             Some(side) => take_packet(
@@ -256,12 +256,12 @@ impl KeptSide {
         &mut self,
         scratch: &mut Scratch,
         page: &mut Page,
-        heading: Heading<'_>,
+        heading: &Heading<'_>,
         first: &mut Side,
     ) -> Result<(), AllocError>
         ensures front { page.new.text.front ≡ page.old.text.front }
         ensures memory { OnErr result (is_some (end_turn first.old.track self.old.track) ≡ true) }
-        ensures scene { OnOk result (scene first.new self.new page.new ≡ both_ended heading.entry (scene first.old self.old page.old)) }
+        ensures scene { OnOk result (scene first.new self.new page.new ≡ both_ended heading.now (scene first.old self.old page.old)) }
     {
         match &mut self.side {
             Some(side) => end_flows(scratch, page, heading, first, side.as_mut()),

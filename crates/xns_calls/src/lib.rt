@@ -47,7 +47,6 @@ mod time_style;
 mod time_texts;
 mod times;
 mod track;
-mod unanswered;
 mod waiting;
 
 pub use bringing::MOST_EARLY;

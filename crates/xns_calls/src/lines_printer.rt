@@ -76,7 +76,7 @@ impl<D: Described> LinePrinter for LinesPrinter<'_, D> {
 
     fn print_end(&mut self, page: &mut Page, part: usize) -> Result<(), AllocError> {
         let last = self.printer.last;
-        self.printer.capture.take_end(page, last, part)
+        self.printer.capture.take_end(page, &last, part)
     }
 
     fn text_only_grows()

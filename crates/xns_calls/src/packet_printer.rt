@@ -65,7 +65,7 @@ impl<S: TimeStyle, D: Described> PacketPrinter for CapturePrinter<'_, S, D> {
         packet: &[u8],
     ) -> Result<(), AllocError> {
         let origin = Origin::of_frame(self.printer.programs, self.style.times(), stamp);
-        take_packet_in(&mut self.printer.capture, page, origin, packet)?;
+        take_packet_in(&mut self.printer.capture, page, &origin, packet)?;
         self.printer.last = origin;
         Ok(())
     }
@@ -76,7 +76,7 @@ impl<S: TimeStyle, D: Described> PacketPrinter for CapturePrinter<'_, S, D> {
 
     fn print_packet_end(&mut self, page: &mut Page, part: usize) -> Result<(), AllocError> {
         let last = self.printer.last;
-        self.printer.capture.take_end(page, last, part)
+        self.printer.capture.take_end(page, &last, part)
     }
 
     fn nothing_is_said()

@@ -12,7 +12,6 @@ use crate::heading::Heading;
 use crate::scratch::Scratch;
 use crate::side::Side;
 use crate::track::Track;
-use crate::unanswered::Calls;
 use std::alloc::AllocError;
 use xns_lines::Page;
 use xns_spp::MOST_PENDING;
@@ -74,40 +73,40 @@ fn next_turn(own: &Side, other: &Side, given: Given) -> Option<bool>
 fn read_own(
     scratch: &mut Scratch,
     page: &mut Page,
-    heading: Heading<'_>,
+    heading: &Heading<'_>,
     own: &mut Side,
     other: &mut Side,
 ) -> Result<(), AllocError>
     ensures front { page.new.text.front ≡ page.old.text.front }
-    ensures scene { OnOk result (scene own.new other.new page.new ≡ own_read heading.entry (scene own.old other.old page.old)) }
+    ensures scene { OnOk result (scene own.new other.new page.new ≡ own_read heading.now (scene own.old other.old page.old)) }
 {
     let Some(track) = &mut own.track else {
         return Ok(());
     };
-    let mut calls = Calls {
-        own: own.call,
-        asked: other.call,
-    };
-    read_first(scratch, page, heading, track, &mut calls)?;
-    own.call = calls.own;
-    other.call = calls.asked;
-    Ok(())
+    read_first(
+        scratch,
+        page,
+        heading,
+        track,
+        &mut own.call,
+        &mut other.call,
+    )
 }
 
 /// Reads the first item of a flow, or of the one behind it, if it comes next.
 fn read_turn(
     scratch: &mut Scratch,
     page: &mut Page,
-    heading: Heading<'_>,
+    heading: &Heading<'_>,
     own: &mut Side,
     other: &mut Side,
     is_other: bool,
 ) -> Result<(), AllocError>
     ensures front { page.new.text.front ≡ page.old.text.front }
-    ensures scene { OnOk result (scene own.new other.new page.new ≡ read_of heading.entry (Some is_other) (scene own.old other.old page.old)) }
+    ensures scene { OnOk result (scene own.new other.new page.new ≡ read_of heading.now (Some is_other) (scene own.old other.old page.old)) }
 {
     if is_other {
-        read_own(scratch, page, heading.of_other(), other, own)
+        read_own(scratch, page, &heading.of_other(), other, own)
     } else {
         read_own(scratch, page, heading, own, other)
     }
@@ -117,13 +116,13 @@ fn read_turn(
 fn read_all(
     scratch: &mut Scratch,
     page: &mut Page,
-    heading: Heading<'_>,
+    heading: &Heading<'_>,
     own: &mut Side,
     other: &mut Side,
     given: Given,
 ) -> Result<(), AllocError>
     ensures front { page.new.text.front ≡ page.old.text.front }
-    ensures scene { OnOk result (scene own.new other.new page.new ≡ settled heading.entry given (scene own.old other.old page.old)) }
+    ensures scene { OnOk result (scene own.new other.new page.new ≡ settled heading.now given (scene own.old other.old page.old)) }
 {
     while let Some(is_other) = next_turn(own, other, given) {
         read_turn(scratch, page, heading, own, other, is_other)?;
@@ -136,14 +135,14 @@ fn read_all(
 pub fn settle(
     scratch: &mut Scratch,
     page: &mut Page,
-    heading: Heading<'_>,
+    heading: &Heading<'_>,
     own: &mut Side,
     other: &mut Side,
     given: Given,
 ) -> Result<(), AllocError>
     ensures front { page.new.text.front ≡ page.old.text.front }
     ensures memory { OnErr result (is_some (next_turn_of given own.old.track other.old.track) ≡ true) }
-    ensures scene { OnOk result (scene own.new other.new page.new ≡ settled heading.entry given (scene own.old other.old page.old)) }
+    ensures scene { OnOk result (scene own.new other.new page.new ≡ settled heading.now given (scene own.old other.old page.old)) }
 {
     if next_turn(own, other, given).is_none() {
         return Ok(());

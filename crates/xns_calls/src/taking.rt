@@ -15,7 +15,6 @@ use crate::scratch::Scratch;
 use crate::settling::{is_free, settle};
 use crate::side::Side;
 use crate::track::Track;
-use crate::unanswered::Calls;
 use std::alloc::AllocError;
 use xns_idp::Packet;
 use xns_lines::Page;
@@ -61,7 +60,7 @@ fn alone_number(own: &Side, other: &Side, due: Due, header: &Header) -> Option<u
 fn read_at_once(
     scratch: &mut Scratch,
     page: &mut Page,
-    heading: Heading<'_>,
+    heading: &Heading<'_>,
     own: &mut Side,
     other: &mut Side,
     number: u64,
@@ -71,22 +70,23 @@ fn read_at_once(
     requires { number < most_numbers }
     ensures front { page.new.text.front ≡ page.old.text.front }
     ensures scene { OnOk result (scene own.new other.new page.new
-        ≡ read_once heading.entry number header.now content.now (scene own.old other.old page.old)) }
+        ≡ read_once heading.now number header.now content.now (scene own.old other.old page.old)) }
 {
     let Some(track) = &mut own.track else {
         return Ok(());
     };
-    let mut calls = Calls {
-        own: own.call,
-        asked: other.call,
-    };
     let next = number + 1;
     read_arrived(
-        scratch, page, heading, track, &mut calls, next, header, content,
-    )?;
-    own.call = calls.own;
-    other.call = calls.asked;
-    Ok(())
+        scratch,
+        page,
+        heading,
+        track,
+        &mut own.call,
+        &mut other.call,
+        next,
+        header,
+        content,
+    )
 }
 
 /// Takes a packet of a flow, and reads what can be read then: the packet's own item where it lies, if that is all.
@@ -94,7 +94,7 @@ fn read_at_once(
 fn take_begun(
     scratch: &mut Scratch,
     page: &mut Page,
-    heading: Heading<'_>,
+    heading: &Heading<'_>,
     own: &mut Side,
     other: &mut Side,
     due: Due,
@@ -105,7 +105,7 @@ fn take_begun(
     ensures front { page.new.text.front ≡ page.old.text.front }
     ensures memory { OnErr result (wants_memory due header.now (scene own.old other.old page.old) ≡ true) }
     ensures scene { OnOk result (scene own.new other.new page.new
-        ≡ handled heading.entry due (packet_model packet.now) header.now content.now (scene own.old other.old page.old)) }
+        ≡ handled heading.now due (packet_model packet.now) header.now content.now (scene own.old other.old page.old)) }
 {
     if let Some(number) = alone_number(own, other, due, header) {
         return read_at_once(scratch, page, heading, own, other, number, header, content);
@@ -129,7 +129,7 @@ fn begins_first(own: &Side, other: &Side, header: &Header) -> bool
 fn take_first(
     scratch: &mut Scratch,
     page: &mut Page,
-    heading: Heading<'_>,
+    heading: &Heading<'_>,
     own: &mut Side,
     other: &mut Side,
     due: Due,
@@ -141,7 +141,7 @@ fn take_first(
     ensures front { page.new.text.front ≡ page.old.text.front }
     ensures memory { OnErr result (wants_memory due header.now (scene own.old other.old page.old) ≡ true) }
     ensures scene { OnOk result (scene own.new other.new page.new
-        ≡ handled heading.entry due (packet_model packet.now) header.now content.now (scene own.old other.old page.old)) }
+        ≡ handled heading.now due (packet_model packet.now) header.now content.now (scene own.old other.old page.old)) }
 {
     begin(scratch.alloc, page, heading, own, packet, header)?;
     take_begun(
@@ -154,7 +154,7 @@ fn take_first(
 pub fn take_packet(
     scratch: &mut Scratch,
     page: &mut Page,
-    heading: Heading<'_>,
+    heading: &Heading<'_>,
     own: &mut Side,
     other: &mut Side,
     due: Due,
@@ -165,7 +165,7 @@ pub fn take_packet(
     ensures front { page.new.text.front ≡ page.old.text.front }
     ensures memory { OnErr result (wants_memory due header.now (scene own.old other.old page.old) ≡ true) }
     ensures scene { OnOk result (scene own.new other.new page.new
-        ≡ handled heading.entry due (packet_model packet.now) header.now content.now (scene own.old other.old page.old)) }
+        ≡ handled heading.now due (packet_model packet.now) header.now content.now (scene own.old other.old page.old)) }
 {
     if begins_first(own, other, header) {
         return take_first(

@@ -31,12 +31,12 @@ use xns_spp::Header;
 
 /// Appends the time of the frame, its number or that of the line, and the name of the flow.
 #[tactic(auto, unfolding(crate::specs::Texts::heading_text))]
-fn append_heading(report: &mut Report, heading: Heading<'_>) -> Result<(), AllocError>
-    ensures { Adds result report.old report.new (heading_text heading.entry) }
+fn append_heading(report: &mut Report, heading: &Heading<'_>) -> Result<(), AllocError>
+    ensures { Adds result report.old report.new (heading_text heading.now) }
 {
     append_time(report, heading.origin.time)?;
     let mut end = LineEnd::new();
-    write_name(&mut end, &heading);
+    write_name(&mut end, heading);
     report.append(end.as_slice())
 }
 
@@ -44,17 +44,17 @@ fn append_heading(report: &mut Report, heading: Heading<'_>) -> Result<(), Alloc
 #[tactic(auto, unfolding(crate::specs::Texts::flow_line, crate::specs::Texts::heading_text))]
 pub fn append_flow_line(
     report: &mut Report,
-    heading: Heading<'_>,
+    heading: &Heading<'_>,
     packet: &Packet<'_>,
     header: &Header,
 ) -> Result<(), AllocError>
-    ensures { Adds result report.old report.new (flow_line heading.entry (packet_model packet.now) header.now) }
+    ensures { Adds result report.old report.new (flow_line heading.now (packet_model packet.now) header.now) }
 {
     let mut ends = [0; 84];
     write_ends(packet, header, &mut ends);
     let mut end = LineEnd::new();
     end.write(&ends);
-    write_name(&mut end, &heading);
+    write_name(&mut end, heading);
     append_time(report, heading.origin.time)?;
     report.append(end.as_slice())
 }
@@ -86,10 +86,10 @@ fn write_end(address: &Address, identifier: u16, text: &mut [u8])
 #[tactic(auto, unfolding(crate::specs::Texts::missing_line))]
 pub fn append_missing_line(
     report: &mut Report,
-    heading: Heading<'_>,
+    heading: &Heading<'_>,
     missing: Range<u64>,
 ) -> Result<(), AllocError>
-    ensures { Adds result report.old report.new (missing_line heading.entry missing.start missing.end) }
+    ensures { Adds result report.old report.new (missing_line heading.now missing.start missing.end) }
 {
     append_heading(report, heading)?;
     append_item_number(report, b" missing ", missing.start)?;
@@ -99,8 +99,8 @@ pub fn append_missing_line(
 
 /// Appends the line that tells of 64 repeats in a row.
 #[tactic(auto, unfolding(crate::specs::Texts::repeats_line))]
-pub fn append_repeats_line(report: &mut Report, heading: Heading<'_>) -> Result<(), AllocError>
-    ensures { Adds result report.old report.new (repeats_line heading.entry) }
+pub fn append_repeats_line(report: &mut Report, heading: &Heading<'_>) -> Result<(), AllocError>
+    ensures { Adds result report.old report.new (repeats_line heading.now) }
 {
     append_heading(report, heading)?;
     report.append(b" repeats\n")
@@ -118,10 +118,10 @@ fn append_item_number(report: &mut Report, name: &[u8], number: u64) -> Result<(
 #[tactic(auto, unfolding(crate::specs::Texts::call_front))]
 fn append_call_front(
     report: &mut Report,
-    heading: Heading<'_>,
+    heading: &Heading<'_>,
     transaction: u16,
 ) -> Result<(), AllocError>
-    ensures { Adds result report.old report.new (call_front heading.entry transaction) }
+    ensures { Adds result report.old report.new (call_front heading.now transaction) }
 {
     append_heading(report, heading)?;
     append_field(report, b" call ", transaction)
@@ -180,7 +180,7 @@ pub fn append_call(
             words,
         );
     }
-    append_call_front(report, *heading, transaction)?;
+    append_call_front(report, heading, transaction)?;
     append_arguments(report, program, version, procedure, words, shown)?;
     append_call_end(report, shown)
 }
@@ -201,7 +201,7 @@ pub fn append_return(
     if is_plain(time, words, shown) {
         return append_plain_return(report, heading, transaction, of, words);
     }
-    append_answer_front(report, *heading, b" return ", transaction, *of)?;
+    append_answer_front(report, heading, b" return ", transaction, *of)?;
     append_results(report, words, shown)?;
     append_answer_end(report, *of, time, shown)
 }
@@ -297,12 +297,12 @@ pub fn append_answer_end(
 #[tactic(auto, unfolding(crate::specs::Texts::answer_front))]
 pub fn append_answer_front(
     report: &mut Report,
-    heading: Heading<'_>,
+    heading: &Heading<'_>,
     name: &[u8],
     transaction: u16,
     of: Option<Waiting>,
 ) -> Result<(), AllocError>
-    ensures { Adds result report.old report.new (answer_front heading.entry name.now transaction of) }
+    ensures { Adds result report.old report.new (answer_front heading.now name.now transaction of) }
 {
     append_heading(report, heading)?;
     append_field(report, name, transaction)?;
@@ -317,10 +317,10 @@ pub fn append_answer_front(
 #[tactic(auto, unfolding(crate::specs::Texts::refused_line))]
 pub fn append_refused_line(
     report: &mut Report,
-    heading: Heading<'_>,
+    heading: &Heading<'_>,
     fault: SessionFault,
 ) -> Result<(), AllocError>
-    ensures { Adds result report.old report.new (refused_line heading.entry fault) }
+    ensures { Adds result report.old report.new (refused_line heading.now fault) }
 {
     append_heading(report, heading)?;
     report.append(b" refused ")?;

@@ -10,6 +10,6 @@ returns-clause-memory c =
 
 pub returns-clause-scene : goal.returns-clause-scene
 returns-clause-scene c =
-    on_ok_begun c.take_begun.result c.args.heading c.args.due (packet_model c.args.packet.now) c.args.header.now c.args.content.now (scene c.args.own.now c.args.other.now c.args.page.now)
+    on_ok_begun c.take_begun.result c.args.heading.now c.args.due (packet_model c.args.packet.now) c.args.header.now c.args.content.now (scene c.args.own.now c.args.other.now c.args.page.now)
     (scene c.begin.new.own c.args.other.now c.begin.new.page) (scene c.take_begun.new.own c.take_begun.new.other c.take_begun.new.page)
     c.requires (c.in_ok-begin.ensures.scene c.args.other.now) c.take_begun.ensures.scene
