@@ -1,8 +1,9 @@
 -- The items that are kept lie in the order of their numbers.
-use Rattle.std.proofs.Common.{◌≡◌, ◌∙◌, ap, sym, refl, subst, arith, ℕ, suc, ◌+◌, ◌<◌, ◌≤◌, ◌==◌, Bool, true, false, cond, List, [], ◌∷◌, Option, Some, None}
+use Rattle.std.proofs.Common.{◌≡◌, ◌∙◌, ap, sym, refl, subst, arith, ℕ, suc, ◌+◌, ◌<◌, ◌≤◌, ◌==◌, Bool, true, false, cond, List, [], ◌∷◌, length, get_or, Option, Some, None}
 use Rattle.std.specs.Prelude.{nat_lt, ◌||◌, slice_get}
 use Rattle.std.specs.List.{list_any}
 use Rattle.std.proofs.lemmas.Bool.Decides.{nat_tests}
+use Rattle.std.proofs.lemmas.Option.{slice_get_past, slice_get_read}
 use Rattle.xns_calls.specs.declared.carried.Carried.{Carried}
 use Rattle.xns_calls.specs.declared.early.Early.{Early}
 use Rattle.xns_calls.specs.Queue.{AreOrdered, below, kept}
@@ -59,21 +60,35 @@ first_or_none : (p q : Bool) → (p ≡ false → q ≡ false) → (p || q) ≡ 
 first_or_none true q none = refl
 first_or_none false q none = none refl
 
+has_first : (m : ℕ) (e : Early) (rest : List Early) (p : Bool) → AreOrdered e.number rest → nat_lt e.number m ≡ p
+    → list_any (λ early. early.number == m) rest ≡ is_number m (slice_get rest (below m rest))
+    → (e.number == m || list_any (λ early. early.number == m) rest) ≡ is_number m (slice_get (e ∷ rest) (cond p (1 + below m rest) 0))
+has_first m e rest true ordered less has_rest =
+    let one : 1 + below m rest ≡ suc (below m rest) = omega arith in
+    ap (λ p. p || list_any (λ early. early.number == m) rest) (not_equal_less e.number m (lt_tells e.number m less))
+    ∙ has_rest
+    ∙ ap (λ i. is_number m (slice_get (e ∷ rest) i)) (sym one)
+has_first m e rest false ordered more has_rest =
+    first_or_none (e.number == m) (list_any (λ early. early.number == m) rest)
+    (λ other. none_has e.number m rest ordered (above e.number m (le_tells e.number m more) other))
+
 has_in : (n m : ℕ) (es : List Early) → AreOrdered n es → list_any (λ early. early.number == m) es ≡ is_number m (slice_get es (below m es))
 has_in n m [] ordered = refl
-has_in n m (e ∷ rest) ordered = by_order (nat_lt e.number m) refl
-  where
-    by_order : (p : Bool) → nat_lt e.number m ≡ p
-        → (e.number == m || list_any (λ early. early.number == m) rest) ≡ is_number m (slice_get (e ∷ rest) (cond p (1 + below m rest) 0))
-    by_order true less =
-        let one : 1 + below m rest ≡ suc (below m rest) = omega arith in
-        ap (λ p. p || list_any (λ early. early.number == m) rest) (not_equal_less e.number m (lt_tells e.number m less))
-        ∙ has_in e.number m rest ordered.1
-        ∙ ap (λ i. is_number m (slice_get (e ∷ rest) i)) (sym one)
-    by_order false more =
-        first_or_none (e.number == m) (list_any (λ early. early.number == m) rest)
-        (λ other. none_has e.number m rest ordered.1 (above e.number m (le_tells e.number m more) other))
+has_in n m (e ∷ rest) ordered = has_first m e rest (nat_lt e.number m) ordered.1 refl (has_in e.number m rest ordered.1)
 
 -- the first whose number is not below it has it, or none does
-pub has_at : (m : ℕ) (es : List Early) → AreOrdered 0 es → list_any (λ early. early.number == m) es ≡ is_number m (slice_get es (below m es))
-has_at m es ordered = has_in 0 m es ordered
+has_at : (m i : ℕ) (es now : List Early) (found : Option Early) → AreOrdered 0 es → es ≡ now → i ≡ below m now → slice_get es i ≡ found
+    → is_number m found ≡ list_any (λ early. early.number == m) now
+has_at m i es now found ordered same place at =
+    let here : slice_get now (below m now) ≡ found = subst (λ k. slice_get now k ≡ found) place (subst (λ (l : List Early). slice_get l i ≡ found) same at) in
+    sym (ap (is_number m) here) ∙ sym (has_in 0 m now (subst (AreOrdered 0) same ordered))
+
+-- an item stands where the numbers below it end
+pub has_some : (m i n : ℕ) (e : Early) (es now : List Early) → AreOrdered 0 es → es ≡ now → i ≡ below m now → i < length es → e ≡ get_or es i e → n ≡ e.number
+    → (n == m) ≡ list_any (λ early. early.number == m) now
+has_some m i n e es now ordered same place lt read number =
+    ap (λ k. k == m) number ∙ has_at m i es now (Some e) ordered same place (slice_get_read es (length es) i e refl lt read)
+
+-- all numbers are below it
+pub has_none : (m i : ℕ) (es now : List Early) → AreOrdered 0 es → es ≡ now → i ≡ below m now → length es ≤ i → false ≡ list_any (λ early. early.number == m) now
+has_none m i es now ordered same place le = has_at m i es now None ordered same place (slice_get_past es i le)
