@@ -3,7 +3,7 @@
  *     endpoints ITEMS [packets]
  *
  * sends so many items each way, looks at each that arrives, and says ok. With the second word it writes each packet that was
- * sent as a line of hex in its place. A call that is refused memory is made again.
+ * sent as a line of hex in its place. A function that is refused memory is called again.
  *
  * Each side says what docs/ENDPOINT.md, "When to say what", has it say: it replies once to what came together and tells the room of what
  * it took; at a timeout it sends its first item again, and the next one at once while more is acknowledged; it asks an idle peer.
@@ -44,7 +44,7 @@ static bool is_lost(void) {
     return (seed >> 24) < 64;
 }
 
-/* Whether a call was done; one that was refused memory has changed nothing. */
+/* Whether a function did its work; one that was refused memory has changed nothing. */
 static bool is_done(uint32_t result) {
     CHECK(result == XNS_OK || result == XNS_NO_MEMORY);
     refused += result == XNS_NO_MEMORY;
@@ -153,7 +153,7 @@ static void go_on(struct side *side) {
     CHECK(side->quiet < GONE);
 }
 
-/* Makes the endpoint that answers, where an opening packet has come. */
+/* Makes the responder, where an opening packet has come. */
 static void answer_opening(struct side *side, const struct xns_address *own) {
     struct xns_address peer;
     uint16_t peer_id;

@@ -49,7 +49,7 @@ static inline uint16_t random_socket(void) {
     return (uint16_t)(LINK_LEAST_SOCKET + number % LINK_SOCKETS);
 }
 
-/* Ends the program where a call was not done. */
+/* Ends the program where a function returned another result than that it was done. */
 static inline void check(enum xns_result told) {
     if (told == XNS_OK) return;
     fprintf(stderr, "%s\n", xns_result_text(told));

@@ -30,7 +30,7 @@ static void ask(struct link *link, struct asked *asked) {
     asked->sent++;
 }
 
-/* Whether nothing more is waited for: of all hosts any may still answer. */
+/* Whether nothing more is waited for: of all hosts any may still reply. */
 static bool is_done(const struct asked *asked, unsigned wanted, uint64_t next) {
     static const uint8_t all[6] = { 255, 255, 255, 255, 255, 255 };
     if (asked->sent < wanted) return false;

@@ -1,6 +1,6 @@
 """Servers and clients of Xerox's Courier, and the packets of the Xerox Network Systems.
 
-A server is one call. This one returns what it is given:
+A server is one function. This one returns to each call the words that it has:
 
     with socket.socket(socket.AF_INET, socket.SOCK_DGRAM) as udp:
         udp.bind(("127.0.0.1", 4000))
@@ -28,20 +28,20 @@ another loop there is `Host`, for what is no call of Courier's `Endpoint`, for t
 `Reader` and `Writer`, and for packets `decode`, `encode` and others.
 
 Bytes go in and come out as `bytes`, words as lists of numbers below 65,536. Each error of the
-module is an `XnsError`: where the library answers another result than that it was done, the one of
+module is an `XnsError`: where the library returns another result than that it was done, the one of
 its name is raised, as `TooLongError`. A value of another type is a `TypeError`, and a number that
 is too large a `ValueError`, with the name of the argument. That there is nothing of what was asked
-for is no error: such a call returns None.
+for is no error: the function then returns None.
 
-The module calls the shared library `libxns.so`: the one that the environment's XNS_LIBRARY names,
+The module uses the shared library `libxns.so`: the one that the environment's XNS_LIBRARY names,
 else the one that `install.sh` installed with this module, else the one that the system finds. What
 the library does is proved; this module is not. It needs Python 3.8 or later and nothing else.
-docs/PYTHON.md has more on it; docs/C.md says when a program makes each call, and docs/C-REFERENCE.md which
-there are.
+docs/PYTHON.md has more on it; docs/C.md says when a program calls which function, and
+docs/C-REFERENCE.md which functions there are.
 
-An object is used by the thread that made it alone; `Server.stop` can be called by any. It gives its
-memory back when it is freed, by `free` or at the end of a `with`, or when Python lets it go in that
-thread; the memory of one that is let go in another thread stays taken."""
+An object is used by the thread that made it alone; `Server.stop` can be called by any. An object
+gives its memory back when it is freed, by `free` or at the end of a `with`, or when Python lets it
+go in that thread; the memory of one that is let go in another thread stays taken."""
 import importlib
 from typing import Any, List
 

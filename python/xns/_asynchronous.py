@@ -30,7 +30,7 @@ class _Pump:
         self._is_stopped = False
 
     def turn(self) -> None:
-        """What is to be done after each call of the host: events, packets, and when to come again."""
+        """What is to be done after each function of the host: events, packets, and when to come again."""
         if self._is_stopped:
             return
         self._turned()

@@ -33,13 +33,13 @@ class Conversation:
     def open(self) -> None:
         """Opens a connection: the next one, where there was another."""
         self.closed: Optional[Closed] = None
-        self.is_answered = False  # whether the server has answered the opening
+        self.is_answered = False  # whether the server has confirmed the connection
         self._acted = milliseconds()
         self._number = self.station.connect(self._place, self._own, self._peer)
 
     @property
     def rested(self) -> int:
-        """How many milliseconds nothing was done here: a server that asked meanwhile was not answered."""
+        """How many milliseconds nothing was done here: a server that asked for a word meanwhile got no reply."""
         return milliseconds() - self._acted
 
     def fetch(self) -> Optional[Event]:
@@ -67,7 +67,7 @@ class Conversation:
         return None
 
     def put_out(self, program: int, version: int, procedure: int, words: Iterable[int]) -> bool:
-        """Puts out a call; false where the answer to the call before is to be fetched first. Why a closed connection takes none, its event says."""
+        """Puts out a call; false where the answer to the call before is to be fetched first. The event of a closed connection says why it takes none."""
         if self.closed is None:
             try:
                 self.station.host.call(self.station.time(), self._number, program, version, procedure, words)
@@ -91,7 +91,7 @@ class Conversation:
             self.closed = Closed(self._number, Why.ASKED, None)
 
     def check(self) -> None:
-        """Raises why the connection is closed, where no side asked for it."""
+        """Raises the reason why the connection is closed, where no side asked for it."""
         closed = self.closed
         if closed is None:
             return
@@ -103,7 +103,7 @@ class Conversation:
             raise BY_RESULT[closed.fault](TEXTS[closed.fault])
 
     def answer(self, event: Event) -> Answer:
-        """The event, which is an answer. Raises why there is none."""
+        """The event, which is an answer. Raises the reason why there is none."""
         if isinstance(event, Answer):
             return event
         self.check()
@@ -146,7 +146,7 @@ class Client:
             self._station.send()
 
     def connect(self, timeout: Optional[float] = None) -> None:
-        """Waits until the server has answered the opening of the connection. Errors as for a call."""
+        """Waits until the server has confirmed the connection. Errors as for a call."""
         with self._in_time(timeout, "the server did not open the connection") as until:
             while not self._conversation.is_answered and self._conversation.closed is None:
                 self._turn(until)
@@ -231,7 +231,7 @@ class Client:
                 return event
 
     def _turn(self, until: Optional[int]) -> Optional[Event]:
-        """The next event, where there is one; else it waits, and takes in what came, unless it was told just now that the connection is open."""
+        """The next event, where there is one; else it waits, and takes in what came, unless an event said just now that the connection is open."""
         was_answered = self._conversation.is_answered
         event = self._conversation.fetch()
         if event is None and self._conversation.is_answered == was_answered:

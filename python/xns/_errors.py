@@ -56,7 +56,7 @@ CLOSED_TEXTS = {
 
 
 class XnsError(Exception):
-    """Each error of this module is one. `result`: what the library answered, None where it was not asked."""
+    """Each error of this module is one. `result`: what the library returned, None where it was not asked."""
 
     result: Optional[Result] = None
 
@@ -70,7 +70,7 @@ class ArgumentsError(XnsError):
 
 
 class SilentError(XnsError, TimeoutError):
-    """The server does not answer, or not in the time that was given. The connection is closed."""
+    """The server is silent, or has not answered in the time that was given. The connection is closed."""
 
 
 class NotServedError(XnsError, ConnectionRefusedError):

@@ -1,4 +1,4 @@
-"""The shared library: its structs, its calls, and how what Python gives becomes what they take."""
+"""The shared library: its structs, its functions, and how what Python gives becomes what they take."""
 import array
 import ctypes
 import ctypes.util
@@ -143,7 +143,7 @@ class RawVersion(ctypes.Structure):
 
 
 
-# ---- its calls
+# ---- its functions
 
 _BYTES, _HANDLE, _STRUCT, _BUFFER, _WORDS, _LENGTH = ctypes.c_char_p, *[c_void_p] * 5  # the module makes what the pointers lead to
 CALLS = {
@@ -256,7 +256,7 @@ def _installed() -> Optional[str]:
 
 
 def _load() -> dict:
-    """The calls of the library by their names, without the xns_ in front."""
+    """The functions of the library by their names, without the xns_ in front."""
     named = os.environ.get("XNS_LIBRARY")
     path = named or _installed() or ctypes.util.find_library("xns") or "libxns.so"
     try:
@@ -276,7 +276,7 @@ FUNCTIONS = _load()
 
 
 def ask(name: str, *arguments):
-    """What the library answers to a call."""
+    """What the function of this name returns."""
     return FUNCTIONS[name](*arguments)
 
 
@@ -348,19 +348,19 @@ def words_of(words: Iterable[int], name: str = "words") -> Tuple[bytes, int]:
 
 
 def written(name: str, room: int, *arguments) -> Optional[bytes]:
-    """What a call writes into a buffer with that much room; None where there is nothing."""
+    """What a function writes into a buffer with that much room; None where there is nothing."""
     buffer, length = (c_uint8 * room)(), c_size_t()
     return ctypes.string_at(buffer, length.value) if done(ask(name, *arguments, buffer, room, byref(length))) else None
 
 
 def part(name: str, packet: bytes, *arguments) -> Optional[bytes]:
-    """What a call finds in a packet; None where there is nothing."""
+    """What a function finds in a packet; None where there is nothing."""
     at, length = c_size_t(), c_size_t()
     return packet[at.value : at.value + length.value] if done(ask(name, *arguments, packet, len(packet), byref(at), byref(length))) else None
 
 
 def message_of(name: str, room: int, *arguments) -> Optional[Message]:
-    """The message that a call gives, with room for so many words; None where there is nothing."""
+    """The message that a function returns, with room for so many words; None where there is nothing."""
     message, words, count = RawMessage(), (c_uint16 * room)(), c_size_t()
     if not done(ask(name, *arguments, byref(message), words, room, byref(count))):
         return None

@@ -101,7 +101,7 @@ class NetHub(_Link):
     packet comes from or goes to. A hub that is gone is a network that is down: a second later the link is made again."""
 
     AGAIN = 1.0  # seconds from one attempt to reach the hub to the next
-    REACHED = 2.0  # seconds in which the hub answers, or is gone
+    REACHED = 2.0  # seconds in which the hub replies, or is gone
 
     def __init__(self, host: str, port: int, station: Optional[bytes] = None) -> None:
         """`OSError` where the hub is not there. Without a station it is one of no maker's, at random."""

@@ -28,7 +28,7 @@ class Object:
         self._at = addressof(self._handle)
 
     def free(self) -> None:
-        """Gives the memory back. Each later call raises `NoEndpointError` or `NoHostError`, or answers as of none."""
+        """Gives the memory back. A method that is called later raises `NoEndpointError` or `NoHostError`, or returns what it has for none."""
         self._call("clear")
 
     def __enter__(self):
@@ -58,7 +58,7 @@ class Object:
 
 
 class Endpoint(Object):
-    """One end of a connection. It has no socket and no clock: packets that came go to `receive`, what the calls return is sent."""
+    """One end of a connection. It has no socket and no clock: packets that came go to `receive`, those that the methods return are sent."""
 
     _family = "endpoint"
 
@@ -73,7 +73,7 @@ class Endpoint(Object):
 
     @classmethod
     def responder(cls, own: Address, own_id: int, peer: Address, peer_id: int, window: int = 8, backlog: int = 16) -> "Endpoint":
-        """The end that answers the opening packet of `peer`, which is then given to `receive` too."""
+        """The end that replies to the opening packet of `peer`, which is then given to `receive` too."""
         end = cls()
         sizes = unsigned(window, 64, "window"), unsigned(backlog, 64, "backlog")
         ids = unsigned(own_id, 16, "own_id"), byref(RawAddress.of(peer, "peer")), unsigned(peer_id, 16, "peer_id")
@@ -165,7 +165,7 @@ class Endpoint(Object):
 
 class Host(Object):
     """Many Courier conversations behind one address, with time. It has no socket, no clock and no thread: packets that came go to `receive`, those of
-    `packets` are sent, and `events` tell what came. `now` is in milliseconds of any clock, never older than the one before, since timers would fire
+    `packets` are sent, and `events` returns what came of them. `now` is in milliseconds of any clock, never older than the one before, since timers would fire
     early. A `via` is a number of the program's: the packets of a connection go out by the one that it was opened by."""
 
     _family = "host"
@@ -194,16 +194,16 @@ class Host(Object):
         self._done("set_network", unsigned(network, 32, "network"))
 
     def serve(self, socket_number: int, programs: Iterable[Tuple[int, int, int]] = ()) -> None:
-        """From now on connections that peers open to this socket are answered, for these programs, each as (program, low, high); with none each call
-        is told. Calls of others are rejected without an event. `EchoSocketError` for socket 2, `NoVersionError` where a low version is above its
+        """From now on the host serves connections that peers open to this socket, for these programs, each as (program, low, high); with none each
+        call is an event. Calls of others are rejected without an event. `EchoSocketError` for socket 2, `NoVersionError` where a low version is above its
         high one, `TooManyServicesError` where 16 other sockets are served."""
         listed = [_program(one) for one in programs]
         self._done("serve", unsigned(socket_number, 16, "socket_number"), (RawProgram * max(1, len(listed)))(*listed), len(listed))
 
     def connect(self, now: int, via: int, socket_number: int, peer: Address) -> int:
-        """Opens a connection from this socket of ours to the peer, whose side calls; its number. By the setting `tells_opened` an `Opened` tells when
-        the peer is there, before all else of the connection. `EveryHostError` to or from the broadcast
-        host, `NoSocketError` to or from socket 0, `NoSlotError` where there is no room."""
+        """Opens a connection from this socket of ours to the peer, and returns its number. Our side calls. By the setting `tells_opened` an `Opened`
+        tells when the peer is there, before all other events of the connection. `EveryHostError` to or from the broadcast host, `NoSocketError` to
+        or from socket 0, `NoSlotError` where there is no room."""
         number = c_size_t()
         numbers = unsigned(now, 64, "now"), unsigned(via, 64, "via"), unsigned(socket_number, 16, "socket_number")
         self._done("connect", *numbers, byref(RawAddress.of(peer, "peer")), byref(number))
@@ -224,8 +224,8 @@ class Host(Object):
             raise NoCallError("no call waits for an answer")
 
     def close(self, now: int, number: int) -> None:
-        """Closes a connection once all that it has to say is said, which a `Closed` tells. The end is asked for right behind a call; its `Answer` still
-        comes, if the peer gives it before it agrees. A peer that lives and never agrees keeps the connection: `abandon` ends it. `NoConnectionError`."""
+        """Closes a connection once all that it has to say is said, which a `Closed` tells. The end is asked for right behind a call; its `Answer` is
+        still an event, if it comes before the peer agrees. A peer that lives and never agrees keeps the connection: `abandon` ends it. `NoConnectionError`."""
         self._done("close", unsigned(now, 64, "now"), unsigned(number, 64, "number"))
 
     def abandon(self, number: int) -> None:
@@ -248,13 +248,13 @@ class Host(Object):
         return self._done("receive", unsigned(now, 64, "now"), unsigned(via, 64, "via"), given, len(given))
 
     def events(self) -> Iterator[Event]:
-        """What there is to tell, each once."""
+        """The events that are there, each once."""
         next_event, given = self._functions["next_event"], self._for_events
         while done(next_event(*given)):
             yield self._event.told(self._words[: self._count.value])
 
     def packets(self, now: int) -> Iterator[Tuple[int, bytes]]:
-        """The packets that are to go out, each once, with its `via`; also what is due at this time is done."""
+        """The packets that are to go out, each once, with its `via`. What is due at this time is done too."""
         next_packet, given = self._functions["next_packet"], (self._at, unsigned(now, 64, "now"), *self._for_packets)
         while done(next_packet(*given)):
             yield self._via.value, ctypes.string_at(self._packet, self._length.value)
@@ -266,7 +266,7 @@ class Host(Object):
 
     @property
     def connections(self) -> int:
-        """How many connections there are, with those that are closed and still answer what comes again."""
+        """How many connections there are, with those that are closed and still reply to what comes again."""
         return self._call("connections")
 
     def peer(self, number: int) -> Address:

@@ -47,7 +47,7 @@ def encode(packet: Packet) -> bytes:
 
 
 def echo_reply(own: Address, data: bytes) -> Optional[bytes]:
-    """The packet that answers an Echo request to `own`; None where the bytes are no such request."""
+    """The reply to an Echo request that is to `own`; None where the bytes are no such request."""
     return written("echo_reply", LONGEST_PACKET, _address(own, "own"), *_sized(data, "data"))
 
 

@@ -49,7 +49,7 @@ class Ping:
             pass
 
     def _is_done(self) -> bool:
-        """Whether nothing more is waited for: the one host that was asked has answered each request."""
+        """Whether nothing more is waited for: the one host that was asked has replied to each request."""
         return self._target.host != BROADCAST and self._answered() == len(self._sent)
 
     def _answered(self) -> int:

@@ -145,5 +145,5 @@ def serve(
     servers of one program follow each other in their versions; else `serve` raises a ValueError. `other` is given each packet that is not the host's, as one
     of a packet exchange, with the place that it comes from.
 
-    It returns once the event `stop` is set; a `Server` can be stopped by a call. The connections are closed then, also where Ctrl-C ends it."""
+    It returns once the event `stop` is set; a `Server` can be stopped by its `stop`. The connections are closed then, also where Ctrl-C ends it."""
     Server(carrier, own, programs, answer, other, **settings).run(stop)

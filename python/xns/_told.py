@@ -10,7 +10,7 @@ MOST_MESSAGE_WORDS = 65534  # words of any message behind its head, at most
 
 
 class Result(enum.IntEnum):
-    """What the library answers."""
+    """What the library's functions return."""
 
     OK = 0
     NOTHING = 1
@@ -161,7 +161,7 @@ class Kind(enum.IntEnum):
 
 
 class Why(enum.IntEnum):
-    """Why a connection of a host is closed."""
+    """The reason why a connection of a host is closed."""
 
     ASKED = 1
     BY_PEER = 2
@@ -274,8 +274,8 @@ class _Opened(NamedTuple):
 
 
 class Opened(_Opened):
-    """The peer of the connection with this number, which `Host.connect` opened, has confirmed it. Told by the setting `tells_opened` alone: once, before all
-    else of the connection, or never."""
+    """The peer of the connection with this number, which `Host.connect` opened, has confirmed it. Returned by the setting `tells_opened` alone: once, before
+    all other events of the connection, or never."""
 
     tag = 0
 
@@ -314,8 +314,8 @@ class _Closed(NamedTuple):
 
 
 class Closed(_Closed):
-    """The connection with this number is closed, and nothing more comes of it. `fault` is what a peer was refused for, else None. As attributes alone:
-    `error`, the number of the Error packet that closed it, else None; `tag`."""
+    """The connection with this number is closed, and nothing more comes of it. `why` is the reason; `fault` is what a peer was refused for, else None. As
+    attributes alone: `error`, the number of the Error packet that closed it, else None; `tag`."""
 
     tag = 0
     error: Optional[int] = None

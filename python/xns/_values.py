@@ -7,7 +7,7 @@ from ._library import RawCursor, ask, flag, octets, unsigned, within, words_of, 
 
 
 class Reader:
-    """Reads values from words, one behind the other. A value that is not there raises an `ArgumentsError`, as does each call after it."""
+    """Reads values from words, one behind the other. A value that is not there raises an `ArgumentsError`, as does each method that is called after it."""
 
     def __init__(self, words: Iterable[int]):
         self._words, self._count = words_of(words)
