@@ -70,7 +70,7 @@ class ArgumentsError(XnsError):
 
 
 class SilentError(XnsError, TimeoutError):
-    """The server is silent, or has not answered in the time that was given. The connection is closed."""
+    """The server is silent, or what was waited for did not come in the time that was given. The connection is closed."""
 
 
 class NotServedError(XnsError, ConnectionRefusedError):

@@ -165,7 +165,7 @@ class Endpoint(Object):
 
 class Host(Object):
     """Many Courier conversations behind one address, with time. It has no socket, no clock and no thread: packets that came go to `receive`, those of
-    `packets` are sent, and `events` returns what came of them. `now` is in milliseconds of any clock, never older than the one before, since timers would fire
+    `packets` are sent, and `events` returns the events. `now` is in milliseconds of any clock, never older than the one before, since timers would fire
     early. A `via` is a number of the program's: the packets of a connection go out by the one that it was opened by."""
 
     _family = "host"
