@@ -59,8 +59,8 @@ to_listed programs (c ∷ cs) [] = []
 to_listed programs (c ∷ cs) (m ∷ answers) =
     if is_listed programs c then m ∷ to_listed programs cs answers else to_listed programs cs answers
 
--- there is a story of it, whose end came from a new one, and in which the program made these calls, was handed these messages, and gave
--- these answers to the listed calls
+-- the conversation has a story: its end came from a new one, the program made these calls in it, was handed these messages, and gave these
+-- answers to the listed calls
 pub record IsLived (programs : Option (List Program)) (start : State) (c : Conversation) (l : Deeds) : Type 0 where
   pub story : Story
   pub tells : Tells c story

@@ -183,8 +183,8 @@ impl Connection {
         packet
     }
 
-    /// Puts out a call. It is refused, and nothing is changed, as `Closing` where the connection closes or is closed; `PeerCalls`; `Busy`
-    /// where a call waits for its answer, or the answer was not fetched; `TooLong` over 65,530 words; `NoMemory`.
+    /// Puts out a call. An `Err`, which changes nothing, is `Closing` where the connection closes or is closed; `PeerCalls` where the peer
+    /// opened it; `Busy` where a call waits for its answer, or the answer was not fetched; `TooLong` over 65,530 words; or `NoMemory`.
     #[tactic(auto, using(crate::proofs::Moments::no_step))]
     pub fn call(&mut self, alloc: Global, now: u64, call: &Call<'_>) -> Result<(), Refusal>
         ensures refused { Answers (call_fault_of self.old.conversation (call_model call.now)) result }
@@ -203,8 +203,8 @@ impl Connection {
         Ok(())
     }
 
-    /// Answers the call that was handed. It is refused, and nothing is changed, as `Closing` where the connection closes or is closed;
-    /// `NoCall` where none was handed that is not answered; `TooLong` over 131,072 bytes; `NoMemory`.
+    /// Answers the call that was handed. An `Err`, which changes nothing, is `Closing` where the connection closes or is closed; `NoCall`
+    /// where none was handed that is not answered; `TooLong` over 131,072 bytes; or `NoMemory`.
     #[tactic(auto, using(crate::proofs::Moments::no_step))]
     pub fn answer(
         &mut self,

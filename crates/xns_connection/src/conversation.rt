@@ -307,7 +307,7 @@ impl Conversation {
         self.closing.reply_sent && self.closing.reply_heard && self.endpoint.unacknowledged() == 0
     }
 
-    /// Puts out a call. It is refused, and nothing is changed, as `Closing` where the conversation closes; `PeerCalls`; `Busy`; `TooLong`;
+    /// Puts out a call. An `Err`, which changes nothing, is `Closing` where the conversation closes; `PeerCalls`; `Busy`; `TooLong`; or
     /// `NoMemory`.
     pub fn call(&mut self, alloc: Global, call: &Call<'_>) -> Result<(), Refusal>
         ensures answer { Answers (call_fault_of self.old (call_model call.now)) result }
@@ -326,8 +326,8 @@ impl Conversation {
         self.side.call(alloc, call)
     }
 
-    /// Answers the call that was handed. It is refused, and nothing is changed, as `Closing` where the conversation closes; `NoCall`;
-    /// `TooLong`; `NoMemory`.
+    /// Answers the call that was handed. An `Err`, which changes nothing, is `Closing` where the conversation closes; `NoCall`; `TooLong`;
+    /// or `NoMemory`.
     pub fn answer(&mut self, alloc: Global, answer: Answer, words: &[u16]) -> Result<(), Refusal>
         ensures answer { Answers (answer_fault_of self.old answer words.now) result }
         ensures is { result ≡ Ok tt → self.new ≡ record self.old { side = side_answered self.old.side answer words.now } }

@@ -154,7 +154,8 @@ fn goes_again(
 }
 
 /// Records in the timer and in what the connection owes that a packet came. `more` says whether the packet acknowledges more, or opens the
-/// connection, and `left` whether an item is still not acknowledged. `reply` is the allocation number of a reply by which the peer lacks an item that is out; `None` of another packet.
+/// connection, and `left` whether an item is still not acknowledged. `reply` is the allocation number of a reply by which the peer lacks an
+/// item that is out; `None` of another packet.
 pub fn note(
     input: Input,
     more: bool,

@@ -24,7 +24,7 @@ use Rattle.xns_spp.specs.declared.role.Role.TheVariants.{Initiator, Responder}
 use Rattle.xns_spp.specs.declared.send_fault.SendFault.{SendFault}
 use Rattle.xns_connection.specs.Living.{GoesFrom}
 use Rattle.xns_host.specs.Register.{number_by, owner_in, peer_at, peer_cmp}
-use Rattle.xns_host.specs.Knowing.{Known, known_of}
+use Rattle.xns_host.specs.Knowing.{Known, id_of, known_of}
 use Rattle.xns_host.specs.Registered.{FitsEnd, IsRegistered, opener_at}
 use Rattle.xns_connection.specs.Story.{Runs, Story, with_handed, start, sends, takes, flushes, resends, tells}
 use Rattle.xns_connection.specs.Telling.{Goes, Hears, Tells}
@@ -93,33 +93,52 @@ received_end s bytes is = decided_end s (decided s bytes) is
 
 -- ---- the end of a connection
 
+-- the end of a connection has the identifier that it has in its history
+pub end_id : (g : Guest) (s : State) → StandsFor g.connection.conversation.endpoint s → s.ends.id ≡ id_of g
+end_id g s stands = ap (λ (e : Held). e.ends.id) (sym stands.holds)
+
+-- and the one that it has in its story
+pub told_id : (t : Conversation) (m : Story) → Tells t m → m.state.ends.id ≡ t.endpoint.ends.id
+told_id t m told = ap (λ (e : Held). e.ends.id) (sym told.stands.holds)
+
+-- the connection is another at most by what happened to it: it fits its end still, and has its identifier still
+pub record StillFits (g h : Guest) : Type 0 where
+  pub fits : FitsEnd h
+  pub id : id_of h ≡ id_of g
+
+-- so is the connection in this place
+abbrev pub StillFitsIn : Guest → Option Guest → Type 0
+StillFitsIn g None = ⊥
+StillFitsIn g (Some h) = StillFits g h
+
 -- a connection whose story went on fits its end still
 went : (g h : Guest) → known_of h ≡ known_of g → (e : FitsEnd g) → (m : Story) → Tells h.connection.conversation m → IsSameEnd e.story.state.ends m.state.ends
-    → FitsEnd h
+    → StillFits g h
 went g h same e m told end =
-    let id : h.id ≡ g.id = ap (λ (k : Known). k.id) same in
     let opener : h.opener ≡ g.opener = ap (λ (k : Known). k.opener) same in
     record {
-      story = m;
-      tells = told;
-      id = end.id ∙ e.id ∙ sym id;
-      opener = λ responds.
-          let was : e.story.state.ends.role ≡ Responder = sym end.role ∙ responds in
-          opener ∙ e.opener was ∙ ap (λ (x : Ends). Some (opener_at x)) (sym (end.opened was));
+      fits = record {
+        story = m;
+        tells = told;
+        opener = λ responds.
+            let was : e.story.state.ends.role ≡ Responder = sym end.role ∙ responds in
+            opener ∙ e.opener was ∙ ap (λ (x : Ends). Some (opener_at x)) (sym (end.opened was));
+      };
+      id = sym (end_id h m.state told.stands) ∙ end.id ∙ end_id g e.story.state e.tells.stands;
     }
 
 pub from_fits : (g h : Guest) (base : Story → Story) → ((s : Story) → (base s).state ≡ s.state) → known_of h ≡ known_of g
-    → GoesFrom g.connection.conversation h.connection.conversation base → FitsEnd g → FitsEnd h
+    → GoesFrom g.connection.conversation h.connection.conversation base → FitsEnd g → StillFits g h
 from_fits g h base still same goes e =
     let next = goes e.story e.tells in
     let ends : next.0.state.ends ≡ e.story.state.ends = run_ends next.2.path ∙ ap (λ (s : State). s.ends) (still e.story) in
     went g h same e next.0 next.1 (the_same e.story.state.ends next.0.state.ends ends)
 
-pub goes_fits : (g h : Guest) → known_of h ≡ known_of g → Goes g.connection.conversation h.connection.conversation → FitsEnd g → FitsEnd h
+pub goes_fits : (g h : Guest) → known_of h ≡ known_of g → Goes g.connection.conversation h.connection.conversation → FitsEnd g → StillFits g h
 goes_fits g h same goes fits = from_fits g h (λ s. s) (λ s. refl) same goes.on fits
 
 pub hears_fits : (g h : Guest) (bytes : List ℕ) → known_of h ≡ known_of g → Hears g.connection.conversation h.connection.conversation bytes
-    → FitsEnd g → FitsEnd h
+    → FitsEnd g → StillFits g h
 hears_fits g h bytes same hears e =
     let next = hears.on e.story e.tells in
     let here : IsSameEnd e.story.state.ends (after_receive e.story.state bytes).ends = received_end e.story.state bytes e.tells.stands.fits.ends in
@@ -127,7 +146,7 @@ hears_fits g h bytes same hears e =
     went g h same e next.0 next.1 (subst (λ (x : Ends). IsSameEnd e.story.state.ends x) (sym ends) here)
 
 -- a connection whose conversation is as it was fits its end still
-pub still_fits : (g h : Guest) → known_of h ≡ known_of g → h.connection.conversation ≡ g.connection.conversation → FitsEnd g → FitsEnd h
+pub still_fits : (g h : Guest) → known_of h ≡ known_of g → h.connection.conversation ≡ g.connection.conversation → FitsEnd g → StillFits g h
 still_fits g h same is e =
     went g h same e e.story (subst (λ (t : Conversation). Tells t e.story) (sym is) e.tells) (the_same e.story.state.ends e.story.state.ends refl)
 
@@ -139,12 +158,6 @@ handed_still (Answers a) m s = refl
 
 end_of : (g : Guest) (s : State) → (fits : FitsEnd g) → StandsFor g.connection.conversation.endpoint s → s.ends ≡ fits.story.state.ends
 end_of g s fits stands = ap (λ (e : Held). e.ends) (sym stands.holds ∙ fits.tells.stands.holds)
-
-end_named : (g : Guest) (s : State) → FitsEnd g → StandsFor g.connection.conversation.endpoint s → s.ends.id ≡ g.id
-end_named g s fits stands = ap (λ (e : Ends). e.id) (end_of g s fits stands) ∙ fits.id
-
-pub end_id : (g : Guest) (s : State) → ∥ FitsEnd g ∥₁ → StandsFor g.connection.conversation.endpoint s → s.ends.id ≡ g.id
-end_id g s fits stands = ∥∥₁_elim fits (Prim.hlevel props) (λ fit. end_named g s fit stands)
 
 and_both : (p q : Bool) → (p && q) ≡ true → (p ≡ true) × (q ≡ true)
 and_both true true is = (refl, refl)
@@ -169,12 +182,12 @@ same_opener e p target from =
       to = eqb-true p.target.socket e.own.socket to.1 i;
     }
 
-by_owner : (r : Register) (n : ℕ) (g : Guest) (e : Ends) (id : ℕ) → IsRegistered r n g → e.id ≡ g.id → (id == e.id) ≡ true
+by_owner : (r : Register) (n : ℕ) (g : Guest) (e : Ends) (id : ℕ) → IsRegistered r n g → e.id ≡ id_of g → (id == e.id) ≡ true
     → owner_in r.identifiers id ≡ Some n
 by_owner r n g e id is same meant = ap (λ (i : ℕ). owner_in r.identifiers i) (eqb-true id e.id meant ∙ same) ∙ is.own
 
 meant_by : (r : Register) (n : ℕ) (g : Guest) (e : Ends) (p : SppPacketModel) (role : Role) (b : Bool) → e.role ≡ role
-    → (p.header.target_id == 0) ≡ b → IsRegistered r n g → e.id ≡ g.id → (e.role ≡ Responder → g.opener ≡ Some (opener_at e))
+    → (p.header.target_id == 0) ≡ b → IsRegistered r n g → e.id ≡ id_of g → (e.role ≡ Responder → g.opener ≡ Some (opener_at e))
     → same_place p.target e.own ≡ true → is_meant role e p ≡ true
     → (if b then get peer_cmp r.peers (peer_at p.source p.header.source_id p.target.socket) else owner_in r.identifiers p.header.target_id) ≡ Some n
 meant_by r n g e p Responder true role zero is id opener target meant =
@@ -186,7 +199,7 @@ meant_by r n g e p Responder false role zero is id opener target meant =
 meant_by r n g e p Initiator true role zero is id opener target meant =
     let to = and_both (p.header.target_id == e.id) (if is_open e then from_peer e p else from_host e p) meant in
     let none : p.header.target_id ≡ 0 = eqb-true p.header.target_id 0 zero in
-    let same : p.header.target_id ≡ g.id = eqb-true p.header.target_id e.id to.0 ∙ id in
+    let same : p.header.target_id ≡ id_of g = eqb-true p.header.target_id e.id to.0 ∙ id in
     let known = is.known in
     absurd (omega (arith, none, same, known))
 meant_by r n g e p Initiator false role zero is id opener target meant =
@@ -199,7 +212,7 @@ leads_by : (r : Register) (n : ℕ) (g : Guest) (s : State) (p : SppPacketModel)
 leads_by r n g s p is fits stands ours =
     let same = end_of g s fits stands in
     let both = and_both (same_place p.target s.ends.own) (is_meant s.ends.role s.ends p) ours in
-    meant_by r n g s.ends p s.ends.role (p.header.target_id == 0) refl refl is (end_named g s fits stands)
+    meant_by r n g s.ends p s.ends.role (p.header.target_id == 0) refl refl is (end_id g s stands)
     (λ responds. fits.opener (sym (ap (λ (e : Ends). e.role) same) ∙ responds) ∙ ap (λ (e : Ends). Some (opener_at e)) (sym same)) both.0 both.1
 
 pub leads_to : (r : Register) (n : ℕ) (g : Guest) (s : State) (p : SppPacketModel) → IsRegistered r n g

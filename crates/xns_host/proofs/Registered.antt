@@ -8,7 +8,8 @@ use Rattle.std.specs.Option.{is_none}
 use Rattle.std.specs.Ordering.{is_eq, nat_cmp, ordering_then}
 use Rattle.std.specs.declared.cmp.Ordering.{Ordering}
 use Rattle.std.specs.declared.cmp.Ordering.TheVariants.{Less, Equal, Greater}
-use Rattle.std.proofs.Math.Logic.{∥∥₁_map}
+use Rattle.std.proofs.Math.Logic.{∥∥₁_elim, ∥∥₁_map}
+use Rattle.std.proofs.Props.{props}
 use Rattle.std.proofs.lemmas.List.{get_or-set_other, length-set}
 use Rattle.std.proofs.lemmas.List.Quantifiers.{position-Some}
 use Rattle.std.proofs.lemmas.Map.Lookups.{exact_bytes, exact_unsigned}
@@ -16,11 +17,12 @@ use Rattle.std.proofs.lemmas.Option.{get_or_from_slice_get, same_Some, slice_get
 use Rattle.xns_host.specs.Identifiers.{Gives, Ids, IsNext, StaysInOrder, TurnsOver, is_free}
 use Rattle.xns_host.specs.Register.{owner_in, peer_cmp}
 use Rattle.xns_host.specs.Hosting.{IsThere}
-use Rattle.xns_host.specs.Knowing.{Known, known_in, known_of}
-use Rattle.xns_host.specs.Registered.{FitsEnd, FitsEndIn, HasLeft, HasRegistered, IsAllRegistered, IsAnother, IsRegistered, IsUnregistered}
+use Rattle.xns_host.specs.Knowing.{Known, id_of, known_in, known_of}
+use Rattle.xns_host.specs.Registered.{FitsEnd, HasLeft, HasRegistered, IsAllRegistered, IsAnother, IsRegistered, IsUnregistered}
 use Rattle.xns_host.specs.declared.guest.Guest.{Guest}
 use Rattle.xns_host.specs.declared.peer.Peer.{Peer}
 use Rattle.xns_host.specs.declared.register.Register.{Register}
+use Rattle.xns_host.proofs.Ends.{StillFits, StillFitsIn}
 use Rattle.xns_host.proofs.Noting.{none_there, one_place, place_other, place_set, same_or_other}
 
 abbrev Places : Type 0
@@ -61,18 +63,21 @@ stays m n o p w u other = u.2 p (not_at o p (is_eq (peer_cmp o p)) refl other)
 
 -- ---- one that is there changes
 
-renamed : (r : Register) (n : ℕ) (g h : Guest) → known_of h ≡ known_of g → ∥ FitsEnd h ∥₁ → IsRegistered r n g → IsRegistered r n h
-renamed r n g h same fits is =
-    let id : h.id ≡ g.id = ap (λ (k : Known). k.id) same in
+same_id : (g h : Guest) → ∥ StillFits g h ∥₁ → id_of h ≡ id_of g
+same_id g h still = ∥∥₁_elim still (Prim.hlevel props) (λ s. s.id)
+
+renamed : (r : Register) (n : ℕ) (g h : Guest) → known_of h ≡ known_of g → ∥ StillFits g h ∥₁ → IsRegistered r n g → IsRegistered r n h
+renamed r n g h same still is =
+    let id : id_of h ≡ id_of g = same_id g h still in
     let opener : h.opener ≡ g.opener = ap (λ (k : Known). k.opener) same in
     record {
-      fits = fits;
+      fits = ∥∥₁_map still (λ s. s.fits);
       known = subst (λ (i : ℕ). 0 < i) (sym id) is.known;
       own = ap (λ (i : ℕ). owner_in r.identifiers i) id ∙ is.own;
       opener = λ o opened. is.opener o (sym opener ∙ opened);
     }
 
-renamed_in : (r : Register) (n : ℕ) (p : Option Guest) (h : Guest) → known_in (Some h) ≡ known_in p → ((g : Guest) → p ≡ Some g → FitsEnd g → FitsEnd h)
+renamed_in : (r : Register) (n : ℕ) (p : Option Guest) (h : Guest) → known_in (Some h) ≡ known_in p → ((g : Guest) → p ≡ Some g → FitsEnd g → StillFits g h)
     → ((g : Guest) → p ≡ Some g → IsRegistered r n g) → IsRegistered r n h
 renamed_in r n None h same fits is = absurd (cc)
 renamed_in r n (Some g) h same fits is =
@@ -80,44 +85,51 @@ renamed_in r n (Some g) h same fits is =
     let at = is g refl in
     renamed r n g h names (∥∥₁_map at.fits (fits g refl)) at
 
--- a connection whose names are as they were is there still
-still_in : (P : Known → Type 0) (old v : Option Guest) (g : Guest) → known_in v ≡ known_in old → old ≡ Some g → P (known_of g)
-    → IsThere (λ h. P (known_of h)) (Some v)
+-- a connection with the same names is in the place
+still_in : (P : Guest → Type 0) (old v : Option Guest) (g : Guest) → known_in v ≡ known_in old → old ≡ Some g → ((h : Guest) → v ≡ Some h → P h)
+    → IsThere P (Some v)
 still_in P old None g same is has = let both = same ∙ ap known_in is in absurd (cc)
-still_in P old (Some h) g same is has =
-    let both : Some (known_of h) ≡ Some (known_of g) = same ∙ ap known_in is in
-    let names : known_of h ≡ known_of g = same_Some (known_of h) (known_of g) both in
-    record { guest = h; there = refl; is = subst P (sym names) has }
+still_in P old (Some h) g same is has = record { guest = h; there = refl; is = has h refl }
 
-kept_there : (gs : Places) (n k : ℕ) (old v : Option Guest) (P : Known → Type 0) → known_in v ≡ known_in old → slice_get gs n ≡ Some old
-    → n < length gs → IsThere (λ h. P (known_of h)) (slice_get gs k) → (k ≡ n) ⊎ (k ≢ n)
-    → IsThere (λ h. P (known_of h)) (slice_get (slice_set gs n v) k)
-kept_there gs n k old v P same there less at (inl e) =
+kept_there : (gs : Places) (n k : ℕ) (old v : Option Guest) (P : Guest → Type 0) → known_in v ≡ known_in old
+    → ((g h : Guest) → old ≡ Some g → v ≡ Some h → P g → P h) → slice_get gs n ≡ Some old → n < length gs → IsThere P (slice_get gs k)
+    → (k ≡ n) ⊎ (k ≢ n) → IsThere P (slice_get (slice_set gs n v) k)
+kept_there gs n k old v P same keeps there less at (inl e) =
     let here : slice_get gs n ≡ Some (Some at.guest) = subst (λ (m : ℕ). slice_get gs m ≡ Some (Some at.guest)) e at.there in
     let was : old ≡ Some at.guest = one_place old (Some at.guest) (slice_get gs n) there here in
-    let new : IsThere (λ h. P (known_of h)) (Some v) = still_in P old v at.guest same was at.is in
-    subst (λ (p : Option (Option Guest)). IsThere (λ h. P (known_of h)) p)
-    (sym (ap (λ (m : ℕ). slice_get (slice_set gs n v) m) e ∙ place_set gs n v less)) new
-kept_there gs n k old v P same there less at (inr other) =
-    subst (λ (p : Option (Option Guest)). IsThere (λ h. P (known_of h)) p) (sym (place_other gs n k v other)) at
+    let new : IsThere P (Some v) = still_in P old v at.guest same was (λ h is. keeps at.guest h was is at.is) in
+    subst (λ (p : Option (Option Guest)). IsThere P p) (sym (ap (λ (m : ℕ). slice_get (slice_set gs n v) m) e ∙ place_set gs n v less)) new
+kept_there gs n k old v P same keeps there less at (inr other) =
+    subst (λ (p : Option (Option Guest)). IsThere P p) (sym (place_other gs n k v other)) at
 
 pub still_registered : (r : Register) (gs : Places) (n : ℕ) (old v : Option Guest) → IsAllRegistered r gs → known_in v ≡ known_in old
-    → ((g : Guest) → old ≡ Some g → FitsEnd g → FitsEndIn v) → old ≡ get_or gs n old → n < length gs → IsAllRegistered r (slice_set gs n v)
+    → ((g : Guest) → old ≡ Some g → FitsEnd g → StillFitsIn g v) → old ≡ get_or gs n old → n < length gs → IsAllRegistered r (slice_set gs n v)
 still_registered r gs n old v all same fits read less = record {
   each = λ k g is. by k g is (same_or_other k n);
-  ids = λ id k is. ∥∥₁_map (all.ids id k is) (λ at. kept_there gs n k old v (λ (m : Known). m.id ≡ id) same there less at (same_or_other k n));
+  ids = λ id k is. ∥∥₁_map (all.ids id k is) (λ at. kept_there gs n k old v (λ (g : Guest). id_of g ≡ id) same
+      (λ g h was has named. id_still g h was has ∙ named) there less at (same_or_other k n));
   peers = λ o k is. ∥∥₁_map (all.peers o k is)
-      (λ at. kept_there gs n k old v (λ (m : Known). m.opener ≡ Some o) same there less at (same_or_other k n));
+      (λ at. kept_there gs n k old v (λ (g : Guest). g.opener ≡ Some o) same
+      (λ g h was has opened. opener_still g h was has ∙ opened) there less at (same_or_other k n));
 } where
   there : slice_get gs n ≡ Some old
   there = slice_get_read gs (length gs) n old refl less read
+
+  id_still : (g h : Guest) → old ≡ Some g → v ≡ Some h → id_of h ≡ id_of g
+  id_still g h was has = same_id g h
+      (∥∥₁_map (all.each n g (there ∙ ap Some was)).fits (λ fit. subst (λ (p : Option Guest). StillFitsIn g p) has (fits g was fit)))
+
+  opener_still : (g h : Guest) → old ≡ Some g → v ≡ Some h → h.opener ≡ g.opener
+  opener_still g h was has =
+      let names : Some (known_of h) ≡ Some (known_of g) = sym (ap known_in has) ∙ same ∙ ap known_in was in
+      ap (λ (k : Known). k.opener) (same_Some (known_of h) (known_of g) names)
 
   by : (k : ℕ) (g : Guest) → slice_get (slice_set gs n v) k ≡ Some (Some g) → (k ≡ n) ⊎ (k ≢ n) → IsRegistered r k g
   by k g is (inl e) =
       let here : slice_get (slice_set gs n v) n ≡ Some (Some g) = subst (λ (m : ℕ). slice_get (slice_set gs n v) m ≡ Some (Some g)) e is in
       let one : v ≡ Some g = one_place v (Some g) (slice_get (slice_set gs n v) n) (place_set gs n v less) here in
       subst (λ (m : ℕ). IsRegistered r m g) (sym e)
-      (renamed_in r n old g (sym (ap known_in one) ∙ same) (λ h was fit. subst (λ (p : Option Guest). FitsEndIn p) one (fits h was fit))
+      (renamed_in r n old g (sym (ap known_in one) ∙ same) (λ h was fit. subst (λ (p : Option Guest). StillFitsIn h p) one (fits h was fit))
       (λ h was. all.each n h (there ∙ ap Some was)))
   by k g is (inr other) = all.each k g (sym (place_other gs n k v other) ∙ is)
 
@@ -137,10 +149,10 @@ another r n k g h apart left right = record {
 }
 
 -- where the identifier of a connection is released, another connection keeps its own
-left_own : (r s : Register) (g h : Guest) (n : ℕ) → s.identifiers ≡ record r.identifiers { owners = slice_set r.identifiers.owners g.id None }
-    → IsAnother g h → owner_in r.identifiers h.id ≡ Some n → owner_in s.identifiers h.id ≡ Some n
+left_own : (r s : Register) (g h : Guest) (n : ℕ) → s.identifiers ≡ record r.identifiers { owners = slice_set r.identifiers.owners (id_of g) None }
+    → IsAnother g h → owner_in r.identifiers (id_of h) ≡ Some n → owner_in s.identifiers (id_of h) ≡ Some n
 left_own r s g h n released other is =
-    ap (λ (ids : Ids). owner_in ids h.id) released ∙ get_or-set_other r.identifiers.owners g.id h.id None None other.own ∙ is
+    ap (λ (ids : Ids). owner_in ids (id_of h)) released ∙ get_or-set_other r.identifiers.owners (id_of g) (id_of h) None None other.own ∙ is
 
 -- where nobody has an identifier, it is nobody's
 cleared : (owners : List (Option ℕ)) (id : ℕ) → get_or (slice_set owners id None) id None ≡ None
@@ -148,25 +160,25 @@ cleared [] id = refl
 cleared (x ∷ xs) zero = refl
 cleared (x ∷ xs) (suc id) = cleared xs id
 
-gone_own : (r s : Register) (g h : Guest) → s.identifiers ≡ record r.identifiers { owners = slice_set r.identifiers.owners g.id None } → g ≡ h
-    → owner_in s.identifiers h.id ≡ None
+gone_own : (r s : Register) (g h : Guest) → s.identifiers ≡ record r.identifiers { owners = slice_set r.identifiers.owners (id_of g) None } → g ≡ h
+    → owner_in s.identifiers (id_of h) ≡ None
 gone_own r s g h released same =
-    ap (λ (ids : Ids). owner_in ids h.id) released ∙ ap (λ (x : Guest). get_or (slice_set r.identifiers.owners g.id None) x.id None) (sym same)
-    ∙ cleared r.identifiers.owners g.id
+    ap (λ (ids : Ids). owner_in ids (id_of h)) released ∙ ap (λ (x : Guest). get_or (slice_set r.identifiers.owners (id_of g) None) (id_of x) None) (sym same)
+    ∙ cleared r.identifiers.owners (id_of g)
 
 -- the one that was in the place is this
 same_guest : (place : Option (Option Guest)) (p : Option Guest) (g h : Guest) → place ≡ Some p → p ≡ Some g → place ≡ Some (Some h) → g ≡ h
 same_guest place p g h there is was = same_Some g h (sym is ∙ one_place p (Some h) place there was)
 
 -- an identifier that is in use then was in use
-left_ids : (r s : Register) (g : Guest) (id n : ℕ) → s.identifiers ≡ record r.identifiers { owners = slice_set r.identifiers.owners g.id None }
-    → owner_in s.identifiers id ≡ Some n → (id ≡ g.id) ⊎ (id ≢ g.id) → owner_in r.identifiers id ≡ Some n
+left_ids : (r s : Register) (g : Guest) (id n : ℕ) → s.identifiers ≡ record r.identifiers { owners = slice_set r.identifiers.owners (id_of g) None }
+    → owner_in s.identifiers id ≡ Some n → (id ≡ id_of g) ⊎ (id ≢ id_of g) → owner_in r.identifiers id ≡ Some n
 left_ids r s g id n released is (inl e) =
-    let none = sym (cleared r.identifiers.owners g.id) ∙ ap (λ (i : ℕ). get_or (slice_set r.identifiers.owners g.id None) i None) (sym e)
+    let none = sym (cleared r.identifiers.owners (id_of g)) ∙ ap (λ (i : ℕ). get_or (slice_set r.identifiers.owners (id_of g) None) i None) (sym e)
     ∙ sym (ap (λ (ids : Ids). owner_in ids id) released) ∙ is in
     absurd (cc)
 left_ids r s g id n released is (inr other) =
-    sym (get_or-set_other r.identifiers.owners g.id id None None other) ∙ sym (ap (λ (ids : Ids). owner_in ids id) released) ∙ is
+    sym (get_or-set_other r.identifiers.owners (id_of g) id None None other) ∙ sym (ap (λ (ids : Ids). owner_in ids id) released) ∙ is
 
 -- a peer that the register has once an opener left, it had before
 left_peers : (m n : BTreeMap Peer ℕ) (opener o : Peer) (k : ℕ) (b : Bool) → Updates peer_cmp m n opener None → is_eq (peer_cmp opener o) ≡ b
@@ -178,7 +190,7 @@ left_peers m n opener o k true u eq is =
 left_peers m n opener o k false u eq is = sym (u.2 o eq) ∙ is
 
 pub left : (r s : Register) (place : Option (Option Guest)) (p : Option Guest) (g : Guest) → place ≡ Some p → p ≡ Some g
-    → s.identifiers ≡ record r.identifiers { owners = slice_set r.identifiers.owners g.id None } → g.opener ≡ None → s.peers ≡ r.peers
+    → s.identifiers ≡ record r.identifiers { owners = slice_set r.identifiers.owners (id_of g) None } → g.opener ≡ None → s.peers ≡ r.peers
     → HasLeft r s place
 left r s place p g there is released none same = record {
   gone = λ h was.
@@ -187,7 +199,7 @@ left r s place p g there is released none same = record {
         own = gone_own r s g h released one;
         opener = λ o opened. let both = sym none ∙ ap (λ (x : Guest). x.opener) one ∙ opened in absurd (cc);
       };
-  ids = λ id n is. left_ids r s g id n released is (same_or_other id g.id);
+  ids = λ id n is. left_ids r s g id n released is (same_or_other id (id_of g));
   peers = λ o n is. sym (ap (λ (m : BTreeMap Peer ℕ). get peer_cmp m o) same) ∙ is;
   others = λ n h at other. record {
     fits = at.fits;
@@ -198,7 +210,7 @@ left r s place p g there is released none same = record {
 }
 
 pub left_opened : (r t s : Register) (place : Option (Option Guest)) (p : Option Guest) (g : Guest) (opener : Peer) → place ≡ Some p → p ≡ Some g
-    → t.identifiers ≡ record r.identifiers { owners = slice_set r.identifiers.owners g.id None } → t.peers ≡ r.peers → g.opener ≡ Some opener
+    → t.identifiers ≡ record r.identifiers { owners = slice_set r.identifiers.owners (id_of g) None } → t.peers ≡ r.peers → g.opener ≡ Some opener
     → s.identifiers ≡ t.identifiers → Updates peer_cmp t.peers s.peers opener None → HasLeft r s place
 left_opened r t s place p g opener there is released peers opened same u = record {
   gone = λ h was.
@@ -210,7 +222,7 @@ left_opened r t s place p g opener there is released peers opened same u = recor
             let who : opener ≡ o = same_Some opener o both in
             ap (λ (x : Peer). get peer_cmp s.peers x) (sym who) ∙ u.1;
       };
-  ids = λ id n at. left_ids r s g id n (same ∙ released) at (same_or_other id g.id);
+  ids = λ id n at. left_ids r s g id n (same ∙ released) at (same_or_other id (id_of g));
   peers = λ o n at. sym (ap (λ (m : BTreeMap Peer ℕ). get peer_cmp m o) peers)
       ∙ left_peers t.peers s.peers opener o n (is_eq (peer_cmp opener o)) u refl at;
   others = λ n h at other.
@@ -240,7 +252,7 @@ stays_there gs n k v P at not (inl e) =
     absurd (not at.guest (subst (λ (m : ℕ). slice_get gs m ≡ Some (Some at.guest)) e at.there) at.is)
 stays_there gs n k v P at not (inr other) = subst (λ (p : Option (Option Guest)). IsThere P p) (sym (place_other gs n k v other)) at
 
-not_id : (s : Register) (g : Guest) (id k : ℕ) → IsUnregistered s g → owner_in s.identifiers id ≡ Some k → g.id ≡ id → ⊥
+not_id : (s : Register) (g : Guest) (id k : ℕ) → IsUnregistered s g → owner_in s.identifiers id ≡ Some k → id_of g ≡ id → ⊥
 not_id s g id k gone is same = let none = sym gone.own ∙ ap (λ (i : ℕ). owner_in s.identifiers i) same ∙ is in absurd (cc)
 
 not_opener : (s : Register) (g : Guest) (o : Peer) (k : ℕ) → IsUnregistered s g → get peer_cmp s.peers o ≡ Some k → g.opener ≡ Some o → ⊥
@@ -250,7 +262,7 @@ pub forgotten : (r s : Register) (gs hs : Places) (n : ℕ) → IsAllRegistered 
     → HasLeft r s (slice_get gs n) → IsAllRegistered s hs
 forgotten r s gs hs n all less set has = subst (λ (xs : Places). IsAllRegistered s xs) (sym set) (record {
   each = λ k g is. by k g is (same_or_other k n);
-  ids = λ id k is. ∥∥₁_map (all.ids id k (has.ids id k is)) (λ at. stays_there gs n k None (λ g. g.id ≡ id) at
+  ids = λ id k is. ∥∥₁_map (all.ids id k (has.ids id k is)) (λ at. stays_there gs n k None (λ g. id_of g ≡ id) at
       (λ g there same. not_id s g id k (has.gone g there) is same) (same_or_other k n));
   peers = λ o k is. ∥∥₁_map (all.peers o k (has.peers o k is)) (λ at. stays_there gs n k None (λ g. g.opener ≡ Some o) at
       (λ g there opened. not_opener s g o k (has.gone g there) is opened) (same_or_other k n));
@@ -309,12 +321,12 @@ seated r s gs xs hs n g joined less has gone set = record {
   new_by : (k : ℕ) (P : Guest → Type 0) → P g → n ≡ k → IsThere P (slice_get hs k)
   new_by k P has_it e = record { guest = g; there = ap (λ (m : ℕ). slice_get hs m) (sym e) ∙ here; is = has_it }
 
-  id_by : (id k : ℕ) → owner_in s.identifiers id ≡ Some k → (g.id ≡ id) ⊎ ∥ IsThere (λ x. x.id ≡ id) (slice_get gs k) ∥₁
-      → (k ≡ n) ⊎ (k ≢ n) → ∥ IsThere (λ x. x.id ≡ id) (slice_get hs k) ∥₁
+  id_by : (id k : ℕ) → owner_in s.identifiers id ≡ Some k → (id_of g ≡ id) ⊎ ∥ IsThere (λ x. id_of x ≡ id) (slice_get gs k) ∥₁
+      → (k ≡ n) ⊎ (k ≢ n) → ∥ IsThere (λ x. id_of x ≡ id) (slice_get hs k) ∥₁
   id_by id k is (inl same) or =
-      ∣ new_by k (λ x. x.id ≡ id) same (same_Some n k (sym is_new.own ∙ ap (λ (i : ℕ). owner_in s.identifiers i) same ∙ is)) ∣₁
+      ∣ new_by k (λ x. id_of x ≡ id) same (same_Some n k (sym is_new.own ∙ ap (λ (i : ℕ). owner_in s.identifiers i) same ∙ is)) ∣₁
   id_by id k is (inr was) or =
-      ∥∥₁_map was (λ at. old_by k (λ x. x.id ≡ id) at (λ x there same. not_id s x id k (has.gone x there) is same) or)
+      ∥∥₁_map was (λ at. old_by k (λ x. id_of x ≡ id) at (λ x there same. not_id s x id k (has.gone x there) is same) or)
 
   peer_by : (o : Peer) (k : ℕ) → get peer_cmp s.peers o ≡ Some k → (g.opener ≡ Some o) ⊎ ∥ IsThere (λ x. x.opener ≡ Some o) (slice_get gs k) ∥₁
       → (k ≡ n) ⊎ (k ≢ n) → ∥ IsThere (λ x. x.opener ≡ Some o) (slice_get hs k) ∥₁
@@ -341,6 +353,10 @@ pub record HasJoined (old new : Register) (number id : ℕ) : Type 0 where
   pub free : owner_in old.identifiers id ≡ None
   pub others : (k : ℕ) → k ≢ id → owner_in new.identifiers k ≡ owner_in old.identifiers k
   pub peers : (o : Peer) (n : ℕ) → get peer_cmp old.peers o ≡ Some n → get peer_cmp new.peers o ≡ Some n
+
+-- what holds of an identifier holds of an equal one
+pub joined_as : {old new : Register} {number i j : ℕ} → i ≡ j → HasJoined old new number i → HasJoined old new number j
+joined_as {old} {new} {number} same has = subst (λ (k : ℕ). HasJoined old new number k) same has
 
 -- who opened one then is this opener, or had opened it
 abbrev pub OpenedBy : (old new : Register) → Option Peer → Type 0
@@ -409,7 +425,7 @@ pub opened_by_none : (r s : Register) → s.peers ≡ r.peers → OpenedBy r s N
 opened_by_none r s peers = λ o n is. inr (sym (ap (λ (m : BTreeMap Peer ℕ). get peer_cmp m o) peers) ∙ is)
 
 -- the one that is there already is another
-is_another : (r s : Register) (gs : Places) (number n : ℕ) (g h : Guest) → IsAllRegistered r gs → HasJoined r s number h.id
+is_another : (r s : Register) (gs : Places) (number n : ℕ) (g h : Guest) → IsAllRegistered r gs → HasJoined r s number (id_of h)
     → ((o : Peer) → h.opener ≡ Some o → get peer_cmp r.peers o ≡ None) → slice_get gs n ≡ Some (Some g) → IsAnother g h
 is_another r s gs number n g h all has unknown there =
     let is = all.each n g there in
@@ -418,13 +434,13 @@ is_another r s gs number n g h all has unknown there =
       opener = λ o opened was. let none = sym (unknown o was) ∙ is.opener o opened in absurd (cc);
     }
 
-pub all_joined : (r s : Register) (gs : Places) (number : ℕ) (h : Guest) → IsAllRegistered r gs → HasJoined r s number h.id
+pub all_joined : (r s : Register) (gs : Places) (number : ℕ) (h : Guest) → IsAllRegistered r gs → HasJoined r s number (id_of h)
     → ((o : Peer) → h.opener ≡ Some o → get peer_cmp r.peers o ≡ None) → OpenedBy r s h.opener → IsRegistered s number h
     → HasRegistered s gs number h
 all_joined r s gs number h all has unknown opened new = record {
   each = λ n g there. (after n g there, is_another r s gs number n g h all has unknown there);
   is = new;
-  ids = λ id n is. id_by id n is (same_or_other id h.id);
+  ids = λ id n is. id_by id n is (same_or_other id (id_of h));
   peers = λ o n is. peer_by o n (opened o n is);
 } where
   after : (n : ℕ) (g : Guest) → slice_get gs n ≡ Some (Some g) → IsRegistered s n g
@@ -433,11 +449,11 @@ all_joined r s gs number h all has unknown opened new = record {
       record {
         fits = is.fits;
         known = is.known;
-        own = has.others g.id (λ same. let none = sym has.free ∙ ap (λ (i : ℕ). owner_in r.identifiers i) (sym same) ∙ is.own in absurd (cc)) ∙ is.own;
+        own = has.others (id_of g) (λ same. let none = sym has.free ∙ ap (λ (i : ℕ). owner_in r.identifiers i) (sym same) ∙ is.own in absurd (cc)) ∙ is.own;
         opener = λ o opened. has.peers o n (is.opener o opened);
       }
 
-  id_by : (id n : ℕ) → owner_in s.identifiers id ≡ Some n → (id ≡ h.id) ⊎ (id ≢ h.id) → (h.id ≡ id) ⊎ ∥ IsThere (λ g. g.id ≡ id) (slice_get gs n) ∥₁
+  id_by : (id n : ℕ) → owner_in s.identifiers id ≡ Some n → (id ≡ id_of h) ⊎ (id ≢ id_of h) → (id_of h ≡ id) ⊎ ∥ IsThere (λ g. id_of g ≡ id) (slice_get gs n) ∥₁
   id_by id n is (inl e) = inl (sym e)
   id_by id n is (inr other) = inr (all.ids id n (sym (has.others id other) ∙ is))
 
@@ -454,7 +470,7 @@ unentered r t gs same unchanged all = record {
       record {
         fits = is.fits;
         known = is.known;
-        own = ap (λ (a : Ids). owner_in a g.id) same ∙ is.own;
+        own = ap (λ (a : Ids). owner_in a (id_of g)) same ∙ is.own;
         opener = λ o opened. ap (λ (es : List (Peer × ℕ)). lookup (is_at (peer_cmp o)) es) unchanged ∙ is.opener o opened;
       };
   ids = λ id n is. all.ids id n (sym (ap (λ (a : Ids). owner_in a id) same) ∙ is);

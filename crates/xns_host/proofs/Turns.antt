@@ -27,7 +27,7 @@ use Rattle.xns_host.specs.declared.outgoing.Outgoing.{Outgoing}
 use Rattle.xns_host.specs.declared.register.Register.{Register}
 use Rattle.xns_connection.specs.declared.side.Side.{Side}
 use Rattle.xns_connection.specs.declared.why.Why.{Why}
-use Rattle.xns_host.proofs.Ends.{from_fits, goes_fits, handed_still, hears_fits, still_fits}
+use Rattle.xns_host.proofs.Ends.{StillFits, from_fits, goes_fits, handed_still, hears_fits, still_fits}
 use Rattle.xns_host.proofs.Meant.{acts_so, given_so, handed_story, handing, handing_steps, heard_hears}
 use Rattle.xns_host.proofs.Noting.{kept_but, place_other, place_set, same_or_other}
 use Rattle.xns_host.proofs.Placed.{set_back, settled_apart, settled_gone, settled_kept}
@@ -39,10 +39,10 @@ Places = List (Option Guest)
 
 -- ---- a connection that went on
 
--- what a host knows of it is as it was, and its end has that still
+-- what a host knows of it is as it was, and its end has that still, with its identifier
 pub record Stays (g h : Guest) : Type 0 where
   pub known : known_of h ≡ known_of g
-  pub fits : FitsEnd g → FitsEnd h
+  pub fits : FitsEnd g → StillFits g h
 
 -- a deed of the program leaves the end as it was
 abbrev pub IsStill : Deed → Type 0
@@ -70,7 +70,7 @@ pub heard_stays : AStepKeepsItsPromises → (now : ℕ) (b : List ℕ) (confirmi
 heard_stays law now b confirming g h (hears is) =
     let known : known_of h ≡ known_of g = ap known_of is.same in
     record { known = known; fits = hears_fits g h b known (heard_hears law now b g.connection h.connection is.step) }
-heard_stays law now b confirming g h (lost stores) = record { known = refl; fits = λ e. e }
+heard_stays law now b confirming g h (lost stores) = record { known = refl; fits = λ e. record { fits = e; id = refl } }
 
 pub heard_undone : (now : ℕ) (b : List ℕ) (confirming : Bool) (g h : Guest) → GuestHears now b confirming g h → IsNotDone g.connection → IsNotDone h.connection
 heard_undone now b confirming g h (hears is) = step_undone now (heard b) g.connection h.connection is.step
@@ -104,7 +104,7 @@ gave_undone now r g h is =
 -- ---- one that told something
 
 told_fits : AMessageIsHandedAsByAStep → (now : ℕ) (g h : Guest) (o : Option Message) → waiting_message g.connection.conversation.side ≡ o → GuestTells now g h
-    → known_of h ≡ known_of g → FitsEnd g → FitsEnd h
+    → known_of h ≡ known_of g → FitsEnd g → StillFits g h
 told_fits law now g h (Some m) waits t known =
     from_fits g h (λ s. with_handed g.connection.conversation.side s m) (handed_still g.connection.conversation.side m) known
     (handed_story law now g.connection h.connection m waits (t.handed (λ none. cc)))
@@ -175,7 +175,7 @@ pub stays_registered : (r : Register) (gs : Places) (n : ℕ) (old : Option Gues
     → old ≡ get_or gs n old → IsAllRegistered r (slice_set gs n (Some h))
 stays_registered r gs n old g h all is stays less read =
     still_registered r gs n old (Some h) all (ap Some stays.known ∙ sym (ap known_in is))
-    (λ f was fit. let same : f ≡ g = cc in stays.fits (subst FitsEnd same fit)) read less
+    (λ f was fit. let same : f ≡ g = cc in subst (λ (x : Guest). StillFits x h) (sym same) (stays.fits (subst FitsEnd same fit))) read less
 
 pub stays_undone : (gs : Places) (n : ℕ) (old : Option Guest) (g h : Guest) → HasNoneDone gs → old ≡ Some g → (IsNotDone g.connection → IsNotDone h.connection)
     → n < length gs → old ≡ get_or gs n old → HasNoneDone (slice_set gs n (Some h))

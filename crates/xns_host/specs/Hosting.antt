@@ -15,6 +15,7 @@ use Rattle.xns_connection.specs.Connecting.{is_dead}
 use Rattle.xns_connection.specs.Deeds.{acted}
 use Rattle.xns_host.specs.Events.{event_in, is_newly_open}
 use Rattle.xns_host.specs.Identifiers.{Ids, IsNext, is_free}
+use Rattle.xns_host.specs.Knowing.{id_of}
 use Rattle.xns_host.specs.Quotes.{is_sent_by, quoted_packet}
 use Rattle.xns_host.specs.Register.{peer_at}
 use Rattle.xns_connection.specs.Step.{parts_of}
@@ -227,8 +228,8 @@ pub record IsConnected (guests : List (Option Guest)) (number : ℕ) (settings :
     : Type 0 where
   pub guest : Guest
   pub there : slice_get guests number ≡ Some (Some guest)
-  pub next : IsNext ids guest.id
-  pub tells : Tells guest.connection.conversation (new_story None (initiator_state own guest.id to settings.window settings.backlog))
+  pub next : IsNext ids (id_of guest)
+  pub tells : Tells guest.connection.conversation (new_story None (initiator_state own (id_of guest) to settings.window settings.backlog))
   pub made : IsMadeBy settings now true guest.connection
   pub via : guest.via ≡ way
   pub peer : guest.peer ≡ to
@@ -273,9 +274,9 @@ confirms p = not (p.header.target_id == 0)
 -- to be told that it is open, and it has no tag
 pub record IsAnswering (settings : Settings) (ids : Ids) (own opener : Address) (id way now : ℕ) (programs : List Program) (guest : Guest)
     : Type 0 where
-  pub next : IsNext ids guest.id
+  pub next : IsNext ids (id_of guest)
   pub tells : Tells guest.connection.conversation
-      (new_story (Some programs) (responder_state own guest.id opener id settings.window settings.backlog))
+      (new_story (Some programs) (responder_state own (id_of guest) opener id settings.window settings.backlog))
   pub made : IsMadeBy settings now false guest.connection
   pub via : guest.via ≡ way
   pub peer : guest.peer ≡ opener

@@ -34,8 +34,8 @@ pub record Names (w : Whole) (p : SppPacketModel) : Type 0 where
   pub named : named_in w.register p ≡ Some number
   pub there : IsThere (IsOf p) (slice_get w.places.guests number)
 
--- a packet to this host opens a connection, where there is room: it comes from one host, names no connection, its sender has an identifier,
--- and its socket is served
+-- a packet to this host opens a connection where there is room: its source is one host, its sender has an identifier, no connection is
+-- named by the packet, and the socket that it goes to is served
 pub record IsOpener (w : Whole) (p : SppPacketModel) : Type 0 where
   pub here : p.target.host ≡ w.host
   pub one_host : p.source.host ≢ broadcast

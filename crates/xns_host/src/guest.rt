@@ -4,6 +4,7 @@ ghost use Rattle.std.specs.Prelude.{◌≡◌, ◌≢◌, ◌<◌, ℕ, List, On
 ghost use Rattle.xns_agenda.specs.Waiting.{IsDueAfter, last_time};
 ghost use Rattle.xns_host.specs.Events.{event_for, is_newly_open};
 ghost use Rattle.xns_host.specs.Hosting.{IsNotDone, facts_of, lingers_since, may_go, stranger_since};
+ghost use Rattle.xns_host.specs.Knowing.{id_of};
 ghost use Rattle.xns_spp.specs.Ends.{is_ours_at};
 ghost use Rattle.xns_spp.specs.Held.{StandsFor};
 ghost use Rattle.xns_spp.specs.Packet.{IsSppPacket, spp_packet_of};
@@ -34,8 +35,6 @@ pub struct Guest {
     pub connection: Connection,
     /// The program's number for the route of its packets.
     pub via: u64,
-    /// Our own identifier of the connection.
-    pub id: u16,
     /// Whom we opened the connection to, or who opened it.
     pub peer: Address,
     /// Who opened the connection. `None`: we did.
@@ -51,6 +50,15 @@ pub struct Guest {
 }
 
 impl Guest {
+    /// Our own identifier of the connection.
+    #[inline(always)]
+    pub fn id(&self) -> u16
+        ensures { result ≡ id_of self.now }
+    {
+        let (_, id) = self.connection.own();
+        id
+    }
+
     /// Takes in a packet that was read from bytes, at this time, if the packet belongs to the connection; whether it does. The caller says
     /// whether the packet confirms the connection. Where memory is refused it is as if the packet were lost.
     pub fn receive(&mut self, alloc: Global, now: u64, confirms: bool, packet: &SppPacket) -> bool

@@ -35,8 +35,9 @@ use xns_connection::laws::a_step_keeps_its_promises;
 use xns_connection::{Call, Connection};
 use xns_idp::Address;
 
-/// Many Courier conversations behind one address. It is given packets and the time, and gives packets, calls, answers, and when it
-/// wants to be asked again. It has no socket, no clock and no thread of its own.
+/// Many Courier conversations behind one address. The program hands the host the packets that came, and the time. The host hands the
+/// program the packets that are to go out, the calls and the answers of peers, and the time at which it wants to be asked again. A host has
+/// no socket, no clock and no thread of its own.
 ///
 /// Times are in milliseconds of any clock. A host goes by the steps forward: one back counts as none, and one of more than a day as a day.
 #[derive(Drop)]
@@ -190,7 +191,6 @@ impl Host {
         let guest = Guest {
             connection,
             via,
-            id,
             peer,
             opener: None,
             confirmed: false,

@@ -123,7 +123,7 @@ pub fn forget_in(
     let Some(guest) = vacate(guests, agenda, number) else {
         return;
     };
-    register.release(guest.id);
+    register.release(guest.id());
     if let Some(opener) = &guest.opener {
         register.leave(opener);
     }

@@ -346,7 +346,6 @@ impl Host {
         let guest = Guest {
             connection,
             via,
-            id,
             peer,
             opener: Some(opener),
             confirmed: false,

@@ -1,14 +1,16 @@
-use Rattle.std.proofs.Common.{◌≡◌, inl, inr, arith, refl, rules, subst, ℕ, true, false, None}
+use Rattle.std.proofs.Common.{◌≡◌, ◌<◌, inl, inr, arith, refl, rules, subst, ℕ, true, false, None}
 use Rattle.xns_idp.specs.declared.address.Address.{Address}
 use Rattle.xns_spp.specs.State.{initiator_state}
 use Rattle.xns_agenda.specs.Agenda.{HasNoNumber}
 use Rattle.xns_host.specs.Hosting.{IsPlace, address_in}
+use Rattle.xns_host.specs.Identifiers.{IsNext}
 use Rattle.xns_host.specs.Settings.{IsMadeBy}
 use Rattle.xns_connection.specs.Story.{new_story}
 use Rattle.xns_connection.specs.Telling.{Tells}
 use Rattle.xns_host.proofs.OnTerms.{made_on, on_terms}
 use Rattle.xns_host.proofs.Waking.{all_in_use, gets_place, no_room, not_both}
-use Rattle.xns_host.proofs.Registered.{all_joined, joined, opened_by_none, turned_over}
+use Rattle.xns_host.proofs.Ends.{told_id}
+use Rattle.xns_host.proofs.Registered.{all_joined, joined, joined_as, opened_by_none, turned_over}
 use Rattle.xns_host.proofs.Undone.{came_not_done, not_done_new}
 use Rattle.xns_host.specs.Places.{places_with}
 use Rattle.xns_host.proofs.Placed.{taken_apart, taken_as, taken_there}
@@ -18,12 +20,14 @@ pub put_in-requires-clause-registered : goal.put_in-requires-clause-registered
 put_in-requires-clause-registered c =
     let has = joined c.args.self.now.register c.take.new.self _ c.in-Some-next.id c.take.result c.in-Some-next.ensures.next
     c.take.ensures.given c.take.ensures.some c.take.ensures.owner c.take.ensures.peers in
-    all_joined c.args.self.now.register c.take.new.self c.args.self.now.guests.items _ _ c.args.self.now.registered has (λ o opened. absurd (cc))
+    let id = told_id c.in-Ok.connection.conversation _ c.in-Ok.ensures.tells in
+    let named = joined_as id has in
+    all_joined c.args.self.now.register c.take.new.self c.args.self.now.guests.items _ _ c.args.self.now.registered named (λ o opened. absurd (cc))
     (opened_by_none c.args.self.now.register c.take.new.self c.take.ensures.peers)
     (record {
-      fits = ∣ record { story = _; tells = c.in-Ok.ensures.tells; id = refl; opener = λ responds. absurd (cc) } ∣₁;
-      known = c.in-Some-next.ensures.known;
-      own = has.own;
+      fits = ∣ record { story = _; tells = c.in-Ok.ensures.tells; opener = λ responds. absurd (cc) } ∣₁;
+      known = subst (λ (i : ℕ). 0 < i) id c.in-Some-next.ensures.known;
+      own = named.own;
       opener = λ o opened. absurd (cc);
     })
 
@@ -62,7 +66,6 @@ returns-clause-connects c = record {
     guest = record {
       connection = c.in-Ok.connection;
       via = c.args.via;
-      id = c.in-Some-next.id;
       peer = c.args.peer;
       opener = None;
       confirmed = false;
@@ -71,12 +74,16 @@ returns-clause-connects c = record {
       tag = 0;
     };
     there = taken_there c.args.self.now.guests.items c.put_in.new.guests.items c.args.self.now.agenda c.put_in.new.agenda c.in-Some-place.number _ c.put_in.ensures.places (omega (arith, c.in-Some-place.ensures.within, c.args.self.now.sized));
-    next = c.in-Some-next.ensures.next;
-    tells = on_terms c.args.self.now.settings c.terms-terms.result c.terms-terms.ensures (λ window backlog. Tells c.in-Ok.connection.conversation
+    next = subst (λ (i : ℕ). IsNext c.args.self.now.register.identifiers i) (told_id c.in-Ok.connection.conversation _ c.in-Ok.ensures.tells)
+        c.in-Some-next.ensures.next;
+    tells = subst (λ (i : ℕ). Tells c.in-Ok.connection.conversation (new_story None (initiator_state
+        (address_in c.args.self.now.network c.args.self.now.host c.args.socket) i c.args.peer c.args.self.now.settings.window c.args.self.now.settings.backlog)))
+        (told_id c.in-Ok.connection.conversation _ c.in-Ok.ensures.tells)
+        (on_terms c.args.self.now.settings c.terms-terms.result c.terms-terms.ensures (λ window backlog. Tells c.in-Ok.connection.conversation
         (new_story None (initiator_state (address_in c.args.self.now.network c.args.self.now.host c.args.socket) c.in-Some-next.id c.args.peer window backlog)))
         (subst (λ (own : Address). Tells c.in-Ok.connection.conversation
         (new_story None (initiator_state own c.in-Some-next.id c.args.peer c.terms-terms.result.window c.terms-terms.result.backlog)))
-        c.address-own.ensures c.in-Ok.ensures.tells);
+        c.address-own.ensures c.in-Ok.ensures.tells));
     made = subst (λ (t : ℕ). IsMadeBy c.args.self.now.settings t true c.in-Ok.connection) c.tell-now.ensures.result
         (made_on c.args.self.now.settings c.terms-terms.result c.terms-terms.ensures c.tell-now.result true c.in-Ok.connection c.in-Ok.ensures.made);
     via = refl;

@@ -1,5 +1,5 @@
 use Rattle.xns_host.proofs.Placed.{taken_apart, taken_there}
-use Rattle.std.proofs.Common.{◌≡◌, ◌∙◌, ap, arith, inl, inr, refl, rules, subst, sym, ℕ, None, Some, false}
+use Rattle.std.proofs.Common.{◌≡◌, ◌<◌, ◌∙◌, ap, arith, inl, inr, refl, rules, subst, sym, ℕ, None, Some, false}
 use Rattle.std.specs.BTreeMap.{BTreeMap, IsUnchanged, Updates, get}
 use Rattle.xns_idp.specs.declared.address.Address.{Address}
 use Rattle.xns_spp.specs.State.{responder_state}
@@ -14,7 +14,8 @@ use Rattle.xns_host.specs.Coming.{Seats}
 use Rattle.xns_host.specs.Places.{places_with}
 use Rattle.xns_host.specs.Turn.{whole_of}
 use Rattle.xns_host.proofs.Waking.{all_in_use, gets_place, no_room}
-use Rattle.xns_host.proofs.Registered.{all_joined, joined_opened, opened_by, turned_over, unentered}
+use Rattle.xns_host.proofs.Ends.{told_id}
+use Rattle.xns_host.proofs.Registered.{all_joined, joined_as, joined_opened, opened_by, turned_over, unentered}
 use Rattle.xns_host.proofs.Undone.{came_not_done, not_done_new}
 use Rattle.xns_host.specs.Identifiers.{Ids, IsNext, TurnsOver}
 use Rattle.xns_host.proofs.host.Host.open.Goals as goal
@@ -39,19 +40,20 @@ put_in-requires-clause-registered c =
     let has = joined_opened c.args.self.now.register c.enter.new.self c.take.new.self _ c.in-Some-next.id c.args.opener c.take.result
     c.enter.ensures.identifiers entered c.requires.unknown c.in-Some-next.ensures.next c.take.ensures.given c.take.ensures.some c.take.ensures.owner
     c.take.ensures.peers in
-    all_joined c.args.self.now.register c.take.new.self c.args.self.now.guests.items _ _ c.args.self.now.registered has
+    let id = told_id c.in-Ok.connection.conversation _ c.in-Ok.ensures.tells in
+    let named = joined_as id has in
+    all_joined c.args.self.now.register c.take.new.self c.args.self.now.guests.items _ _ c.args.self.now.registered named
     (λ o opened. let same : c.args.opener ≡ o = cc in ap (λ (p : Peer). get peer_cmp c.args.self.now.register.peers p) (sym same) ∙ c.requires.unknown)
     (opened_by c.args.self.now.register c.enter.new.self c.take.new.self c.in-Some.number c.args.opener entered c.take.ensures.peers)
     (record {
       fits = ∣ record {
         story = _;
         tells = c.in-Ok.ensures.tells;
-        id = refl;
         opener = λ responds. ap Some (c.requires.opener
             ∙ ap (λ (own : Address). peer_at c.args.peer c.args.peer_id own.socket) (sym c.address-own.ensures));
       } ∣₁;
-      known = c.in-Some-next.ensures.known;
-      own = has.own;
+      known = subst (λ (i : ℕ). 0 < i) id c.in-Some-next.ensures.known;
+      own = named.own;
       opener = λ o opened.
           let same : c.args.opener ≡ o = cc in
           ap (λ (m : BTreeMap Peer ℕ). get peer_cmp m o) c.take.ensures.peers ∙ ap (λ (p : Peer). get peer_cmp c.enter.new.self.peers p) (sym same)
@@ -76,7 +78,6 @@ returns-clause-opened c = λ n made.
       guest = record {
         connection = c.in-Ok.connection;
         via = c.args.via;
-        id = c.in-Some-next.id;
         peer = c.args.peer;
         opener = Some c.args.opener;
         confirmed = false;
@@ -87,13 +88,18 @@ returns-clause-opened c = λ n made.
       place = gets_place c.args.self.now.agenda c.args.self.now.guests.items c.args.self.now.noted c.place.ensures.room c.args.self.now.sized
           (c.place.ensures.some c.in-Some.number c.in-Some.is);
       answering = record {
-        next = c.in-Some-next.ensures.next;
-        tells = on_terms c.args.self.now.settings c.terms-terms.result c.terms-terms.ensures (λ window backlog. Tells c.in-Ok.connection.conversation
+        next = subst (λ (i : ℕ). IsNext c.args.self.now.register.identifiers i) (told_id c.in-Ok.connection.conversation _ c.in-Ok.ensures.tells)
+            c.in-Some-next.ensures.next;
+        tells = subst (λ (i : ℕ). Tells c.in-Ok.connection.conversation (new_story (Some c.args.programs.items) (responder_state
+            (address_in c.args.self.now.network c.args.self.now.host c.args.socket) i c.args.peer c.args.peer_id c.args.self.now.settings.window
+            c.args.self.now.settings.backlog)))
+            (told_id c.in-Ok.connection.conversation _ c.in-Ok.ensures.tells)
+            (on_terms c.args.self.now.settings c.terms-terms.result c.terms-terms.ensures (λ window backlog. Tells c.in-Ok.connection.conversation
             (new_story (Some c.args.programs.items) (responder_state (address_in c.args.self.now.network c.args.self.now.host c.args.socket)
             c.in-Some-next.id c.args.peer c.args.peer_id window backlog)))
             (subst (λ (own : Address). Tells c.in-Ok.connection.conversation (new_story (Some c.args.programs.items)
             (responder_state own c.in-Some-next.id c.args.peer c.args.peer_id c.terms-terms.result.window c.terms-terms.result.backlog)))
-            c.address-own.ensures c.in-Ok.ensures.tells);
+            c.address-own.ensures c.in-Ok.ensures.tells));
         made = made_on c.args.self.now.settings c.terms-terms.result c.terms-terms.ensures c.args.now false c.in-Ok.connection c.in-Ok.ensures.made;
         via = refl;
         peer = refl;

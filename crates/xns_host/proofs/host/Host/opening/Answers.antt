@@ -6,6 +6,7 @@ use Rattle.xns_spp.specs.Held.{StandsFor}
 use Rattle.xns_spp.specs.State.{State, responder_state}
 use Rattle.xns_host.specs.Coming.{Opens, Seats, opened}
 use Rattle.xns_host.specs.Hosting.{address_in}
+use Rattle.xns_host.specs.Knowing.{id_of}
 use Rattle.xns_host.specs.Services.{programs_at}
 use Rattle.xns_host.specs.Strays.{HasComplained, StrayQueue, lost_stray}
 use Rattle.xns_host.specs.Turn.{places_of, whole_of}
@@ -40,13 +41,13 @@ pub returns-clause-opens : goal.returns-clause-opens
 returns-clause-opens c = λ read yes.
     let made = c.open.ensures.opened c.in-Some-place.number (c.in-Ok-open.is ∙ ap Ok c.in-Some-place.is) in
     let end : ℕ → State
-    = λ socket. responder_state (address_in c.args.self.now.network c.args.self.now.host socket) made.guest.id c.in-Some.peer c.in-Some.peer_id
+    = λ socket. responder_state (address_in c.args.self.now.network c.args.self.now.host socket) (id_of made.guest) c.in-Some.peer c.in-Some.peer_id
     c.args.self.now.settings.window c.args.self.now.settings.backlog in
     let socket : c.packet.inside.target.socket ≡ c.args.packet.now.target.socket = search rules in
     let stands : StandsFor made.guest.connection.conversation.endpoint (end c.args.packet.now.target.socket)
     = subst (λ (n : ℕ). StandsFor made.guest.connection.conversation.endpoint (end n)) socket made.answering.tells.stands in
     let ours : is_ours_at (end c.args.packet.now.target.socket).ends c.args.packet.now ≡ true
-    = of_opened c.args.self.now.network c.args.self.now.host c.args.packet.now c.in-Some.peer c.in-Some.peer_id made.guest.id
+    = of_opened c.args.self.now.network c.args.self.now.host c.args.packet.now c.in-Some.peer c.in-Some.peer_id (id_of made.guest)
     c.args.self.now.settings.window c.args.self.now.settings.backlog c.requires.here (search rules) in
     let heard : c.hear.result ≡ true
     = is_true c.hear.result (λ no. let not = c.hear.ensures.foreign no made.guest (end c.args.packet.now.target.socket) made.there stands in absurd (cc)) in
