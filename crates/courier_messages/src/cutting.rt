@@ -1,5 +1,5 @@
 //! Messages on their way out.
-ghost use Rattle.std.specs.Prelude.{◌≡◌, ◌++◌, ◌∷◌, ◌≤◌, ◌+◌, ◌*◌, [], length, true, IfOk, OnOk, OnErr, Ok};
+ghost use Rattle.std.specs.Prelude.{◌≡◌, ◌++◌, ◌∷◌, ◌<◌, ◌≤◌, ◌+◌, ◌*◌, [], length, true, IfOk, OnOk, OnErr, Ok};
 ghost use Rattle.xns_spp.specs.Packet.{most_body};
 ghost use Rattle.courier_types.specs.Source.{bytes_of};
 ghost use Rattle.courier_messages.specs.Bounds.{bytes_in};
@@ -17,6 +17,19 @@ use xns_spp::{Bytes, Item, MOST_BODY};
 /// How many words the body of an item has at most.
 const WORDS_AN_ITEM: usize = MOST_BODY / 2;
 
+/// The item of a part of a message; `last`: of its last part.
+#[inline(always)]
+fn item_with(last: bool, body: Vec<u8>) -> Item
+    ensures { result ≡ message_item last body.items }
+{
+    Item {
+        stream: 0,
+        attention: false,
+        last,
+        body: Bytes::new(body),
+    }
+}
+
 #[tactic(auto, using(crate::proofs::Cuts::bytes_length))]
 #[inline(always)]
 fn make_item(alloc: Global, last: bool, words: &[u16]) -> Result<Item, AllocError>
@@ -25,12 +38,7 @@ fn make_item(alloc: Global, last: bool, words: &[u16]) -> Result<Item, AllocErro
 {
     let mut body = Vec::with_capacity(alloc, 2 * words.len())?;
     put_words(words, &mut body);
-    Ok(Item {
-        stream: 0,
-        attention: false,
-        last,
-        body: Bytes::new(body),
-    })
+    Ok(item_with(last, body))
 }
 
 /// The items that the words of a message go out in.
@@ -88,19 +96,14 @@ fn whole_bytes(alloc: Global, head: Head, words: &[u16]) -> Result<Vec<u8>, Allo
     Ok(bytes)
 }
 
-/// The item of a message with this head and these words, which one item holds.
+/// The item of a head and these words, which one item holds; `last`: of a whole message.
 #[inline(always)]
-fn whole_item(alloc: Global, head: Head, words: &[u16]) -> Result<Item, AllocError>
+fn head_item(alloc: Global, last: bool, head: Head, words: &[u16]) -> Result<Item, AllocError>
     requires { 2 * (head_size head + length words.now) ≤ most_body }
-    ensures { IfOk result (λ x. x ≡ message_item true (message_bytes (with_words head words.now))) }
+    ensures { IfOk result (λ x. x ≡ message_item last (message_bytes (with_words head words.now))) }
 {
     let body = whole_bytes(alloc, head, words)?;
-    Ok(Item {
-        stream: 0,
-        attention: false,
-        last: true,
-        body: Bytes::new(body),
-    })
+    Ok(item_with(last, body))
 }
 
 /// Puts the item of a message with this head and these words, which one item holds, behind those that are out. The only error is want of
@@ -116,7 +119,31 @@ pub fn put_whole(
     ensures ok { OnOk result (out.new.items ≡ out.old.items ++ cut_bytes (message_bytes (with_words head words.now))) }
     ensures err { OnErr result (out.new.items ≡ out.old.items) }
 {
-    let item = whole_item(alloc, head, words)?;
+    let item = head_item(alloc, true, head, words)?;
     out.push_back(item)?;
     Ok(())
+}
+
+/// Puts the items of a message with this head and these words, which one item does not hold, behind those that are out. The only error is
+/// want of memory, after which `out` holds what it held.
+pub fn put_long(
+    alloc: Global,
+    head: Head,
+    words: &[u16],
+    out: &mut VecDeque<Item>,
+) -> Result<(), AllocError>
+    requires { most_body < 2 * (head_size head + length words.now) }
+    ensures ok { OnOk result (out.new.items ≡ out.old.items ++ cut_bytes (message_bytes (with_words head words.now))) }
+    ensures err { OnErr result (out.new.items ≡ out.old.items) }
+{
+    let (front, rest) = words.split_at(WORDS_AN_ITEM - head.size());
+    let first = head_item(alloc, false, head, front)?;
+    out.push_back(first)?;
+    match put_out(alloc, rest, out) {
+        Ok(()) => Ok(()),
+        Err(refused) => {
+            let _first = out.pop_back();
+            Err(refused)
+        }
+    }
 }

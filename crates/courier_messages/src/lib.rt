@@ -18,7 +18,7 @@ mod whole_message;
 mod words;
 mod writing;
 
-pub use cutting::{cut, put_out, put_whole, versions};
+pub use cutting::{cut, put_long, put_out, put_whole, versions};
 pub use fault::{MessageFault, MessageRefusal, SessionFault};
 pub use head::Head;
 pub use incoming::{Incoming, VERSION};

@@ -7,7 +7,7 @@ ghost use Rattle.courier_messages.specs.Message.{message_words};
 ghost use Rattle.courier_messages.specs.Text.{item_of};
 ghost use Rattle.courier_messages.specs.declared.head.Head.TheVariants.{Call};
 
-use courier_messages::{Head, MOST_BYTES, put_out, put_whole};
+use courier_messages::{Head, MOST_BYTES, put_long, put_whole};
 use std::alloc::{AllocError, Global};
 use std::collections::VecDeque;
 use xns_spp::{Bytes, Item, MOST_BODY};
@@ -35,45 +35,6 @@ pub fn copied_item(alloc: Global, stream: u8, last: bool, body: &[u8]) -> Result
     })
 }
 
-/// The program, version and procedure that a call with this head names; each is 0 where the head is no call's.
-fn procedure_of(head: Head) -> (u32, u16, u16)
-    ensures { (transaction program version procedure : ℕ) → head ≡ Call transaction program version procedure
-        → result ≡ (program, version, procedure) }
-{
-    match head {
-        Head::Call {
-            program,
-            version,
-            procedure,
-            ..
-        } => (program, version, procedure),
-        _ => (0, 0, 0),
-    }
-}
-
-/// The words of a message with this head and these words.
-fn whole_words(alloc: Global, head: Head, words: &[u16]) -> Result<Vec<u16>, AllocError>
-    ensures { IfOk result (λ w. w.items ≡ message_words (with_words head words.now)) }
-{
-    let mut all = Vec::with_capacity(alloc, head.size() + words.len())?;
-    match head {
-        Head::Call { transaction, .. } => {
-            let (program, version, procedure) = procedure_of(head);
-            let high = (program / 65536) as u16;
-            let low = (program % 65536) as u16;
-            all.extend_from_slice(&[0, transaction, high, low, version, procedure])?;
-        }
-        Head::Reject {
-            transaction,
-            reason,
-        } => all.extend_from_slice(&[1, transaction, reason])?,
-        Head::Return { transaction } => all.extend_from_slice(&[2, transaction])?,
-        Head::Abort { transaction, error } => all.extend_from_slice(&[3, transaction, error])?,
-    }
-    all.extend_from_slice(words)?;
-    Ok(all)
-}
-
 /// Puts the items of a message with this head and these words behind those that are out. Where memory is refused, `out`
 /// holds what it held.
 pub fn put_message(
@@ -88,6 +49,5 @@ pub fn put_message(
     if head.size() + words.len() <= WORDS_AN_ITEM {
         return put_whole(alloc, head, words, out);
     }
-    let all = whole_words(alloc, head, words)?;
-    put_out(alloc, all.as_slice(), out)
+    put_long(alloc, head, words, out)
 }
