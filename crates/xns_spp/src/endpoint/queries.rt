@@ -18,7 +18,7 @@ impl Endpoint {
     ghost use Rattle.xns_spp.specs.Receiving.{is_ours};
     ghost use Rattle.xns_spp.specs.Sending.{is_full, take_answer, waiting_count};
     ghost use Rattle.xns_spp.specs.State.{State};
-    ghost use Rattle.xns_spp.specs.Telling.{is_out, own_name, peer_name, room_to_send, unacknowledged_count};
+    ghost use Rattle.xns_spp.specs.Telling.{is_out, out_count, own_name, peer_name, room_to_send, unacknowledged_count};
 
     /// Which end of the connection this is: the one that began it, or the one that was made from an opening packet.
     pub fn role(&self) -> Role
@@ -75,6 +75,13 @@ impl Endpoint {
         ensures { (s : State) → StandsFor self.now s → result ≡ unacknowledged_count s }
     {
         self.unacknowledged.len()
+    }
+
+    /// How many items went out that the peer has not acknowledged.
+    pub fn out_count(&self) -> u64
+        ensures { (s : State) → StandsFor self.now s → result ≡ out_count s }
+    {
+        self.numbers.sent - self.numbers.acknowledged
     }
 
     /// How many items wait to be handed up. Early items are not among them: others are missing before them.
