@@ -94,7 +94,7 @@ is_asked : {span : ℕ} {w : Waiting} {n : ℕ} {v : Waiting} → Asked span w n
 is_asked {span = span} {w = w} begins = asked_first span w
 is_asked {span = span} {w = w} {n = n} (steps {v = v} before wants now) =
     let b = is_asked before in
-    let same : after_step v false wants now ≡ v = ap (λ (d : Due). idling v d wants) b.due in
+    let same : after_step v None wants now ≡ v = ap (λ (d : Due). idling v d wants) b.due in
     subst (λ (u : Waiting). IsAsked span w n u) (sym same) b
 is_asked {span = span} {w = w} (sends {n = n} {v = v} before now is) =
     let b = asked_again span w v n now (is_asked before) is in

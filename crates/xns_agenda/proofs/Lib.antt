@@ -4,6 +4,7 @@ mod Beside
 mod Free
 mod Later
 mod Measures
+mod Mending
 mod Patience
 mod Putting
 mod Repeats

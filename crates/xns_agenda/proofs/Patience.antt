@@ -1,5 +1,5 @@
 -- A peer that says no word is waited for as long as the patience says.
-use Rattle.std.proofs.Common.{◌≡◌, ◌∙◌, ap, add-one, refl, sym, subst, ℕ, zero, suc, ◌+◌, ◌<◌, ◌≤◌, Bool, true, false, arith}
+use Rattle.std.proofs.Common.{Some, ◌≡◌, ◌∙◌, ap, add-one, refl, sym, subst, ℕ, zero, suc, ◌+◌, ◌<◌, ◌≤◌, Bool, true, false, arith}
 use Rattle.std.specs.Prelude.{nat_le, if◌then◌else◌}
 use Rattle.std.proofs.lemmas.Bool.{leb-true}
 use Rattle.xns_agenda.specs.Measuring.{borne, first_wait, most_borne, next_length, waits_time}
@@ -39,9 +39,9 @@ record Waited (start : ℕ) (w : Waiting) (n : ℕ) (v : Waiting) : Type 0 where
   pub due : v.due ≡ AgainAt until
   pub late : later start (waits_time w.pace (first_wait w.measure w.pace) (suc n)) ≤ until
 
-begun_at : (start : ℕ) (w : Waiting) → Waited start w 0 (timed w start)
+begun_at : (start : ℕ) (w : Waiting) (out : ℕ) → Waited start w 0 (timed w out start)
 unfolding length_after waits_time
-begun_at start w = record {
+begun_at start w out = record {
   pace = refl;
   measure = refl;
   misses = omega arith;
@@ -94,12 +94,24 @@ sent_again start w v n now before is =
           (later_on start (waits_time w.pace first (suc n)) before.until now v.length before.late more);
     })
 
+-- what is timed may begin while something waits
+waits_on : (start : ℕ) (w v : Waiting) (n out now : ℕ) (b : Waited start w n v) → Waited start w n (waiting_on v (AgainAt b.until) out now)
+waits_on start w v n out now b = record {
+  pace = b.pace;
+  measure = b.measure;
+  misses = b.misses;
+  length = b.length;
+  until = b.until;
+  due = b.due;
+  late = b.late;
+}
+
 waited : {start : ℕ} {w : Waiting} {n : ℕ} {v : Waiting} → Vain start w n v → Waited start w n v
-waited {start = start} {w = w} begins = begun_at start w
-waited {start = start} {w = w} {n = n} (steps {v = v} before wants now) =
+waited {start = start} {w = w} (begins out) = begun_at start w out
+waited {start = start} {w = w} {n = n} (steps {v = v} before out wants now) =
     let b = waited before in
-    let same : after_step v true wants now ≡ v = ap (λ (d : Due). waiting_on v d now) b.due in
-    subst (λ (u : Waiting). Waited start w n u) (sym same) b
+    let same : after_step v (Some out) wants now ≡ waiting_on v (AgainAt b.until) out now = ap (λ (d : Due). waiting_on v d out now) b.due in
+    subst (λ (u : Waiting). Waited start w n u) (sym same) (waits_on start w v n out now b)
 waited {start = start} {w = w} (sends {n = n} {v = v} before now is) =
     let b = sent_again start w v n now (waited before) is in
     subst (λ (a : Act). Waited start w (n + 1) (after_by v a now)) (sym is) b

@@ -1,5 +1,5 @@
 -- A silent peer is given up: each packet that goes out by the time alone is a miss.
-use Rattle.std.proofs.Common.{◌≡◌, ◌∙◌, refl, ℕ, ◌+◌, ◌<◌, ◌≤◌, Bool, true, false, arith}
+use Rattle.std.proofs.Common.{◌≡◌, ◌∙◌, refl, ℕ, ◌+◌, ◌<◌, ◌≤◌, Bool, true, false, Option, Some, None, arith}
 use Rattle.std.specs.Prelude.{nat_le, if◌then◌else◌}
 use Rattle.std.proofs.lemmas.Bool.{leb-false}
 use Rattle.xns_agenda.specs.Measuring.{borne as is_borne}
@@ -15,11 +15,11 @@ record Beside (w v : Waiting) (n : ℕ) : Type 0 where
 
 -- ---- a step is no miss
 
-waits : (w : Waiting) (d : Due) (now : ℕ) → Beside w (waiting_on w d now) 0
-waits w Never now = record { most = refl; misses = omega arith }
-waits w (AgainAt t) now = record { most = refl; misses = omega arith }
-waits w (AskAt t) now = record { most = refl; misses = omega arith }
-waits w (ForgetAt t) now = record { most = refl; misses = omega arith }
+waits : (w : Waiting) (d : Due) (out now : ℕ) → Beside w (waiting_on w d out now) 0
+waits w Never out now = record { most = refl; misses = omega arith }
+waits w (AgainAt t) out now = record { most = refl; misses = omega arith }
+waits w (AskAt t) out now = record { most = refl; misses = omega arith }
+waits w (ForgetAt t) out now = record { most = refl; misses = omega arith }
 
 idles : (w : Waiting) (d : Due) (wants : Bool) → Beside w (idling w d wants) 0
 idles w Never wants = record { most = refl; misses = omega arith }
@@ -27,9 +27,9 @@ idles w (AgainAt t) wants = record { most = refl; misses = omega arith }
 idles w (AskAt t) wants = record { most = refl; misses = omega arith }
 idles w (ForgetAt t) wants = record { most = refl; misses = omega arith }
 
-stepped : (w : Waiting) (b wants : Bool) (now : ℕ) → Beside w (after_step w b wants now) 0
-stepped w true wants now = waits w w.due now
-stepped w false wants now = idles w w.due wants
+stepped : (w : Waiting) (b : Option ℕ) (wants : Bool) (now : ℕ) → Beside w (after_step w b wants now) 0
+stepped w (Some out) wants now = waits w w.due out now
+stepped w None wants now = idles w w.due wants
 
 -- ---- a packet is one, and goes out only where fewer did than are borne
 

@@ -3,7 +3,7 @@ use Rattle.std.proofs.Common.{◌≡◌, ap, refl, ℕ, ◌+◌, ◌≤◌, Bool
 use Rattle.std.specs.Prelude.{◌==◌, not}
 use Rattle.xns_agenda.specs.Measuring.{is_vain}
 use Rattle.xns_agenda.specs.Replying.{counted, is_third}
-use Rattle.xns_agenda.specs.Waiting.{Lacks, here, steps, acts, hears, replies, Waiting, act_at, after_act, after_by, after_heard, after_step, after_word, idling, is_third_reply, third_by, waiting_on}
+use Rattle.xns_agenda.specs.Waiting.{Lacks, here, steps, acts, hears, replies, Waiting, act_at, after_act, after_by, after_heard, after_step, after_word, idling, is_third_reply, no_more, third_by, waiting_on}
 use Rattle.xns_agenda.specs.declared.act.Act.{Act}
 use Rattle.xns_agenda.specs.declared.act.Act.TheVariants.{Nothing, Again, Ask, GiveUp, Forget}
 use Rattle.xns_agenda.specs.declared.due.Due.{Due}
@@ -13,11 +13,11 @@ use Rattle.xns_agenda.proofs.Repeats.{first_of, second_of}
 
 -- ---- how many are counted
 
-waits_same : (v : Waiting) (d : Due) (now : ℕ) → (waiting_on v d now).replies ≡ v.replies
-waits_same v Never now = refl
-waits_same v (AgainAt t) now = refl
-waits_same v (AskAt t) now = refl
-waits_same v (ForgetAt t) now = refl
+waits_same : (v : Waiting) (d : Due) (out now : ℕ) → (waiting_on v d out now).replies ≡ v.replies
+waits_same v Never out now = refl
+waits_same v (AgainAt t) out now = refl
+waits_same v (AskAt t) out now = refl
+waits_same v (ForgetAt t) out now = refl
 
 idles_same : (v : Waiting) (d : Due) (wants : Bool) → (idling v d wants).replies ≡ v.replies
 idles_same v Never wants = refl
@@ -25,9 +25,9 @@ idles_same v (AgainAt t) wants = refl
 idles_same v (AskAt t) wants = refl
 idles_same v (ForgetAt t) wants = refl
 
-step_same : (v : Waiting) (waits wants : Bool) (now : ℕ) → (after_step v waits wants now).replies ≡ v.replies
-step_same v true wants now = waits_same v v.due now
-step_same v false wants now = idles_same v v.due wants
+step_same : (v : Waiting) (waiting : Option ℕ) (wants : Bool) (now : ℕ) → (after_step v waiting wants now).replies ≡ v.replies
+step_same v (Some out) wants now = waits_same v v.due out now
+step_same v None wants now = idles_same v v.due wants
 
 act_same : (v : Waiting) (a : Act) (now : ℕ) → (after_by v a now).replies ≡ v.replies
 act_same v Nothing now = refl
@@ -36,23 +36,23 @@ act_same v Ask now = refl
 act_same v GiveUp now = refl
 act_same v Forget now = refl
 
-heard_same : (v : Waiting) (d : Due) (again : Bool) (now : ℕ) → (after_heard v d false None again now).replies ≡ v.replies
-heard_same v Never again now = refl
-heard_same v (AgainAt t) true now = refl
-heard_same v (AgainAt t) false now = refl
-heard_same v (AskAt t) again now = refl
-heard_same v (ForgetAt t) again now = refl
+heard_same : (v : Waiting) (d : Due) (out : ℕ) (again : Bool) (now : ℕ) → (after_heard v d (no_more out) None again now).replies ≡ v.replies
+heard_same v Never out again now = refl
+heard_same v (AgainAt t) out true now = refl
+heard_same v (AgainAt t) out false now = refl
+heard_same v (AskAt t) out again now = refl
+heard_same v (ForgetAt t) out again now = refl
 
 one_more : (r : Replies) (allocation : ℕ) → (counted r allocation).count ≤ r.count + 1
 one_more r allocation = grind arith
 
-at_most : (v : Waiting) (d : Due) (allocation : ℕ) (again : Bool) (now : ℕ)
-    → (after_heard v d false (Some allocation) again now).replies.count ≤ v.replies.count + 1
-at_most v Never allocation again now = omega arith
-at_most v (AgainAt t) allocation true now = one_more v.replies allocation
-at_most v (AgainAt t) allocation false now = one_more v.replies allocation
-at_most v (AskAt t) allocation again now = omega arith
-at_most v (ForgetAt t) allocation again now = omega arith
+at_most : (v : Waiting) (d : Due) (out allocation : ℕ) (again : Bool) (now : ℕ)
+    → (after_heard v d (no_more out) (Some allocation) again now).replies.count ≤ v.replies.count + 1
+at_most v Never out allocation again now = omega arith
+at_most v (AgainAt t) out allocation true now = one_more v.replies allocation
+at_most v (AgainAt t) out allocation false now = one_more v.replies allocation
+at_most v (AskAt t) out allocation again now = omega arith
+at_most v (ForgetAt t) out allocation again now = omega arith
 
 -- ---- from one moment to another
 
@@ -61,12 +61,12 @@ still u v n same most = let is : u.replies.count ≡ v.replies.count = ap (λ (r
 
 counts : (w : Waiting) {n : ℕ} {v : Waiting} → w.replies.count ≡ 0 → Lacks w n v → v.replies.count ≤ n
 counts w none here = omega (arith, none)
-counts w none (steps {n = n} {v = v} before waits wants now) = still (after_step v waits wants now) v n (step_same v waits wants now) (counts w none before)
+counts w none (steps {n = n} {v = v} before waiting wants now) = still (after_step v waiting wants now) v n (step_same v waiting wants now) (counts w none before)
 counts w none (acts {n = n} {v = v} before now) = still (after_act v now) v n (act_same v (act_at v now) now) (counts w none before)
-counts w none (hears {n = n} {v = v} before again now) =
-    still (after_word v false None again now) v n (heard_same (record v { misses = 0; heard_at = now }) v.due again now) (counts w none before)
-counts w none (replies {n = n} {v = v} before allocation again now) =
-    let more = at_most (record v { misses = 0; heard_at = now }) v.due allocation again now in
+counts w none (hears {n = n} {v = v} before out again now) =
+    still (after_word v (no_more out) None again now) v n (heard_same (record v { misses = 0; heard_at = now }) v.due out again now) (counts w none before)
+counts w none (replies {n = n} {v = v} before out allocation again now) =
+    let more = at_most (record v { misses = 0; heard_at = now }) v.due out allocation again now in
     let most = counts w none before in
     omega (arith, more, most)
 

@@ -1,5 +1,5 @@
 -- While a word of the peer is wanted something is due.
-use Rattle.std.proofs.Common.{◌≡◌, refl, ℕ, Bool, true, false}
+use Rattle.std.proofs.Common.{◌≡◌, refl, ℕ, Bool, true, false, Option, Some, None}
 use Rattle.std.specs.Prelude.{◌&&◌, ◌==◌, if◌then◌else◌}
 use Rattle.std.specs.Option.{is_some}
 use Rattle.xns_agenda.specs.Waiting.{Waiting, after_step, due_time, idle_due, idle_span, idling, later, usual_idle, waiting_on}
@@ -15,11 +15,11 @@ by_span n heard_at idle false is = rw (is) refl
 asks : (pace : Pace) (heard_at : ℕ) → is_some (due_time (idle_due pace heard_at true)) ≡ true
 asks pace heard_at = by_span (idle_span pace true) heard_at pace.idle (pace.idle == 0) refl
 
-waits : (w : Waiting) (d : Due) (now : ℕ) → w.due ≡ d → is_some (due_time (waiting_on w d now).due) ≡ true
-waits w Never now is = refl
-waits w (AgainAt t) now is = rw (is) refl
-waits w (AskAt t) now is = refl
-waits w (ForgetAt t) now is = rw (is) refl
+waits : (w : Waiting) (d : Due) (out now : ℕ) → w.due ≡ d → is_some (due_time (waiting_on w d out now).due) ≡ true
+waits w Never out now is = refl
+waits w (AgainAt t) out now is = rw (is) refl
+waits w (AskAt t) out now is = refl
+waits w (ForgetAt t) out now is = rw (is) refl
 
 idles : (w : Waiting) (d : Due) → w.due ≡ d → is_some (due_time (idling w d true).due) ≡ true
 idles w Never is = asks w.pace w.heard_at
@@ -27,6 +27,6 @@ idles w (AgainAt t) is = asks w.pace w.heard_at
 idles w (AskAt t) is = rw (is) refl
 idles w (ForgetAt t) is = rw (is) refl
 
-pub wants_due : (w : Waiting) (b : Bool) (now : ℕ) → is_some (due_time (after_step w b true now).due) ≡ true
-wants_due w true now = waits w w.due now refl
-wants_due w false now = idles w w.due refl
+pub wants_due : (w : Waiting) (b : Option ℕ) (now : ℕ) → is_some (due_time (after_step w b true now).due) ≡ true
+wants_due w (Some out) now = waits w w.due out now refl
+wants_due w None now = idles w w.due refl

@@ -3,6 +3,7 @@ use Rattle.std.specs.Prelude.{ℕ, zero, suc, ◌+◌, ◌-◌, ◌*◌, ◌/◌
 use Rattle.std.specs.Int.{abs_diff}
 use Rattle.xns_agenda.specs.declared.measure.Measure.{Measure}
 use Rattle.xns_agenda.specs.declared.pace.Pace.{Pace}
+use Rattle.xns_agenda.specs.declared.progress.Progress.{Progress}
 use Rattle.xns_agenda.specs.declared.smoothed.Smoothed.{Smoothed}
 use Rattle.xns_agenda.specs.declared.timing.Timing.{Timing}
 use Rattle.xns_agenda.specs.declared.timing.Timing.TheVariants.{Ready, Timed, Resent, Over}
@@ -49,6 +50,14 @@ abbrev pub expected_from : Option Smoothed → Pace → ℕ
 expected_from None pace = pace.least - pace.least / 2
 expected_from (Some s) pace = soonest s pace.least
 
+-- so long after something went out again it is what the peer acknowledges: half of the smoothed time has passed
+abbrev pub half_time : Option Smoothed → Pace → ℕ
+half_time None pace = pace.least - pace.least / 2
+half_time (Some s) pace = s.time8 / 8 - s.time8 / 8 / 2
+
+abbrev pub is_fit : Option Smoothed → Pace → (passed : ℕ) → Bool
+is_fit o pace passed = nat_le (half_time o pace) passed
+
 -- the time that has passed since something went out again is one in which the peer may have acknowledged what went out again
 abbrev pub is_expected : Option Smoothed → Pace → (passed : ℕ) → Bool
 is_expected o pace passed = nat_le (expected_from o pace) passed && nat_le passed (expected o pace)
@@ -61,36 +70,60 @@ sampled m pace passed = record { smoothed = Some (smoothed_by m.smoothed (min pa
 abbrev pub doubted : Measure → Pace → (passed : ℕ) → Measure
 doubted m pace passed = if is_expected m.smoothed pace passed then m else record m { doubts = min (m.doubts + 1) 255 }
 
--- how long the peer took is measured where nothing went out again; where something did, it is doubted that the wait was
--- long enough, unless the peer may have acknowledged what went out again
-abbrev pub learnt : Measure → Pace → Timing → (now : ℕ) → Measure
-learnt m pace Ready now = m
-learnt m pace (Timed since) now = sampled m pace (now - since)
-learnt m pace (Resent at) now = doubted m pace (now - at)
-learnt m pace Over now = m
+-- how long the peer took is measured where it acknowledges the item that is timed, and nothing went out again; where something did, it is
+-- doubted that the wait was long enough, unless the peer may have acknowledged what went out again
+abbrev pub learnt : Measure → Pace → Timing → (acknowledged now : ℕ) → Measure
+learnt m pace Ready acknowledged now = m
+learnt m pace (Timed since place) acknowledged now = if nat_le place acknowledged then sampled m pace (now - since) else m
+learnt m pace (Resent at missing) acknowledged now = doubted m pace (now - at)
+learnt m pace (Over out) acknowledged now = m
+
+-- where the peer acknowledges so many items, the next one that it lacks goes out again: something had gone out again, which may be what it
+-- acknowledges, and not all is acknowledged that was out then
+abbrev pub mends : Measure → Pace → Timing → (acknowledged now : ℕ) → Bool
+mends m pace Ready acknowledged now = false
+mends m pace (Timed since place) acknowledged now = false
+mends m pace (Resent at missing) acknowledged now = nat_lt acknowledged missing && is_fit m.smoothed pace (now - at)
+mends m pace (Over out) acknowledged now = false
 
 -- ---- what is timed
 
--- something begins to wait for the peer
-abbrev pub begun_timing : Timing → (now : ℕ) → Timing
-begun_timing Ready now = Timed now
-begun_timing (Timed since) now = Timed since
-begun_timing (Resent at) now = Resent at
-begun_timing Over now = Over
+-- however many items are out
+abbrev pub every : ℕ
+every = 2 ^ 64 - 1
 
--- a wait was in vain since the peer acknowledged more
+-- something waits for the peer, and so many items are out: where nothing is timed, the first that went out since is timed
+abbrev pub begun_timing : Timing → (out now : ℕ) → Timing
+begun_timing Ready out now = Timed now 1
+begun_timing (Timed since place) out now = Timed since place
+begun_timing (Resent at missing) out now = Resent at missing
+begun_timing (Over before) out now = if nat_lt before out then Timed now (before + 1) else Over before
+
+-- something went out again since the peer acknowledged more
 abbrev pub is_vain : Timing → Bool
 is_vain Ready = false
-is_vain (Timed since) = false
-is_vain (Resent at) = true
-is_vain Over = false
+is_vain (Timed since place) = false
+is_vain (Resent at missing) = true
+is_vain (Over out) = false
 
--- half of a wait is over since something began to wait for the peer, which acknowledged nothing since, and nothing went out again
+-- half of a wait is over since the item that is timed went out, and nothing went out again
 abbrev pub is_late : Timing → (wait now : ℕ) → Bool
 is_late Ready wait now = false
-is_late (Timed since) wait now = nat_le (wait - wait / 2) (now - since)
-is_late (Resent at) wait now = false
-is_late Over wait now = false
+is_late (Timed since place) wait now = nat_le (wait - wait / 2) (now - since)
+is_late (Resent at missing) wait now = false
+is_late (Over out) wait now = false
+
+-- the peer acknowledges so many items, and nothing goes out again for that: the item that is timed moves up, until it is acknowledged
+abbrev pub moved_up : Timing → Progress → Timing
+moved_up Ready progress = Over progress.out
+moved_up (Timed since place) progress =
+    if nat_lt progress.acknowledged place then Timed since (place - progress.acknowledged) else Over progress.out
+moved_up (Resent at missing) progress = Over progress.out
+moved_up (Over out) progress = Over progress.out
+
+-- the peer acknowledges more, and something goes out again for that, or nothing does
+abbrev pub moved_on : Timing → Progress → (again : Bool) → (now : ℕ) → Timing
+moved_on timing progress again now = if again then Resent now progress.out else moved_up timing progress
 
 -- ---- how long is waited
 

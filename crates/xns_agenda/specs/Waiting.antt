@@ -1,6 +1,6 @@
 -- When a connection says something again, asks its peer for a word, and is given up. Times are in milliseconds.
-use Rattle.std.specs.Prelude.{◌≡◌, ℕ, ◌+◌, ◌-◌, ◌^◌, ◌<◌, ◌≤◌, Bool, true, false, not, ◌&&◌, ◌==◌, nat_le, min, if◌then◌else◌, Option, Some, None, IfSome}
-use Rattle.xns_agenda.specs.Measuring.{IsBounded, begun_timing, borne, first_wait, is_late, is_vain, learnt, next_length}
+use Rattle.std.specs.Prelude.{◌≡◌, ℕ, ◌+◌, ◌-◌, ◌^◌, ◌<◌, ◌≤◌, Bool, true, false, not, ◌&&◌, ◌==◌, nat_le, nat_lt, min, if◌then◌else◌, Option, Some, None, IfSome}
+use Rattle.xns_agenda.specs.Measuring.{IsBounded, begun_timing, borne, first_wait, every, is_late, is_vain, learnt, moved_on, next_length}
 use Rattle.xns_agenda.specs.Replying.{counted, is_third}
 use Rattle.xns_agenda.specs.declared.act.Act.{Act}
 use Rattle.xns_agenda.specs.declared.act.Act.TheVariants.{Nothing, Again, Ask, GiveUp, Forget}
@@ -9,10 +9,11 @@ use Rattle.xns_agenda.specs.declared.due.Due.TheVariants.{Never, AgainAt, AskAt,
 use Rattle.xns_agenda.specs.declared.measure.Measure.{Measure}
 use Rattle.xns_agenda.specs.declared.measure.TheConstants.Measure.{NONE}
 use Rattle.xns_agenda.specs.declared.pace.Pace.{Pace}
+use Rattle.xns_agenda.specs.declared.progress.Progress.{Progress}
 use Rattle.xns_agenda.specs.declared.replies.Replies.{Replies}
 use Rattle.xns_agenda.specs.declared.replies.TheConstants.Replies as none
 use Rattle.xns_agenda.specs.declared.timing.Timing.{Timing}
-use Rattle.xns_agenda.specs.declared.timing.Timing.TheVariants.{Ready, Resent, Over}
+use Rattle.xns_agenda.specs.declared.timing.Timing.TheVariants.{Ready, Resent}
 
 pub record Waiting : Type 0 where
   pub pace : Pace
@@ -68,15 +69,15 @@ abbrev pub idle_due : Pace → ℕ → (wants : Bool) → Due
 idle_due pace heard_at wants = if idle_span pace wants == 0 then Never else AskAt (later heard_at (idle_span pace wants))
 
 -- a wait for the peer begins, which is timed
-abbrev pub timed : Waiting → ℕ → Waiting
-timed w now = begun AgainAt (record (rested w) { timing = begun_timing w.timing now }) now
+abbrev pub timed : Waiting → (out now : ℕ) → Waiting
+timed w out now = begun AgainAt (record (rested w) { timing = begun_timing w.timing out now }) now
 
--- something waits for the peer
-abbrev pub waiting_on : Waiting → Due → ℕ → Waiting
-waiting_on w Never now = timed w now
-waiting_on w (AgainAt t) now = w
-waiting_on w (AskAt t) now = timed w now
-waiting_on w (ForgetAt t) now = w
+-- something waits for the peer, and so many items are out
+abbrev pub waiting_on : Waiting → Due → (out now : ℕ) → Waiting
+waiting_on w Never out now = timed w out now
+waiting_on w (AgainAt t) out now = record w { timing = begun_timing w.timing out now }
+waiting_on w (AskAt t) out now = timed w out now
+waiting_on w (ForgetAt t) out now = w
 
 -- nothing waits for the peer; the peer is asked when it has been silent for as long as it may be
 abbrev pub idling : Waiting → Due → (wants : Bool) → Waiting
@@ -85,14 +86,15 @@ idling w (AgainAt t) wants = record (rested w) { due = idle_due w.pace w.heard_a
 idling w (AskAt t) wants = w
 idling w (ForgetAt t) wants = w
 
--- `waits`: something waits for the peer; `wants`: a word of the peer is wanted, for a call or for the end of the connection
-abbrev pub after_step : Waiting → (waits wants : Bool) → ℕ → Waiting
-after_step w true wants now = waiting_on w w.due now
-after_step w false wants now = idling w w.due wants
+-- `waiting`: how many items are out, if something waits for the peer; `wants`: a word of the peer is wanted, for a call or for the end of the
+-- connection
+abbrev pub after_step : Waiting → (waiting : Option ℕ) (wants : Bool) → ℕ → Waiting
+after_step w (Some out) wants now = waiting_on w w.due out now
+after_step w None wants now = idling w w.due wants
 
 -- ---- after a word of the peer, which acknowledges more or opens the connection, or does not
 
--- half of the first wait is over since something began to wait for the peer, which acknowledged nothing since, and nothing went out again
+-- half of the first wait is over since the item that is timed went out, which the peer did not acknowledge, and nothing went out again
 abbrev pub overdue_by : Waiting → Due → (now : ℕ) → Bool
 overdue_by w Never now = false
 overdue_by w (AgainAt t) now = is_late w.timing (first_wait w.measure w.pace) now
@@ -103,22 +105,22 @@ abbrev pub is_overdue : Waiting → (now : ℕ) → Bool
 is_overdue w now = overdue_by w w.due now
 
 -- what waits for the peer goes out again before its time, and the first wait begins anew
-abbrev pub resent : Waiting → ℕ → Waiting
-resent w now = record (begun AgainAt (rested w) now) { timing = Resent now }
+abbrev pub resent : Waiting → (out now : ℕ) → Waiting
+resent w out now = record (begun AgainAt (rested w) now) { timing = Resent now out }
 
 -- how long the peer took is learnt, and what it lacks then is another item
-abbrev pub taught : Waiting → ℕ → Waiting
-taught w now = record w { measure = learnt w.measure w.pace w.timing now; timing = Over; replies = none.NONE }
+abbrev pub taught : Waiting → Progress → (again : Bool) → ℕ → Waiting
+taught w progress again now = record w {
+  measure = learnt w.measure w.pace w.timing progress.acknowledged now;
+  timing = moved_on w.timing progress again now;
+  replies = none.NONE;
+}
 
 -- the peer says by a reply with this allocation number that it lacks the first item that is out
 abbrev pub counting : Waiting → (allocation : ℕ) → Waiting
 counting w allocation = record w { replies = counted w.replies allocation }
 
--- the item goes out again for that: the first wait begins anew, and how long the peer takes is not measured
-abbrev pub replaced : Waiting → (allocation : ℕ) → ℕ → Waiting
-replaced w allocation now = record (begun AgainAt (rested (counting w allocation)) now) { timing = Over }
-
--- while something waits for the peer, where no wait was in vain, the reply is the third in a row that says the same
+-- while something waits for the peer, where nothing went out again since it acknowledged more, the reply is the third in a row that says the same
 abbrev pub third_by : Waiting → Due → Option ℕ → Bool
 third_by w Never reply = false
 third_by w (AgainAt t) None = false
@@ -130,23 +132,27 @@ abbrev pub is_third_reply : Waiting → (reply : Option ℕ) → Bool
 is_third_reply w reply = third_by w w.due reply
 
 -- where the peer acknowledges no more; the allocation number is that of a reply by which it lacks an item that is out
-abbrev pub unmoved : Waiting → (reply : Option ℕ) → (again : Bool) → ℕ → Waiting
-unmoved w None true now = resent w now
-unmoved w None false now = w
-unmoved w (Some allocation) true now = replaced w allocation now
-unmoved w (Some allocation) false now = counting w allocation
+abbrev pub unmoved : Waiting → (reply : Option ℕ) → (again : Bool) → (out now : ℕ) → Waiting
+unmoved w None true out now = resent w out now
+unmoved w None false out now = w
+unmoved w (Some allocation) true out now = resent (counting w allocation) out now
+unmoved w (Some allocation) false out now = counting w allocation
 
-abbrev pub after_heard : Waiting → Due → (more : Bool) (reply : Option ℕ) (again : Bool) → ℕ → Waiting
-after_heard w Never more reply again now = rested w
-after_heard w (AgainAt t) true reply again now = rested (taught w now)
-after_heard w (AgainAt t) false reply again now = unmoved w reply again now
-after_heard w (AskAt t) more reply again now = rested w
-after_heard w (ForgetAt t) more reply again now = w
+abbrev pub after_heard : Waiting → Due → Progress → (reply : Option ℕ) (again : Bool) → ℕ → Waiting
+after_heard w Never progress reply again now = rested w
+after_heard w (AgainAt t) progress reply again now =
+    if nat_lt 0 progress.acknowledged then rested (taught w progress again now) else unmoved w reply again progress.out now
+after_heard w (AskAt t) progress reply again now = rested w
+after_heard w (ForgetAt t) progress reply again now = w
 
--- `more`: the peer acknowledges more, or opens the connection; `reply`: the allocation number of a reply by which the peer lacks an item
--- that is out; `again`: where it acknowledges no more, what waits for the peer goes out again
-abbrev pub after_word : Waiting → (more : Bool) (reply : Option ℕ) (again : Bool) → ℕ → Waiting
-after_word w more reply again now = after_heard (record w { misses = 0; heard_at = now }) w.due more reply again now
+-- `progress`: how many items the peer acknowledges, where that it opens the connection counts as one, and how many are out then; `reply`: the
+-- allocation number of a reply by which the peer lacks an item that is out; `again`: something goes out again for the word
+abbrev pub after_word : Waiting → Progress → (reply : Option ℕ) (again : Bool) → ℕ → Waiting
+after_word w progress reply again now = after_heard (record w { misses = 0; heard_at = now }) w.due progress reply again now
+
+-- the peer acknowledges no more, and so many items are out
+abbrev pub no_more : (out : ℕ) → Progress
+no_more out = record { acknowledged = 0; out = out }
 
 -- ---- when a wait is over
 
@@ -178,7 +184,7 @@ missed at w now = record (begun at w now) { misses = w.misses + 1 }
 
 abbrev pub after_by : Waiting → Act → ℕ → Waiting
 after_by w Nothing now = w
-after_by w Again now = record (missed AgainAt w now) { timing = Resent now }
+after_by w Again now = record (missed AgainAt w now) { timing = Resent now every }
 after_by w Ask now = missed AskAt w now
 after_by w GiveUp now = lingering w now
 after_by w Forget now = record w { due = Never }
@@ -195,13 +201,13 @@ IsDueAfter now due = (t : ℕ) → due_time due ≡ Some t → now < t
 -- the first wait leads to the second by steps of this moment, or the connection was closed at it
 pub data StepsAt (now : ℕ) (w : Waiting) : Waiting → Type 0 where
   still : StepsAt now w w
-  step : {v : Waiting} → StepsAt now w v → (waits wants : Bool) → StepsAt now w (after_step v waits wants now)
+  step : {v : Waiting} → StepsAt now w v → (waiting : Option ℕ) (wants : Bool) → StepsAt now w (after_step v waiting wants now)
   close : {v : Waiting} → StepsAt now w v → StepsAt now w (lingering v now)
 
 -- steps of this moment lead from the first wait to the second, and a word of the peer may have come before them
 pub data HearsAt (now : ℕ) (w v : Waiting) : Type 0 where
   no_word : StepsAt now w v → HearsAt now w v
-  word : (more : Bool) (reply : Option ℕ) (again : Bool) → StepsAt now (after_word w more reply again now) v → HearsAt now w v
+  word : (progress : Progress) (reply : Option ℕ) (again : Bool) → StepsAt now (after_word w progress reply again now) v → HearsAt now w v
 
 -- ---- a silent peer
 
@@ -216,7 +222,7 @@ is_sent Forget = false
 -- from one moment to another there is no word of the peer, and so many packets go out by the time alone
 pub data Silence (w : Waiting) : ℕ → Waiting → Type 0 where
   here : Silence w 0 w
-  steps : {n : ℕ} {v : Waiting} → Silence w n v → (waits wants : Bool) (now : ℕ) → Silence w n (after_step v waits wants now)
+  steps : {n : ℕ} {v : Waiting} → Silence w n v → (waiting : Option ℕ) (wants : Bool) (now : ℕ) → Silence w n (after_step v waiting wants now)
   sends : {n : ℕ} {v : Waiting} → Silence w n v → (now : ℕ) → is_sent (act_at v now) ≡ true → Silence w (n + 1) (after_act v now)
 
 -- ---- what a peer says that acknowledges no more
@@ -224,19 +230,21 @@ pub data Silence (w : Waiting) : ℕ → Waiting → Type 0 where
 -- from one moment to another the peer acknowledges no more, and says by so many replies that it lacks an item that is out
 pub data Lacks (w : Waiting) : ℕ → Waiting → Type 0 where
   here : Lacks w 0 w
-  steps : {n : ℕ} {v : Waiting} → Lacks w n v → (waits wants : Bool) (now : ℕ) → Lacks w n (after_step v waits wants now)
+  steps : {n : ℕ} {v : Waiting} → Lacks w n v → (waiting : Option ℕ) (wants : Bool) (now : ℕ) → Lacks w n (after_step v waiting wants now)
   acts : {n : ℕ} {v : Waiting} → Lacks w n v → (now : ℕ) → Lacks w n (after_act v now)
-  hears : {n : ℕ} {v : Waiting} → Lacks w n v → (again : Bool) (now : ℕ) → Lacks w n (after_word v false None again now)
-  replies : {n : ℕ} {v : Waiting} → Lacks w n v → (allocation : ℕ) (again : Bool) (now : ℕ)
-      → Lacks w (n + 1) (after_word v false (Some allocation) again now)
+  hears : {n : ℕ} {v : Waiting} → Lacks w n v → (out : ℕ) (again : Bool) (now : ℕ) → Lacks w n (after_word v (no_more out) None again now)
+  replies : {n : ℕ} {v : Waiting} → Lacks w n v → (out allocation : ℕ) (again : Bool) (now : ℕ)
+      → Lacks w (n + 1) (after_word v (no_more out) (Some allocation) again now)
 
 -- from one moment to another something waits for the peer, which acknowledges no more; so often something goes out
 -- again when a word of the peer comes
 pub data Unheard (w : Waiting) : ℕ → Waiting → Type 0 where
   here : Unheard w 0 w
-  steps : {n : ℕ} {v : Waiting} → Unheard w n v → (wants : Bool) (now : ℕ) → Unheard w n (after_step v true wants now)
+  steps : {n : ℕ} {v : Waiting} → Unheard w n v → (out : ℕ) (wants : Bool) (now : ℕ) → Unheard w n (after_step v (Some out) wants now)
   acts : {n : ℕ} {v : Waiting} → Unheard w n v → (now : ℕ) → Unheard w n (after_act v now)
-  hears : {n : ℕ} {v : Waiting} → Unheard w n v → (reply : Option ℕ) (now : ℕ) → Unheard w n (after_word v false reply false now)
-  resends : {n : ℕ} {v : Waiting} → Unheard w n v → (now : ℕ) → is_overdue v now ≡ true → Unheard w (n + 1) (after_word v false None true now)
-  replaces : {n : ℕ} {v : Waiting} → Unheard w n v → (reply : Option ℕ) (now : ℕ) → is_third_reply v reply ≡ true
-      → Unheard w (n + 1) (after_word v false reply true now)
+  hears : {n : ℕ} {v : Waiting} → Unheard w n v → (out : ℕ) (reply : Option ℕ) (now : ℕ)
+      → Unheard w n (after_word v (no_more out) reply false now)
+  resends : {n : ℕ} {v : Waiting} → Unheard w n v → (out now : ℕ) → is_overdue v now ≡ true
+      → Unheard w (n + 1) (after_word v (no_more out) None true now)
+  replaces : {n : ℕ} {v : Waiting} → Unheard w n v → (out : ℕ) (reply : Option ℕ) (now : ℕ) → is_third_reply v reply ≡ true
+      → Unheard w (n + 1) (after_word v (no_more out) reply true now)

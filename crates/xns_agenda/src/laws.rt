@@ -3,11 +3,14 @@
 ghost use Rattle.std.specs.Prelude.{◌≡◌, ◌≤◌, ◌<◌, ◌+◌, ◌-◌, ◌*◌, ◌/◌, ℕ, Bool, Option, true};
 ghost use Rattle.std.specs.Option.{is_some};
 ghost use Rattle.xns_agenda.specs.Clock.{by_told, day, time_at, told_at};
-ghost use Rattle.xns_agenda.specs.Measuring.{borne, first_smoothed, first_wait, most_borne, next_length, smoothed_on, soonest, waits_time};
+ghost use Rattle.xns_agenda.specs.Measuring.{borne, first_smoothed, first_wait, is_vain, learnt, mends, most_borne, moved_on, next_length, smoothed_on, soonest, waits_time};
 ghost use Rattle.xns_agenda.specs.declared.measure.Measure.{Measure};
 ghost use Rattle.xns_agenda.specs.declared.measure.TheConstants.Measure.{NONE};
 ghost use Rattle.xns_agenda.specs.declared.pace.Pace.{Pace};
+ghost use Rattle.xns_agenda.specs.declared.progress.Progress.{Progress};
 ghost use Rattle.xns_agenda.specs.declared.smoothed.Smoothed.{Smoothed};
+ghost use Rattle.xns_agenda.specs.declared.timing.Timing.{Timing};
+ghost use Rattle.xns_agenda.specs.declared.timing.Timing.TheVariants.{Resent, Timed};
 ghost use Rattle.xns_agenda.specs.declared.clock.Clock.{Clock};
 ghost use Rattle.xns_agenda.specs.Patience.{Asked, Vain};
 ghost use Rattle.xns_agenda.specs.Waiting.{Lacks, Unheard, Waiting, Silence, last_time, act_at, after_act, after_step, due_time, is_third_reply, later};
@@ -33,9 +36,22 @@ pub fn a_third_reply_comes_after_two()
     ensures { (w v : Waiting) (n : ℕ) (reply : Option ℕ) → w.replies.count ≡ 0 → Lacks w n v → is_third_reply v reply ≡ true → 2 ≤ n }
 {}
 
+/// Where the peer acknowledges more, the next item that it lacks goes out again only if something had gone out again since it acknowledged more
+/// before (`vain`), and if not all is acknowledged that was out then (`out`). How many were out is what the word said for which it went out
+/// (`said`). An item that is timed is measured only where the peer acknowledges it (`timed`).
+pub fn what_was_out_is_mended()
+    ensures vain { (m : Measure) (pace : Pace) (timing : Timing) (acknowledged now : ℕ) → mends m pace timing acknowledged now ≡ true
+        → is_vain timing ≡ true }
+    ensures out { (m : Measure) (pace : Pace) (at missing acknowledged now : ℕ) → mends m pace (Resent at missing) acknowledged now ≡ true
+        → acknowledged < missing }
+    ensures said { (timing : Timing) (progress : Progress) (now : ℕ) → moved_on timing progress true now ≡ Resent now progress.out }
+    ensures timed { (m : Measure) (pace : Pace) (since place acknowledged now : ℕ) → acknowledged < place
+        → learnt m pace (Timed since place) acknowledged now ≡ m }
+{}
+
 /// While a word of the peer is wanted, as for a call that wants its answer, the connection never waits for ever: something is due at a time.
 pub fn a_call_does_not_wait_for_ever()
-    ensures { (w : Waiting) (waits : Bool) (now : ℕ) → is_some (due_time (after_step w waits true now).due) ≡ true }
+    ensures { (w : Waiting) (waiting : Option ℕ) (now : ℕ) → is_some (due_time (after_step w waiting true now).due) ≡ true }
 {}
 
 /// When something goes out again, the wait that begins is as long as the one before had said, and the next one is twice as long,

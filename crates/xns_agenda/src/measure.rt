@@ -1,7 +1,7 @@
 //! How long is waited, by what was measured.
 
 ghost use Rattle.std.specs.Prelude.{◌≡◌, ◌≤◌, ◌+◌, ◌-◌, Some, None, IfSome};
-ghost use Rattle.xns_agenda.specs.Measuring.{IsBounded, borne, doubted, doubted_wait, expected, expected_from, first_wait, is_expected, learnt, most_borne, sampled, smoothed_by};
+ghost use Rattle.xns_agenda.specs.Measuring.{IsBounded, borne, doubted, doubted_wait, expected, expected_from, first_wait, is_expected, is_fit, learnt, mends, most_borne, sampled, smoothed_by};
 
 use crate::pace::Pace;
 use crate::smoothed::Smoothed;
@@ -102,6 +102,29 @@ impl Measure {
         soonest <= passed && passed <= most
     }
 
+    /// Whether what went out again so long ago is what the peer acknowledged, and no item that was out before.
+    fn is_fit(self, pace: &Pace, passed: u64) -> bool
+        ensures { result ≡ is_fit self.smoothed pace.now passed }
+    {
+        let time = match self.smoothed {
+            None => u64::from(pace.least),
+            Some(smoothed) => smoothed.time8 / 8,
+        };
+        time - time / 2 <= passed
+    }
+
+    /// Whether the first item that is not acknowledged goes out again where the peer acknowledges so many: something had gone out again, which
+    /// may be what it acknowledges, and not all is acknowledged that was out then.
+    pub fn mends(self, pace: &Pace, timing: Timing, acknowledged: u64, now: u64) -> bool
+        ensures { result ≡ mends self pace.now timing acknowledged now }
+    {
+        match timing {
+            Timing::Resent(at, missing) => acknowledged < missing
+                && self.is_fit(pace, now.saturating_sub(at)),
+            Timing::Ready | Timing::Timed(_, _) | Timing::Over(_) => false,
+        }
+    }
+
     /// After the peer acknowledged what had gone out again so long ago, or what had gone out before.
     fn doubted(self, pace: &Pace, passed: u64) -> Measure
         requires { IfSome self.smoothed IsBounded }
@@ -117,16 +140,19 @@ impl Measure {
         }
     }
 
-    /// What is known once the peer acknowledges more, or opens the connection.
-    pub fn learnt(self, pace: &Pace, timing: Timing, now: u64) -> Measure
+    /// What is known once the peer acknowledges so many more, or opens the connection.
+    pub fn learnt(self, pace: &Pace, timing: Timing, acknowledged: u64, now: u64) -> Measure
         requires { IfSome self.smoothed IsBounded }
-        ensures value { result ≡ learnt self pace.now timing now }
+        ensures value { result ≡ learnt self pace.now timing acknowledged now }
         ensures bounded { IfSome result.smoothed IsBounded }
     {
         match timing {
-            Timing::Ready | Timing::Over => self,
-            Timing::Timed(since) => self.sampled(pace, now.saturating_sub(since)),
-            Timing::Resent(at) => self.doubted(pace, now.saturating_sub(at)),
+            Timing::Timed(since, place) if place <= acknowledged => self.sampled(
+                pace,
+                now.saturating_sub(since),
+            ),
+            Timing::Resent(at, _) => self.doubted(pace, now.saturating_sub(at)),
+            Timing::Ready | Timing::Timed(_, _) | Timing::Over(_) => self,
         }
     }
 }

@@ -1,47 +1,69 @@
 //! What is timed of a wait for the peer.
 
 ghost use Rattle.std.specs.Prelude.{◌≡◌};
-ghost use Rattle.xns_agenda.specs.Measuring.{begun_timing, is_late, is_vain};
+ghost use Rattle.xns_agenda.specs.Measuring.{begun_timing, every, is_late, is_vain, moved_on};
+
+use crate::progress::Progress;
 
 /// What is timed of a wait for the peer. Times are in milliseconds.
 #[derive(Clone, Copy, Debug, PartialEq, Eq)]
 pub enum Timing {
-    /// Nothing waits for the peer: the next wait is timed.
+    /// Nothing waits for the peer: the next item that goes out is timed.
     Ready,
-    /// Something waits for the peer since this time, and nothing went out again.
-    Timed(u64),
-    /// Something went out again, at this time last, and the peer acknowledged nothing since.
-    Resent(u64),
-    /// The peer has acknowledged something, and something still waits for it: nothing is timed until nothing waits.
-    Over,
+    /// An item waits for the peer since this time, and nothing went out again since. It is the last of so many that are out.
+    Timed(u64, u64),
+    /// Something went out again, at this time last, and the peer acknowledged nothing since. So many of the items that were out then are not
+    /// acknowledged.
+    Resent(u64, u64),
+    /// Something waits for the peer, and nothing is timed. So many items are out; the next that goes out behind them is timed.
+    Over(u64),
 }
 
 impl Timing {
-    /// Something begins to wait for the peer at this time.
-    pub fn begun(self, now: u64) -> Timing
-        ensures { result ≡ begun_timing self now }
+    /// However many items are out.
+    pub const EVERY: u64 = u64::MAX;
+
+    /// Something waits for the peer at this time, and so many items are out.
+    pub fn begun(self, out: u64, now: u64) -> Timing
+        ensures { result ≡ begun_timing self out now }
     {
         match self {
-            Timing::Ready => Timing::Timed(now),
-            Timing::Timed(_) | Timing::Resent(_) | Timing::Over => self,
+            Timing::Ready => Timing::Timed(now, 1),
+            Timing::Over(before) if before < out => Timing::Timed(now, before + 1),
+            Timing::Timed(_, _) | Timing::Resent(_, _) | Timing::Over(_) => self,
         }
     }
 
-    /// Whether a wait was in vain since the peer acknowledged more.
+    /// Whether something went out again since the peer acknowledged more.
     pub fn is_vain(self) -> bool
         ensures { result ≡ is_vain self }
     {
-        matches!(self, Timing::Resent(_))
+        matches!(self, Timing::Resent(_, _))
     }
 
-    /// Whether half of a wait is over since something began to wait for the peer, which acknowledged nothing since, and nothing went out
-    /// again.
+    /// Whether half of a wait is over since the item that is timed went out, and nothing went out again.
     pub fn is_late(self, wait: u32, now: u64) -> bool
         ensures { result ≡ is_late self wait now }
     {
         match self {
-            Timing::Timed(since) => u64::from(wait - wait / 2) <= now.saturating_sub(since),
-            Timing::Ready | Timing::Resent(_) | Timing::Over => false,
+            Timing::Timed(since, _) => u64::from(wait - wait / 2) <= now.saturating_sub(since),
+            Timing::Ready | Timing::Resent(_, _) | Timing::Over(_) => false,
+        }
+    }
+
+    /// After the peer acknowledged more, where `again` says whether something goes out again for that.
+    pub fn moved_on(self, progress: Progress, again: bool, now: u64) -> Timing
+        ensures { result ≡ moved_on self progress again now }
+    {
+        if again {
+            return Timing::Resent(now, progress.out);
+        }
+        match self {
+            Timing::Timed(since, place) if progress.acknowledged < place => Timing::Timed(
+                since,
+                place - progress.acknowledged,
+            ),
+            _ => Timing::Over(progress.out),
         }
     }
 }

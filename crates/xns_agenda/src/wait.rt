@@ -1,7 +1,7 @@
 //! The waits of a connection.
 
 ghost use Rattle.std.specs.Prelude.{◌≡◌, ◌<◌, ◌≤◌};
-ghost use Rattle.xns_agenda.specs.Measuring.{borne, is_vain};
+ghost use Rattle.xns_agenda.specs.Measuring.{borne, mends};
 ghost use Rattle.xns_agenda.specs.Waiting.{later, idle_due, idle_span};
 ghost use Rattle.xns_agenda.specs.declared.act.Act.TheVariants.{Again, Ask};
 ghost use Rattle.xns_agenda.specs.declared.due.Due.TheVariants.{AgainAt, AskAt};
@@ -10,6 +10,7 @@ use crate::act::Act;
 use crate::due::Due;
 use crate::measure::Measure;
 use crate::pace::Pace;
+use crate::progress::Progress;
 use crate::replies::Replies;
 use crate::timing::Timing;
 use std::marker::Model;
@@ -17,7 +18,7 @@ use std::marker::Model;
 /// What a connection waits for, how long, and how often in vain. Times are in milliseconds, of any clock.
 ///
 /// Its owner tells it each word of the peer (`hear`), and, after each step of an open connection, whether something waits for the
-/// peer (`step`); asks it when something is due (`due`); and then what is to be done (`act`).
+/// peer, and how many items are out (`step`); asks it when something is due (`due`); and then what is to be done (`act`).
 #[derive(Drop)]
 pub struct Wait {
     pace: Pace,
@@ -77,7 +78,7 @@ fn idle_due(pace: &Pace, heard_at: u64, wants: bool) -> Due
 }
 
 impl Wait {
-    ghost use Rattle.xns_agenda.specs.Waiting.{new_waiting, act_at, after_act, after_by, after_step, after_word, begun, counting, is_overdue, is_third_reply, missed, replaced, rested, resent, lingering, taught, unmoved};
+    ghost use Rattle.xns_agenda.specs.Waiting.{new_waiting, act_at, after_act, after_by, after_step, after_word, begun, counting, is_overdue, is_third_reply, missed, rested, resent, lingering, taught, unmoved};
     ghost use Rattle.xns_agenda.specs.Waiting.{IsDueAfter, last_time, waiting_on, idling};
 
     /// The waits of a connection that is made at this time.
@@ -103,15 +104,17 @@ impl Wait {
         self.due
     }
 
-    /// Whether a wait was in vain since the peer acknowledged more.
-    pub fn was_vain(&self) -> bool
-        ensures { result ≡ is_vain self.now.timing }
+    /// Whether, where the peer acknowledges so many items, the next one that it lacks goes out again at once: something had gone out again
+    /// since it acknowledged more, and not all is acknowledged that was out then.
+    pub fn mends(&self, acknowledged: u64, now: u64) -> bool
+        ensures { result ≡ mends self.now.measure self.now.pace self.now.timing acknowledged now }
     {
-        self.timing.is_vain()
+        self.measure
+            .mends(&self.pace, self.timing, acknowledged, now)
     }
 
-    /// Whether half of the first wait is over since something began to wait for the peer, which acknowledged nothing since, and nothing
-    /// went out again.
+    /// Whether half of the first wait is over since the item that is timed went out, which the peer did not acknowledge, and nothing went out
+    /// again.
     pub fn is_overdue(&self, now: u64) -> bool
         ensures { result ≡ is_overdue self.now now }
     {
@@ -123,8 +126,9 @@ impl Wait {
         }
     }
 
-    /// Whether a reply is the third in a row that says the same, while something waits for the peer and no wait was in vain. `reply` is the
-    /// allocation number of a reply by which the peer lacks the first item that is out; `None` of another packet.
+    /// Whether a reply is the third in a row that says the same, while something waits for the peer, and nothing went out again since it
+    /// acknowledged more. `reply` is the allocation number of a reply by which the peer lacks the first item that is out; `None` of another
+    /// packet.
     pub fn is_third_reply(&self, reply: Option<u16>) -> bool
         ensures { result ≡ is_third_reply self.now reply }
     {
@@ -161,13 +165,14 @@ impl Wait {
     }
 
     /// After a step after which something waits for the peer.
-    fn wait_on(&mut self, now: u64)
-        ensures { self.new ≡ waiting_on self.old self.old.due now }
+    fn wait_on(&mut self, out: u64, now: u64)
+        ensures { self.new ≡ waiting_on self.old self.old.due out now }
     {
         match self.due {
-            Due::AgainAt(_) | Due::ForgetAt(_) => {}
+            Due::ForgetAt(_) => {}
+            Due::AgainAt(_) => self.timing = self.timing.begun(out, now),
             Due::Never | Due::AskAt(_) => {
-                self.timing = self.timing.begun(now);
+                self.timing = self.timing.begun(out, now);
                 self.rest();
                 self.begin(now);
             }
@@ -188,76 +193,74 @@ impl Wait {
         }
     }
 
-    /// After a step of an open connection, where `waits` says whether something waits for the peer, and `wants` whether a word of the peer is
-    /// wanted, for a call or for the end of the connection. What is due stays so.
-    pub fn step(&mut self, waits: bool, wants: bool, now: u64)
-        ensures { self.new ≡ after_step self.old waits wants now }
+    /// After a step of an open connection, where `waiting` says how many items are out, if something waits for the peer, and `wants` whether a
+    /// word of the peer is wanted, for a call or for the end of the connection. What is due stays so.
+    pub fn step(&mut self, waiting: Option<u64>, wants: bool, now: u64)
+        ensures { self.new ≡ after_step self.old waiting wants now }
     {
-        if waits {
-            self.wait_on(now);
-        } else {
-            self.idle(wants);
+        match waiting {
+            Some(out) => self.wait_on(out, now),
+            None => self.idle(wants),
         }
     }
 
     /// Learns how long the peer took to acknowledge more.
-    fn learn(&mut self, now: u64)
+    fn learn(&mut self, progress: Progress, again: bool, now: u64)
         requires { self.old.misses ≡ 0 }
-        ensures { self.new ≡ taught self.old now }
+        ensures { self.new ≡ taught self.old progress again now }
     {
-        self.measure = self.measure.learnt(&self.pace, self.timing, now);
-        self.timing = Timing::Over;
+        self.measure = self
+            .measure
+            .learnt(&self.pace, self.timing, progress.acknowledged, now);
+        self.timing = self.timing.moved_on(progress, again, now);
         self.replies = Replies::NONE;
     }
 
     /// What waits for the peer goes out again before its time, and the first wait begins anew.
-    fn resend(&mut self, now: u64)
-        ensures { self.new ≡ resent self.old now }
+    fn resend(&mut self, out: u64, now: u64)
+        ensures { self.new ≡ resent self.old out now }
     {
         self.rest();
         self.begin(now);
-        self.timing = Timing::Resent(now);
+        self.timing = Timing::Resent(now, out);
     }
 
     /// Takes in that the peer says, by a reply with this allocation number, that it lacks the first item that is out, and whether the item
     /// goes out again for that.
-    fn take_reply(&mut self, allocation: u16, again: bool, now: u64)
-        ensures { self.new ≡ unmoved self.old (Some allocation) again now }
+    fn take_reply(&mut self, allocation: u16, again: bool, out: u64, now: u64)
+        ensures { self.new ≡ unmoved self.old (Some allocation) again out now }
     {
         self.replies = self.replies.counted(allocation);
         if again {
-            self.rest();
-            self.begin(now);
-            self.timing = Timing::Over;
+            self.resend(out, now);
         }
     }
 
     /// Takes in a word of the peer that acknowledges no more, while something waits for the peer.
-    fn stay(&mut self, reply: Option<u16>, again: bool, now: u64)
-        ensures { self.new ≡ unmoved self.old reply again now }
+    fn stay(&mut self, reply: Option<u16>, again: bool, out: u64, now: u64)
+        ensures { self.new ≡ unmoved self.old reply again out now }
     {
         match reply {
-            Some(allocation) => self.take_reply(allocation, again, now),
-            None if again => self.resend(now),
+            Some(allocation) => self.take_reply(allocation, again, out, now),
+            None if again => self.resend(out, now),
             None => {}
         }
     }
 
-    /// Takes in a word of the peer, where `more` says whether it acknowledges more, or opens the connection, and `again` whether something
-    /// goes out again for it. `reply` is the allocation number of a reply by which the peer lacks the first item that is out; `None` of
-    /// another packet.
-    pub fn hear(&mut self, more: bool, reply: Option<u16>, again: bool, now: u64)
-        ensures { self.new ≡ after_word self.old more reply again now }
+    /// Takes in a word of the peer, where `progress` says what it acknowledges, and `again` whether something goes out again for it. `reply`
+    /// is the allocation number of a reply by which the peer lacks the first item that is out; `None` of another packet.
+    pub fn hear(&mut self, progress: Progress, reply: Option<u16>, again: bool, now: u64)
+        ensures { self.new ≡ after_word self.old progress reply again now }
     {
         self.heard_at = now;
         self.misses = 0;
         match self.due {
             Due::ForgetAt(_) => {}
-            Due::AgainAt(_) if more => {
-                self.learn(now);
+            Due::AgainAt(_) if progress.acknowledged > 0 => {
+                self.learn(progress, again, now);
                 self.rest();
             }
-            Due::AgainAt(_) => self.stay(reply, again, now),
+            Due::AgainAt(_) => self.stay(reply, again, progress.out, now),
             Due::Never | Due::AskAt(_) => self.rest(),
         }
     }
@@ -297,7 +300,7 @@ impl Wait {
         ensures { self.new ≡ after_by self.old Again now }
     {
         self.misses += 1;
-        self.timing = Timing::Resent(now);
+        self.timing = Timing::Resent(now, Timing::EVERY);
         self.due = Due::AgainAt(later(now, self.length));
         self.length = self.pace.next_length(self.length);
     }

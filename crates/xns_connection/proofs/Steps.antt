@@ -8,6 +8,7 @@ use Rattle.courier_sessions.specs.declared.feed_refusal.FeedRefusal.{FeedRefusal
 use Rattle.xns_agenda.specs.Waiting.{HearsAt, StepsAt, Waiting, close, still, act_at, after_act, after_by, after_step, after_word, lingering}
 use Rattle.xns_agenda.specs.declared.act.Act.{Act}
 use Rattle.xns_agenda.specs.declared.act.Act.TheVariants.{Nothing, Again, Ask, GiveUp, Forget}
+use Rattle.xns_agenda.specs.declared.progress.Progress.{Progress}
 use Rattle.xns_spp.specs.Held.{Held, StandsFor}
 use Rattle.xns_spp.specs.Receiving.{after_receive, input_answer}
 use Rattle.xns_spp.specs.Sending.{tick_answer, waiting_count}
@@ -20,7 +21,7 @@ use Rattle.xns_connection.specs.Moving.{HasHistory, IsAt, Scene, Settles, is_cal
 use Rattle.xns_connection.specs.Replying.{reply_by}
 use Rattle.xns_connection.specs.Step.{May, MovesOwed, Step, WaitsBy, is_calm_then, parts_of}
 use Rattle.xns_connection.specs.Deeds.{Deed, Parts, acted, acted_by, given_up, heard, Moved, ClosesThen, GoesOnBy, closed_moved, done, given_up_by, is_starved, owed_by, owed_moved, shut, took, wait_by, wait_moved}
-use Rattle.xns_connection.specs.Telling.{is_over, is_progress, waits}
+use Rattle.xns_connection.specs.Telling.{is_over, progress, waits}
 use Rattle.xns_connection.specs.declared.connection.Connection.{Connection}
 use Rattle.xns_connection.specs.declared.conversation.Conversation.{Conversation}
 use Rattle.xns_connection.specs.declared.owed.Owed.{Owed}
@@ -190,36 +191,36 @@ owed_both false o m n same next = next refl
 abbrev owed_so : Owed → (word again : Bool) → Owed
 owed_so o word again = record o { word = word; again = again }
 
-pub owed_is_heard : (o m : Owed) (w : Waiting) (s : State) (b : List ℕ) (i : Input) (more left : Bool) (reply : Option ℕ) (now : ℕ) → i ≡ input_answer s b
-    → more ≡ is_progress s (after_receive s b) → left ≡ nat_lt 0 (unacknowledged_count (after_receive s b))
+pub owed_is_heard : (o m : Owed) (w : Waiting) (s : State) (b : List ℕ) (i : Input) (more : Progress) (left : Bool) (reply : Option ℕ) (now : ℕ) → i ≡ input_answer s b
+    → more ≡ progress s (after_receive s b) → left ≡ nat_lt 0 (unacknowledged_count (after_receive s b))
     → reply ≡ reply_by (after_receive s b) b → (is_foreign i.dropped ≡ true → m ≡ o)
-    → (is_foreign i.dropped ≡ false → m ≡ record o { word = o.word || i.owes_reply; again = o.again || again_for i.dropped more left reply w now })
+    → (is_foreign i.dropped ≡ false → m ≡ record o { word = o.word || i.owes_reply; again = o.again || again_for i.dropped more.acknowledged left reply w now })
     → m ≡ owed_heard o w s b now
-owed_is_heard o m w s b i more left reply now is progress some says same next =
+owed_is_heard o m w s b i more left reply now is moves some says same next =
     let drops : is_foreign i.dropped ≡ is_foreign (input_answer s b).dropped = ap (λ (x : Input). is_foreign x.dropped) is in
     owed_both (is_foreign (input_answer s b).dropped) o m (owed_so o (o.word || (input_answer s b).owes_reply) (o.again || goes_again w s b now))
     (λ yes. same (drops ∙ yes))
-    (λ z. next (drops ∙ z) ∙ ap (λ (x : Input). owed_so o (o.word || x.owes_reply) (o.again || again_for x.dropped more left reply w now)) is
-    ∙ ap (λ (x : Bool). owed_so o (o.word || (input_answer s b).owes_reply) (o.again || again_for (input_answer s b).dropped x left reply w now)) progress
-    ∙ ap (λ (x : Bool). owed_so o (o.word || (input_answer s b).owes_reply) (o.again || again_for (input_answer s b).dropped (is_progress s (after_receive s b)) x reply w now)) some
-    ∙ ap (λ (x : Option ℕ). owed_so o (o.word || (input_answer s b).owes_reply) (o.again || again_for (input_answer s b).dropped (is_progress s (after_receive s b)) (nat_lt 0 (unacknowledged_count (after_receive s b))) x w now)) says)
+    (λ z. next (drops ∙ z) ∙ ap (λ (x : Input). owed_so o (o.word || x.owes_reply) (o.again || again_for x.dropped more.acknowledged left reply w now)) is
+    ∙ ap (λ (x : Progress). owed_so o (o.word || (input_answer s b).owes_reply) (o.again || again_for (input_answer s b).dropped x.acknowledged left reply w now)) moves
+    ∙ ap (λ (x : Bool). owed_so o (o.word || (input_answer s b).owes_reply) (o.again || again_for (input_answer s b).dropped (progress s (after_receive s b)).acknowledged x reply w now)) some
+    ∙ ap (λ (x : Option ℕ). owed_so o (o.word || (input_answer s b).owes_reply) (o.again || again_for (input_answer s b).dropped (progress s (after_receive s b)).acknowledged (nat_lt 0 (unacknowledged_count (after_receive s b))) x w now)) says)
 
 wait_both : (foreign : Bool) (w v x : Waiting) → (foreign ≡ true → v ≡ w) → (foreign ≡ false → v ≡ x) → v ≡ (if foreign then w else x)
 wait_both true w v x same after = same refl
 wait_both false w v x same after = after refl
 
-pub wait_is_heard : (w v : Waiting) (s : State) (b : List ℕ) (i : Input) (more left : Bool) (reply : Option ℕ) (now : ℕ) → i ≡ input_answer s b
-    → more ≡ is_progress s (after_receive s b) → left ≡ nat_lt 0 (unacknowledged_count (after_receive s b))
+pub wait_is_heard : (w v : Waiting) (s : State) (b : List ℕ) (i : Input) (more : Progress) (left : Bool) (reply : Option ℕ) (now : ℕ) → i ≡ input_answer s b
+    → more ≡ progress s (after_receive s b) → left ≡ nat_lt 0 (unacknowledged_count (after_receive s b))
     → reply ≡ reply_by (after_receive s b) b → (is_foreign i.dropped ≡ true → v ≡ w)
-    → (is_foreign i.dropped ≡ false → v ≡ after_word w more reply (again_for i.dropped more left reply w now) now) → v ≡ wait_heard w s b now
-wait_is_heard w v s b i more left reply now is progress some says same after =
+    → (is_foreign i.dropped ≡ false → v ≡ after_word w more reply (again_for i.dropped more.acknowledged left reply w now) now) → v ≡ wait_heard w s b now
+wait_is_heard w v s b i more left reply now is moves some says same after =
     let drops : is_foreign i.dropped ≡ is_foreign (input_answer s b).dropped = ap (λ (x : Input). is_foreign x.dropped) is in
-    wait_both (is_foreign (input_answer s b).dropped) w v (after_word w (is_progress s (after_receive s b)) (reply_by (after_receive s b) b) (goes_again w s b now) now)
+    wait_both (is_foreign (input_answer s b).dropped) w v (after_word w (progress s (after_receive s b)) (reply_by (after_receive s b) b) (goes_again w s b now) now)
     (λ yes. same (drops ∙ yes))
-    (λ z. after (drops ∙ z) ∙ ap (λ (x : Input). after_word w more reply (again_for x.dropped more left reply w now) now) is
-    ∙ ap (λ (x : Bool). after_word w x reply (again_for (input_answer s b).dropped x left reply w now) now) progress
-    ∙ ap (λ (x : Bool). after_word w (is_progress s (after_receive s b)) reply (again_for (input_answer s b).dropped (is_progress s (after_receive s b)) x reply w now) now) some
-    ∙ ap (λ (x : Option ℕ). after_word w (is_progress s (after_receive s b)) x (again_for (input_answer s b).dropped (is_progress s (after_receive s b)) (nat_lt 0 (unacknowledged_count (after_receive s b))) x w now) now) says)
+    (λ z. after (drops ∙ z) ∙ ap (λ (x : Input). after_word w more reply (again_for x.dropped more.acknowledged left reply w now) now) is
+    ∙ ap (λ (x : Progress). after_word w x reply (again_for (input_answer s b).dropped x.acknowledged left reply w now) now) moves
+    ∙ ap (λ (x : Bool). after_word w (progress s (after_receive s b)) reply (again_for (input_answer s b).dropped (progress s (after_receive s b)).acknowledged x reply w now) now) some
+    ∙ ap (λ (x : Option ℕ). after_word w (progress s (after_receive s b)) x (again_for (input_answer s b).dropped (progress s (after_receive s b)).acknowledged (nat_lt 0 (unacknowledged_count (after_receive s b))) x w now) now) says)
 
 -- ---- what is due
 

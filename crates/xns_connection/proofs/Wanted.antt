@@ -28,11 +28,11 @@ use Rattle.xns_connection.specs.declared.why.Why.TheVariants.{NotServed}
 
 -- what the waits promise
 abbrev Asks : Type 0
-Asks = (w : Waiting) (b : Bool) (now : ℕ) → is_some (due_time (after_step w b true now).due) ≡ true
+Asks = (w : Waiting) (b : Option ℕ) (now : ℕ) → is_some (due_time (after_step w b true now).due) ≡ true
 
 -- ---- what moves
 
-after_one : Asks → (w v : Waiting) (b wants : Bool) (now : ℕ) → v ≡ after_step w b wants now → wants ≡ true → is_some (due_time v.due) ≡ true
+after_one : Asks → (w v : Waiting) (b : Option ℕ) (wants : Bool) (now : ℕ) → v ≡ after_step w b wants now → wants ≡ true → is_some (due_time v.due) ≡ true
 after_one asks w v b true now is wanted = ap (λ (u : Waiting). is_some (due_time u.due)) is ∙ asks w b now
 after_one asks w v b false now is wanted = absurd (cc)
 

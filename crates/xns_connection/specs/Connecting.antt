@@ -13,8 +13,8 @@ use Rattle.xns_spp.specs.declared.dropped.Dropped.{Dropped}
 use Rattle.xns_spp.specs.declared.dropped.Dropped.TheVariants as drops
 use Rattle.xns_connection.specs.Closing.{drains, end_stream, end_reply_stream}
 use Rattle.xns_connection.specs.Replying.{reply_by}
-use Rattle.xns_connection.specs.Telling.{is_progress}
-use Rattle.xns_agenda.specs.Measuring.{is_vain}
+use Rattle.xns_connection.specs.Telling.{progress}
+use Rattle.xns_agenda.specs.Measuring.{mends}
 use Rattle.xns_agenda.specs.Waiting.{Waiting, after_word, is_overdue, is_third_reply}
 use Rattle.xns_agenda.specs.declared.act.Act.{Act}
 use Rattle.xns_agenda.specs.declared.act.Act.TheVariants.{Nothing, Again, Ask, GiveUp, Forget}
@@ -147,21 +147,21 @@ is_repeat (Some drops.OutOfOrder) = false
 is_repeat (Some drops.NoRoom) = false
 is_repeat (Some drops.Repeat) = true
 
--- the first item goes out again for a packet, where some item is left that is not acknowledged: the packet has more acknowledged after a wait
--- that was in vain; or the peer repeats an item, and what waits for the peer is overdue; or the peer says for the third time that it lacks the item
-abbrev pub again_for : Option Dropped → (more left : Bool) → (reply : Option ℕ) → Waiting → (now : ℕ) → Bool
-again_for dropped more left reply w now =
-    left && (if more then is_vain w.timing else is_third_reply w reply || (is_repeat dropped && is_overdue w now))
+-- the first item goes out again for a packet, where some item is left that is not acknowledged: the packet has more acknowledged, but not all
+-- that was out when something went out again; or the peer repeats an item, and what waits for the peer is overdue; or the peer says for the third time that it lacks the item
+abbrev pub again_for : Option Dropped → (acknowledged : ℕ) (left : Bool) → (reply : Option ℕ) → Waiting → (now : ℕ) → Bool
+again_for dropped acknowledged left reply w now =
+    left && (if nat_lt 0 acknowledged then mends w.measure w.pace w.timing acknowledged now else is_third_reply w reply || (is_repeat dropped && is_overdue w now))
 
 abbrev pub goes_again : Waiting → State → List ℕ → (now : ℕ) → Bool
-goes_again w s b now = again_for (input_answer s b).dropped (is_progress s (after_receive s b)) (nat_lt 0 (unacknowledged_count (after_receive s b)))
+goes_again w s b now = again_for (input_answer s b).dropped (progress s (after_receive s b)).acknowledged (nat_lt 0 (unacknowledged_count (after_receive s b)))
     (reply_by (after_receive s b) b) w now
 
 -- the waits of a connection, and what it owes, after these bytes came to its end, before anything moves
 abbrev pub wait_heard : Waiting → State → List ℕ → (now : ℕ) → Waiting
 wait_heard w s b now =
     if is_foreign (input_answer s b).dropped then w
-    else after_word w (is_progress s (after_receive s b)) (reply_by (after_receive s b) b) (goes_again w s b now) now
+    else after_word w (progress s (after_receive s b)) (reply_by (after_receive s b) b) (goes_again w s b now) now
 
 abbrev pub owed_heard : Owed → Waiting → State → List ℕ → (now : ℕ) → Owed
 owed_heard o w s b now =

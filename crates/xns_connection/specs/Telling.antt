@@ -1,14 +1,15 @@
 -- What a connection has done, with the closing exchange (XSIS 028112, Sequenced Packet Protocol, Termination).
-use Rattle.std.specs.Prelude.{◌≡◌, ◌≢◌, ◌<◌, ℕ, List, [], ◌++◌, Bool, true, false, not, ◌&&◌, ◌||◌, ◌==◌, nat_lt, if◌then◌else◌, length, take, drop, Option, None, Result, Ok, Err, is_ok}
+use Rattle.std.specs.Prelude.{◌≡◌, ◌≢◌, ◌<◌, ℕ, ◌-◌, List, [], ◌++◌, Bool, true, false, not, ◌&&◌, ◌||◌, ◌==◌, nat_lt, if◌then◌else◌, length, take, drop, Option, Some, None, Result, Ok, Err, is_ok}
 use Rattle.std.specs.Option.{option_to_list}
 use Rattle.courier_sessions.specs.Answering.{has_items}
+use Rattle.xns_agenda.specs.declared.progress.Progress.{Progress}
 use Rattle.xns_spp.specs.Ends.{is_open}
 use Rattle.xns_spp.specs.Growth.{Begins}
 use Rattle.xns_spp.specs.Held.{Held, StandsFor}
 use Rattle.xns_spp.specs.Receiving.{after_receive}
 use Rattle.xns_spp.specs.Sending.{flush_answer, send_answer, waiting_count}
 use Rattle.xns_spp.specs.State.{State}
-use Rattle.xns_spp.specs.Telling.{told_answer, unacknowledged_count}
+use Rattle.xns_spp.specs.Telling.{out_count, told_answer, unacknowledged_count}
 use Rattle.courier_sessions.specs.declared.feed_refusal.FeedRefusal.{FeedRefusal}
 use Rattle.courier_sessions.specs.declared.feed_refusal.FeedRefusal.TheVariants.{NoMemory}
 use Rattle.xns_spp.specs.declared.item.Item.{Item}
@@ -37,8 +38,12 @@ abbrev pub HasSaidReply : Conversation → Type 0
 HasSaidReply t = owes_reply t ≡ true → (s : State) → StandsFor t.endpoint s → is_ok (send_answer s (closing_item end_reply_stream)) ≡ false
 
 -- something waits for the peer
-abbrev pub waits : State → Bool
-waits s = not (is_open s.ends) || nat_lt 0 (unacknowledged_count s)
+abbrev pub is_waiting : State → Bool
+is_waiting s = not (is_open s.ends) || nat_lt 0 (unacknowledged_count s)
+
+-- how many items are out, if something waits for the peer
+abbrev pub waits : State → Option ℕ
+waits s = if is_waiting s then Some (out_count s) else None
 
 -- the closing exchange is over, and its last item has arrived
 abbrev pub is_over : Closing → State → Bool
@@ -105,9 +110,12 @@ word_answer o s = if o.asks || o.word then told_answer s o.asks else None
 abbrev pub OwesRoom : (old new : Held) → (word : Bool) → Type 0
 OwesRoom old new word = (s v : State) → StandsFor old s → StandsFor new v → waiting_count v < waiting_count s → word ≡ true
 
--- a packet of the peer has more acknowledged, or opens the connection
-abbrev pub is_progress : State → State → Bool
-is_progress s v = nat_lt (unacknowledged_count v) (unacknowledged_count s) || (is_open v.ends && not (is_open s.ends))
+-- how many items a packet of the peer has acknowledged, where that it opens the connection counts as one, and how many are out then
+abbrev pub progress : State → State → Progress
+progress s v = record {
+  acknowledged = if is_open v.ends && not (is_open s.ends) then 1 else unacknowledged_count s - unacknowledged_count v;
+  out = out_count v;
+}
 
 -- the connection went on up to where no item can move between the side and its end, and no call is to be rejected
 pub record Calm (old new : Conversation) : Type 0 where

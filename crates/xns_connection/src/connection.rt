@@ -29,7 +29,7 @@ use crate::conversation::Conversation;
 use crate::owed::Owed;
 use crate::refusal::Refusal;
 use crate::replying::reply_of;
-use crate::settling::{is_of_another, is_progress, note, owed_after, settled, wait_unless};
+use crate::settling::{is_of_another, note, owed_after, progress_of, settled, wait_unless};
 use crate::why::Why;
 use crate::why_closed::{is_dead, why_given_up};
 use courier_messages::PiecedMessage;
@@ -95,12 +95,12 @@ impl Connection {
         if is_of_another(input.dropped) {
             return Ok(false);
         }
-        let more = is_progress(&self.conversation, before, was_open);
+        let progress = progress_of(&self.conversation, before, was_open);
         let left = self.conversation.endpoint.unacknowledged() > 0;
         let reply = reply_of(&self.conversation.endpoint, packet);
         note(
             input,
-            more,
+            progress,
             left,
             reply,
             &mut self.owed,

@@ -71,7 +71,7 @@ fn noted(closing: Closing, stream: u8) -> Closing
 
 impl Conversation {
     ghost use Rattle.xns_connection.specs.Reasons.{call_fault_of, answer_fault_of};
-    ghost use Rattle.xns_connection.specs.Telling.{is_over, owes_end, owes_reply, waits};
+    ghost use Rattle.xns_connection.specs.Telling.{is_over, is_waiting, owes_end, owes_reply, waits};
 
     /// A conversation in which nothing was said.
     pub fn new(alloc: Global, endpoint: Endpoint, side: Side) -> Conversation
@@ -285,11 +285,23 @@ impl Conversation {
     }
 
     /// Whether something waits for the peer: the connection is not open, or an item is not acknowledged.
-    pub fn waits(&self) -> bool
-        ensures value { (s : State) → StandsFor self.now.endpoint s → result ≡ waits s }
+    fn is_waiting(&self) -> bool
+        ensures value { (s : State) → StandsFor self.now.endpoint s → result ≡ is_waiting s }
         ensures tick { (s : State) → StandsFor self.now.endpoint s → result ≡ false → tick_answer s ≡ [] }
     {
         !self.endpoint.is_open() || self.endpoint.unacknowledged() > 0
+    }
+
+    /// How many items are out, if something waits for the peer.
+    pub fn waits(&self) -> Option<u64>
+        ensures value { (s : State) → StandsFor self.now.endpoint s → result ≡ waits s }
+        ensures tick { (s : State) → StandsFor self.now.endpoint s → result ≡ None → tick_answer s ≡ [] }
+    {
+        if self.is_waiting() {
+            Some(self.endpoint.out_count())
+        } else {
+            None
+        }
     }
 
     /// Whether a word of the peer is wanted, also where nothing waits for the peer: a call of the side's own wants its answer, or the program

@@ -1,6 +1,6 @@
 //! What becomes of a connection after something was done: its items move, and its timer and what it owes are set anew.
 
-ghost use Rattle.std.specs.Prelude.{◌≡◌, ◌≢◌, ◌<◌, ◌&&◌, ◌||◌, [], not, nat_lt, true, false};
+ghost use Rattle.std.specs.Prelude.{◌≡◌, ◌≢◌, ◌<◌, ◌-◌, ◌&&◌, ◌||◌, [], not, if◌then◌else◌, true, false};
 ghost use Rattle.std.specs.Prelude.{Some, None, Err};
 ghost use Rattle.courier_sessions.specs.declared.feed_refusal.FeedRefusal.TheVariants.{NoMemory};
 ghost use Rattle.std.specs.Option.{is_some};
@@ -13,7 +13,7 @@ ghost use Rattle.xns_connection.specs.Closing.{wants_word};
 ghost use Rattle.xns_connection.specs.Connecting.{FitsClosed, is_again, is_open_due, is_closed_due, why_after, owed_after, again_for, is_foreign, is_of_another, is_repeat};
 ghost use Rattle.xns_connection.specs.Moving.{HasHistory};
 ghost use Rattle.xns_connection.specs.Deeds.{ClosesThen, GoesOnBy, is_starved};
-ghost use Rattle.xns_connection.specs.Telling.{waits};
+ghost use Rattle.xns_connection.specs.Telling.{progress, waits};
 ghost use Rattle.xns_agenda.specs.Waiting.{StepsAt, after_step, after_word};
 ghost use Rattle.xns_agenda.specs.declared.act.Act.TheVariants.{GiveUp};
 
@@ -23,7 +23,7 @@ use crate::why::Why;
 use crate::why_closed::why_after;
 use courier_sessions::FeedRefusal;
 use std::alloc::Global;
-use xns_agenda::{Act, Wait};
+use xns_agenda::{Act, Progress, Wait};
 use xns_spp::{Dropped, Input};
 
 /// Whether a packet was dropped as one of another connection.
@@ -116,13 +116,26 @@ pub fn settled(
     after_moving(conversation, moved, closed, wait, now);
 }
 
-/// Whether a packet of the peer acknowledged more, or opened the connection.
-pub fn is_progress(conversation: &Conversation, before: usize, was_open: bool) -> bool
+/// How many items a packet of the peer acknowledged, where that it opened the connection counts as one.
+fn acknowledged(conversation: &Conversation, before: usize, was_open: bool) -> u64
     ensures { (s : State) → StandsFor conversation.now.endpoint s
-        → result ≡ nat_lt (unacknowledged_count s) before || (is_open s.ends && not was_open) }
+        → result ≡ (if is_open s.ends && not was_open then 1 else before - unacknowledged_count s) }
 {
-    conversation.endpoint.unacknowledged() < before
-        || (conversation.endpoint.is_open() && !was_open)
+    if conversation.endpoint.is_open() && !was_open {
+        return 1;
+    }
+    before.saturating_sub(conversation.endpoint.unacknowledged()) as u64
+}
+
+/// What a packet of the peer acknowledged, of so many items that were not, and how many are out then.
+pub fn progress_of(conversation: &Conversation, before: usize, was_open: bool) -> Progress
+    ensures { (s v : State) → before ≡ unacknowledged_count s → was_open ≡ is_open s.ends → StandsFor conversation.now.endpoint v
+        → result ≡ progress s v }
+{
+    Progress {
+        acknowledged: acknowledged(conversation, before, was_open),
+        out: conversation.endpoint.out_count(),
+    }
 }
 
 /// Whether a packet was dropped because its item came before.
@@ -132,33 +145,33 @@ fn is_repeat(dropped: Option<Dropped>) -> bool
     matches!(dropped, Some(Dropped::Repeat))
 }
 
-/// Whether the first item goes out again for a packet, where `more` says whether the packet has more acknowledged, or opens the connection,
-/// and `left` whether an item is still not acknowledged: after a wait that was in vain; for a repeat, where something is overdue; or for a
-/// reply, by its allocation number, that is the third in a row by which the peer lacks the item.
+/// Whether the first item goes out again for a packet, where `acknowledged` says how many items the packet has acknowledged, and `left`
+/// whether an item is still not: where something had gone out again, and not all is acknowledged that was out then; for a repeat, where
+/// something is overdue; or for a reply, by its allocation number, that is the third in a row by which the peer lacks the item.
 fn goes_again(
     dropped: Option<Dropped>,
-    more: bool,
+    acknowledged: u64,
     left: bool,
     reply: Option<u16>,
     wait: &Wait,
     now: u64,
 ) -> bool
-    ensures { result ≡ again_for dropped more left reply wait.now now }
+    ensures { result ≡ again_for dropped acknowledged left reply wait.now now }
 {
-    let may = if more {
-        wait.was_vain()
+    let may = if acknowledged > 0 {
+        wait.mends(acknowledged, now)
     } else {
         wait.is_third_reply(reply) || (is_repeat(dropped) && wait.is_overdue(now))
     };
     left && may
 }
 
-/// Records in the timer and in what the connection owes that a packet came. `more` says whether the packet acknowledges more, or opens the
-/// connection, and `left` whether an item is still not acknowledged. `reply` is the allocation number of a reply by which the peer lacks an
-/// item that is out; `None` of another packet.
+/// Records in the timer and in what the connection owes that a packet came. `progress` says what the packet acknowledges, and `left` whether an
+/// item is still not acknowledged. `reply` is the allocation number of a reply by which the peer lacks an item that is out; `None` of another
+/// packet.
 pub fn note(
     input: Input,
-    more: bool,
+    progress: Progress,
     left: bool,
     reply: Option<u16>,
     owed: &mut Owed,
@@ -167,10 +180,10 @@ pub fn note(
 )
     ensures foreign { is_foreign input.dropped ≡ true → (wait.new ≡ wait.old) × (owed.new ≡ owed.old) }
     ensures wait { is_foreign input.dropped ≡ false
-        → wait.new ≡ after_word wait.old more reply (again_for input.dropped more left reply wait.old now) now }
+        → wait.new ≡ after_word wait.old progress reply (again_for input.dropped progress.acknowledged left reply wait.old now) now }
     ensures owed { is_foreign input.dropped ≡ false → owed.new ≡ record owed.old {
       word = owed.old.word || input.owes_reply;
-      again = owed.old.again || again_for input.dropped more left reply wait.old now;
+      again = owed.old.again || again_for input.dropped progress.acknowledged left reply wait.old now;
     } }
     ensures open_due { is_open_due wait.old.due ≡ true → is_open_due wait.new.due ≡ true }
     ensures closed_due { is_closed_due wait.old.due ≡ true → is_closed_due wait.new.due ≡ true }
@@ -178,10 +191,10 @@ pub fn note(
     if is_foreign(input.dropped) {
         return;
     }
-    let again = goes_again(input.dropped, more, left, reply, wait, now);
+    let again = goes_again(input.dropped, progress.acknowledged, left, reply, wait, now);
     owed.word = owed.word || input.owes_reply;
     owed.again = owed.again || again;
-    wait.hear(more, reply, again, now);
+    wait.hear(progress, reply, again, now);
 }
 
 /// What a connection owes after an act.

@@ -8,6 +8,7 @@ use Rattle.xns_agenda.specs.Waiting.{Waiting, StepsAt, still, step, close, Hears
 use Rattle.xns_agenda.specs.declared.act.Act.{Act}
 use Rattle.xns_agenda.specs.declared.act.Act.TheVariants.{Nothing, GiveUp, Forget}
 use Rattle.xns_agenda.specs.declared.due.Due.{Due}
+use Rattle.xns_agenda.specs.declared.progress.Progress.{Progress}
 use Rattle.xns_agenda.specs.declared.due.Due.TheVariants.{Never, AgainAt, AskAt, ForgetAt}
 use Rattle.xns_connection.specs.Connecting.{is_closed_due, is_dead}
 use Rattle.xns_host.specs.Hosting.{HasNoneDone, IsApart, IsNotDone, IsNotDoneIn, is_lingering, may_go}
@@ -25,11 +26,11 @@ Places = List (Option Guest)
 
 -- ---- what lingers lingers on
 
-linger_on : (w : Waiting) (d : Due) (now : ℕ) → is_lingering d ≡ true → is_lingering w.due ≡ true → is_lingering (waiting_on w d now).due ≡ true
-linger_on w Never now is at = absurd (cc)
-linger_on w (AgainAt t) now is at = absurd (cc)
-linger_on w (AskAt t) now is at = absurd (cc)
-linger_on w (ForgetAt t) now is at = at
+linger_on : (w : Waiting) (d : Due) (out now : ℕ) → is_lingering d ≡ true → is_lingering w.due ≡ true → is_lingering (waiting_on w d out now).due ≡ true
+linger_on w Never out now is at = absurd (cc)
+linger_on w (AgainAt t) out now is at = absurd (cc)
+linger_on w (AskAt t) out now is at = absurd (cc)
+linger_on w (ForgetAt t) out now is at = at
 
 linger_idle : (w : Waiting) (d : Due) (wants : Bool) → is_lingering d ≡ true → is_lingering w.due ≡ true → is_lingering (idling w d wants).due ≡ true
 linger_idle w Never wants is at = absurd (cc)
@@ -37,29 +38,29 @@ linger_idle w (AgainAt t) wants is at = absurd (cc)
 linger_idle w (AskAt t) wants is at = absurd (cc)
 linger_idle w (ForgetAt t) wants is at = at
 
-linger_step : (w : Waiting) (b wants : Bool) (now : ℕ) → is_lingering w.due ≡ true → is_lingering (after_step w b wants now).due ≡ true
-linger_step w true wants now at = linger_on w w.due now at at
-linger_step w false wants now at = linger_idle w w.due wants at at
+linger_step : (w : Waiting) (b : Option ℕ) (wants : Bool) (now : ℕ) → is_lingering w.due ≡ true → is_lingering (after_step w b wants now).due ≡ true
+linger_step w (Some out) wants now at = linger_on w w.due out now at at
+linger_step w None wants now at = linger_idle w w.due wants at at
 
 lingers_on : (now : ℕ) (w : Waiting) {v : Waiting} → is_lingering w.due ≡ true → StepsAt now w v → is_lingering v.due ≡ true
 lingers_on now w at still = at
 lingers_on now w at (step {v = u} next b wants) = linger_step u b wants now (lingers_on now w at next)
 lingers_on now w at (close next) = refl
 
-linger_heard : (w : Waiting) (d : Due) (more : Bool) (reply : Option ℕ) (again : Bool) (now : ℕ) → is_lingering d ≡ true → is_lingering w.due ≡ true
-    → is_lingering (after_heard w d more reply again now).due ≡ true
-linger_heard w Never more reply again now is at = absurd (cc)
-linger_heard w (AgainAt t) more reply again now is at = absurd (cc)
-linger_heard w (AskAt t) more reply again now is at = absurd (cc)
-linger_heard w (ForgetAt t) more reply again now is at = at
+linger_heard : (w : Waiting) (d : Due) (progress : Progress) (reply : Option ℕ) (again : Bool) (now : ℕ) → is_lingering d ≡ true → is_lingering w.due ≡ true
+    → is_lingering (after_heard w d progress reply again now).due ≡ true
+linger_heard w Never progress reply again now is at = absurd (cc)
+linger_heard w (AgainAt t) progress reply again now is at = absurd (cc)
+linger_heard w (AskAt t) progress reply again now is at = absurd (cc)
+linger_heard w (ForgetAt t) progress reply again now is at = at
 
-linger_word : (w : Waiting) (more : Bool) (reply : Option ℕ) (again : Bool) (now : ℕ) → is_lingering w.due ≡ true
-    → is_lingering (after_word w more reply again now).due ≡ true
-linger_word w more reply again now at = linger_heard (record w { misses = 0; heard_at = now }) w.due more reply again now at at
+linger_word : (w : Waiting) (progress : Progress) (reply : Option ℕ) (again : Bool) (now : ℕ) → is_lingering w.due ≡ true
+    → is_lingering (after_word w progress reply again now).due ≡ true
+linger_word w progress reply again now at = linger_heard (record w { misses = 0; heard_at = now }) w.due progress reply again now at at
 
 hears_on : (now : ℕ) (w v : Waiting) → is_lingering w.due ≡ true → HearsAt now w v → is_lingering v.due ≡ true
 hears_on now w v at (no_word steps) = lingers_on now w at steps
-hears_on now w v at (word more reply again steps) = lingers_on now (after_word w more reply again now) (linger_word w more reply again now at) steps
+hears_on now w v at (word progress reply again steps) = lingers_on now (after_word w progress reply again now) (linger_word w progress reply again now at) steps
 
 -- whatever was done
 pub waits_on : (now : ℕ) (deed : Deed) (w v : Waiting) → is_lingering w.due ≡ true → WaitsBy deed now w v → is_lingering v.due ≡ true

@@ -8,13 +8,11 @@ use Rattle.xns_spp.specs.declared.dropped.Dropped.{Dropped}
 use Rattle.xns_connection.specs.Replying.{reply_by, reply_in}
 use Rattle.std.specs.Prelude.{nat_lt}
 use Rattle.xns_spp.specs.State.{State}
-use Rattle.xns_connection.specs.Connecting.{is_of_another}
 use Rattle.xns_connection.specs.Step.{is_ours_by, parts_of}
-use Rattle.xns_connection.specs.Telling.{is_progress}
+use Rattle.xns_connection.specs.Telling.{progress}
 use Rattle.xns_connection.specs.declared.conversation.Conversation.{Conversation}
 use Rattle.xns_connection.proofs.Belonging.{belongs, conversation_stays, stored_is_ours}
 use Rattle.xns_connection.proofs.Dues.{fits_same}
-use Rattle.xns_connection.proofs.Owing.{progress_is}
 use Rattle.xns_connection.proofs.Steps.{heard_by, heard_history, owed_is_heard, same_connection, same_history, wait_is_heard}
 use Rattle.xns_connection.proofs.connection.Connection.receive.Goals as goal
 
@@ -22,16 +20,16 @@ pub returns-clause-step : goal.returns-clause-step
 returns-clause-step c = λ yes b read.
     let k = c.in_ok-input.ensures in
     let n = c.note.ensures in
-    let more_is : (s : State) → StandsFor c.args.self.now.conversation.endpoint s → c.is_progress-more.result ≡ is_progress s (after_receive s b) = λ s stands.
-    progress_is s (after_receive s b) c.unacknowledged-before.result c.is_open-was_open.result c.is_progress-more.result (c.unacknowledged-before.ensures s stands) (c.is_open-was_open.ensures s stands)
-    (c.is_progress-more.ensures (after_receive s b) (k.stands s b stands read)) in
+    let more_is : (s : State) → StandsFor c.args.self.now.conversation.endpoint s → c.progress_of-progress.result ≡ progress s (after_receive s b) = λ s stands.
+    c.progress_of-progress.ensures s (after_receive s b) (c.unacknowledged-before.ensures s stands) (c.is_open-was_open.ensures s stands)
+    (k.stands s b stands read) in
     let says : (s : State) → StandsFor c.args.self.now.conversation.endpoint s → c.reply_of-reply.result ≡ reply_by (after_receive s b) b = λ s stands.
     c.reply_of-reply.ensures (after_receive s b) (k.stands s b stands read) ∙ ap (λ (r : Result SppPacketModel Dropped). reply_in (after_receive s b) r) (sym read) in
     heard_by c.args.now b c.args.self.now _ c.receive.new.self c.note.new.owed c.note.new.wait (λ s stands. k.stands s b stands read) (ap (λ (t : Conversation). t.side) k.rest) (ap (λ (t : Conversation). t.closing) k.rest)
-    (λ s stands. owed_is_heard c.args.self.now.owed c.note.new.owed c.args.self.now.wait s b c.in_ok-input.input c.is_progress-more.result (nat_lt 0 c.unacknowledged-left.result) c.reply_of-reply.result c.args.now
+    (λ s stands. owed_is_heard c.args.self.now.owed c.note.new.owed c.args.self.now.wait s b c.in_ok-input.input c.progress_of-progress.result (nat_lt 0 c.unacknowledged-left.result) c.reply_of-reply.result c.args.now
     (k.answer s b stands read) (more_is s stands) (ap (λ (n : ℕ). nat_lt 0 n) (c.unacknowledged-left.ensures (after_receive s b) (k.stands s b stands read))) (says s stands)
     (λ yes. (n.foreign yes).1) n.owed)
-    (λ s stands. wait_is_heard c.args.self.now.wait c.note.new.wait s b c.in_ok-input.input c.is_progress-more.result (nat_lt 0 c.unacknowledged-left.result) c.reply_of-reply.result c.args.now
+    (λ s stands. wait_is_heard c.args.self.now.wait c.note.new.wait s b c.in_ok-input.input c.progress_of-progress.result (nat_lt 0 c.unacknowledged-left.result) c.reply_of-reply.result c.args.now
     (k.answer s b stands read) (more_is s stands) (ap (λ (n : ℕ). nat_lt 0 n) (c.unacknowledged-left.ensures (after_receive s b) (k.stands s b stands read))) (says s stands) (λ yes. (n.foreign yes).0) n.wait)
     c.settled.ensures.moved (λ steps. hears_at _ _ _ _ _ _ _ _ (λ yes. (n.foreign yes).0) n.wait steps) (ap (λ (t : Conversation). t.packets) k.rest) refl
 
