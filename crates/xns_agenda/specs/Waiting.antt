@@ -106,9 +106,9 @@ is_overdue w now = overdue_by w w.due now
 abbrev pub resent : Waiting → ℕ → Waiting
 resent w now = record (begun AgainAt (rested w) now) { timing = Resent now }
 
--- how long the peer took is learnt, and what it lacks then is another item
-abbrev pub taught : Waiting → ℕ → Waiting
-taught w now = record w { measure = learnt w.measure w.pace w.timing now; timing = Over; replies = none.NONE }
+-- how long the peer took is learnt, and what it lacks then is another item; `again`: the first item that is left goes out again
+abbrev pub taught : Waiting → (again : Bool) → ℕ → Waiting
+taught w again now = record w { measure = learnt w.measure w.pace w.timing again now; timing = Over; replies = none.NONE }
 
 -- the peer says by a reply with this allocation number that it lacks the first item that is out
 abbrev pub counting : Waiting → (allocation : ℕ) → Waiting
@@ -138,7 +138,7 @@ unmoved w (Some allocation) false now = counting w allocation
 
 abbrev pub after_heard : Waiting → Due → (more : Bool) (reply : Option ℕ) (again : Bool) → ℕ → Waiting
 after_heard w Never more reply again now = rested w
-after_heard w (AgainAt t) true reply again now = rested (taught w now)
+after_heard w (AgainAt t) true reply again now = rested (taught w again now)
 after_heard w (AgainAt t) false reply again now = unmoved w reply again now
 after_heard w (AskAt t) more reply again now = rested w
 after_heard w (ForgetAt t) more reply again now = w

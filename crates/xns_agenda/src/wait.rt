@@ -200,12 +200,12 @@ impl Wait {
         }
     }
 
-    /// Learns how long the peer took to acknowledge more.
-    fn learn(&mut self, now: u64)
+    /// Learns how long the peer took to acknowledge more, where `again` says whether the first item that is left goes out again.
+    fn learn(&mut self, again: bool, now: u64)
         requires { self.old.misses ≡ 0 }
-        ensures { self.new ≡ taught self.old now }
+        ensures { self.new ≡ taught self.old again now }
     {
-        self.measure = self.measure.learnt(&self.pace, self.timing, now);
+        self.measure = self.measure.learnt(&self.pace, self.timing, again, now);
         self.timing = Timing::Over;
         self.replies = Replies::NONE;
     }
@@ -254,7 +254,7 @@ impl Wait {
         match self.due {
             Due::ForgetAt(_) => {}
             Due::AgainAt(_) if more => {
-                self.learn(now);
+                self.learn(again, now);
                 self.rest();
             }
             Due::AgainAt(_) => self.stay(reply, again, now),
