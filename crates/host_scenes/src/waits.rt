@@ -51,7 +51,7 @@ const FAR: Phase = Phase {
     distance: Some(250),
 };
 
-pub const ALL: [Scene; 18] = [
+pub const ALL: [Scene; 19] = [
     LONG,
     Scene {
         name: "the same, 1 in 10 lost",
@@ -98,6 +98,15 @@ pub const ALL: [Scene; 18] = [
         name: "200 short calls, 1 ms away, and 250 ms from 0.1 s on",
         calls: 200,
         phase: FAR,
+        ..SHORT
+    },
+    Scene {
+        name: "the same, and 100 ms",
+        calls: 200,
+        phase: Phase {
+            distance: Some(100),
+            ..FAR
+        },
         ..SHORT
     },
     Scene {

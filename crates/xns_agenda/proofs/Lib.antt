@@ -1,4 +1,5 @@
 mod Agendas
+mod Ambiguities
 mod Asking
 mod Beside
 mod Free

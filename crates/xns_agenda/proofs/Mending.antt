@@ -4,6 +4,7 @@ use Rattle.std.specs.Prelude.{nat_le, nat_lt, if◌then◌else◌}
 use Rattle.xns_agenda.specs.Measuring.{is_fit, is_vain, learnt, mends, sampled}
 use Rattle.xns_agenda.specs.declared.measure.Measure.{Measure}
 use Rattle.xns_agenda.specs.declared.pace.Pace.{Pace}
+use Rattle.xns_agenda.specs.declared.progress.Progress.{Progress}
 use Rattle.xns_agenda.specs.declared.timing.Timing.{Timing}
 use Rattle.xns_agenda.specs.declared.timing.Timing.TheVariants.{Ready, Timed, Resent, Over}
 use Rattle.xns_agenda.proofs.Repeats.{first_of}
@@ -29,7 +30,7 @@ kept false m n later = refl
 not_yet : (place acknowledged : ℕ) → acknowledged < place → nat_le place acknowledged ≡ false
 not_yet place acknowledged before = grind arith
 
-pub only_its_own : (m : Measure) (pace : Pace) (since place acknowledged now : ℕ) → acknowledged < place
-    → learnt m pace (Timed since place) acknowledged now ≡ m
-only_its_own m pace since place acknowledged now before =
-    kept (nat_le place acknowledged) m (sampled m pace (now - since)) (not_yet place acknowledged before)
+pub only_its_own : (m : Measure) (pace : Pace) (since place now : ℕ) (progress : Progress) → progress.acknowledged < place
+    → learnt m pace (Timed since place) progress now ≡ m
+only_its_own m pace since place now progress before =
+    kept (nat_le place progress.acknowledged) m (sampled m pace (now - since)) (not_yet place progress.acknowledged before)

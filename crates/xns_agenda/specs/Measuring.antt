@@ -1,5 +1,5 @@
 -- How long a peer takes to acknowledge, as it is measured, and how long is waited by that. Times are in milliseconds.
-use Rattle.std.specs.Prelude.{ℕ, zero, suc, ◌+◌, ◌-◌, ◌*◌, ◌/◌, ◌^◌, ◌≤◌, Bool, true, false, ◌&&◌, ◌==◌, nat_le, nat_lt, min, max, if◌then◌else◌, Option, Some, None}
+use Rattle.std.specs.Prelude.{◌≡◌, ℕ, zero, suc, ◌+◌, ◌-◌, ◌*◌, ◌/◌, ◌^◌, ◌≤◌, Bool, true, false, not, ◌&&◌, ◌==◌, nat_le, nat_lt, min, max, if◌then◌else◌, Option, Some, None}
 use Rattle.std.specs.Int.{abs_diff}
 use Rattle.xns_agenda.specs.declared.measure.Measure.{Measure}
 use Rattle.xns_agenda.specs.declared.pace.Pace.{Pace}
@@ -65,18 +65,32 @@ is_expected o pace passed = nat_le (expected_from o pace) passed && nat_le passe
 -- ---- what is learnt where the peer acknowledges more, or opens the connection
 
 abbrev pub sampled : Measure → Pace → (passed : ℕ) → Measure
-sampled m pace passed = record { smoothed = Some (smoothed_by m.smoothed (min passed pace.longest)); doubts = 0 }
+sampled m pace passed = record { smoothed = Some (smoothed_by m.smoothed (min passed pace.longest)); doubts = 0; ambiguous = 0 }
 
-abbrev pub doubted : Measure → Pace → (passed : ℕ) → Measure
-doubted m pace passed = if is_expected m.smoothed pace passed then m else record m { doubts = min (m.doubts + 1) 255 }
+-- so many ambiguous acknowledgements, between which no time was measured, say that the waits are too short
+abbrev pub most_ambiguous : ℕ
+most_ambiguous = 8
+
+-- an ambiguous acknowledgement is one of all that was out, and may be of what went out first or of what went out again; the last one that
+-- is counted is a doubt, the third one at least
+abbrev pub ambiguously : Measure → Measure
+ambiguously m =
+    if nat_lt (m.ambiguous + 1) most_ambiguous then record m { ambiguous = m.ambiguous + 1 }
+    else record m { doubts = min (max m.doubts 2 + 1) 255; ambiguous = 0 }
+
+-- `left`: something of ours is still not acknowledged
+abbrev pub doubted : Measure → Pace → (left : Bool) (passed : ℕ) → Measure
+doubted m pace left passed =
+    if not (is_expected m.smoothed pace passed) then record m { doubts = min (m.doubts + 1) 255 }
+    else if left then m else ambiguously m
 
 -- how long the peer took is measured where it acknowledges the item that is timed, and nothing went out again; where something did, it is
 -- doubted that the wait was long enough, unless the peer may have acknowledged what went out again
-abbrev pub learnt : Measure → Pace → Timing → (acknowledged now : ℕ) → Measure
-learnt m pace Ready acknowledged now = m
-learnt m pace (Timed since place) acknowledged now = if nat_le place acknowledged then sampled m pace (now - since) else m
-learnt m pace (Resent at missing) acknowledged now = doubted m pace (now - at)
-learnt m pace (Over out) acknowledged now = m
+abbrev pub learnt : Measure → Pace → Timing → Progress → (now : ℕ) → Measure
+learnt m pace Ready progress now = m
+learnt m pace (Timed since place) progress now = if nat_le place progress.acknowledged then sampled m pace (now - since) else m
+learnt m pace (Resent at missing) progress now = doubted m pace (nat_lt 0 progress.out) (now - at)
+learnt m pace (Over out) progress now = m
 
 -- where the peer acknowledges so many items, the next one that it lacks goes out again: something had gone out again, which may be what it
 -- acknowledges, and not all is acknowledged that was out then
@@ -85,6 +99,12 @@ mends m pace Ready acknowledged now = false
 mends m pace (Timed since place) acknowledged now = false
 mends m pace (Resent at missing) acknowledged now = nat_lt acknowledged missing && is_fit m.smoothed pace (now - at)
 mends m pace (Over out) acknowledged now = false
+
+-- from one measure to another there come so many ambiguous acknowledgements, and no time is measured
+pub data Ambiguous (m : Measure) (pace : Pace) : ℕ → Measure → Type 0 where
+  here : Ambiguous m pace 0 m
+  one : {n : ℕ} {k : Measure} → Ambiguous m pace n k → (passed : ℕ) → is_expected k.smoothed pace passed ≡ true
+      → Ambiguous m pace (n + 1) (doubted k pace false passed)
 
 -- ---- what is timed
 

@@ -111,7 +111,7 @@ resent w out now = record (begun AgainAt (rested w) now) { timing = Resent now o
 -- how long the peer took is learnt, and what it lacks then is another item
 abbrev pub taught : Waiting → Progress → (again : Bool) → ℕ → Waiting
 taught w progress again now = record w {
-  measure = learnt w.measure w.pace w.timing progress.acknowledged now;
+  measure = learnt w.measure w.pace w.timing progress now;
   timing = moved_on w.timing progress again now;
   replies = none.NONE;
 }

@@ -3,7 +3,7 @@
 ghost use Rattle.std.specs.Prelude.{◌≡◌, ◌≤◌, ◌<◌, ◌+◌, ◌-◌, ◌*◌, ◌/◌, ℕ, Bool, Option, true};
 ghost use Rattle.std.specs.Option.{is_some};
 ghost use Rattle.xns_agenda.specs.Clock.{by_told, day, time_at, told_at};
-ghost use Rattle.xns_agenda.specs.Measuring.{borne, first_smoothed, first_wait, is_vain, learnt, mends, most_borne, moved_on, next_length, smoothed_on, soonest, waits_time};
+ghost use Rattle.xns_agenda.specs.Measuring.{Ambiguous, borne, first_smoothed, first_wait, is_vain, learnt, mends, most_ambiguous, most_borne, moved_on, next_length, smoothed_on, soonest, waits_time};
 ghost use Rattle.xns_agenda.specs.declared.measure.Measure.{Measure};
 ghost use Rattle.xns_agenda.specs.declared.measure.TheConstants.Measure.{NONE};
 ghost use Rattle.xns_agenda.specs.declared.pace.Pace.{Pace};
@@ -45,8 +45,8 @@ pub fn what_was_out_is_mended()
     ensures out { (m : Measure) (pace : Pace) (at missing acknowledged now : ℕ) → mends m pace (Resent at missing) acknowledged now ≡ true
         → acknowledged < missing }
     ensures said { (timing : Timing) (progress : Progress) (now : ℕ) → moved_on timing progress true now ≡ Resent now progress.out }
-    ensures timed { (m : Measure) (pace : Pace) (since place acknowledged now : ℕ) → acknowledged < place
-        → learnt m pace (Timed since place) acknowledged now ≡ m }
+    ensures timed { (m : Measure) (pace : Pace) (since place now : ℕ) (progress : Progress) → progress.acknowledged < place
+        → learnt m pace (Timed since place) progress now ≡ m }
 {}
 
 /// While a word of the peer is wanted, as for a call that wants its answer, the connection never waits for ever: something is due at a time.
@@ -82,6 +82,12 @@ pub fn a_wait_is_measured()
     ensures steady { (s : Smoothed) (time : ℕ) → s.time8 ≡ 8 * time → (smoothed_on s time).time8 ≡ 8 * time }
     ensures once { (time least : ℕ) → soonest (first_smoothed time) least ≡ 0 }
     ensures near { (s : Smoothed) (least : ℕ) → s.time8 / 8 ≤ 2 * least → soonest s least ≡ 0 }
+{}
+
+/// No item goes out twice for ever because each wait is too short: after eight ambiguous acknowledgements, between which no time is measured,
+/// each wait begins as the pace's first one at least. What is acknowledged within it is measured.
+pub fn a_wait_is_not_too_short_for_ever()
+    ensures { (m k : Measure) (pace : Pace) → m.ambiguous < most_ambiguous → Ambiguous m pace most_ambiguous k → pace.first ≤ first_wait k pace }
 {}
 
 /// How long a silent peer is borne. One packet goes out after each wait but the last, and the waits together take at least the patience

@@ -1,9 +1,10 @@
 //! How long is waited, by what was measured.
 
 ghost use Rattle.std.specs.Prelude.{◌≡◌, ◌≤◌, ◌+◌, ◌-◌, Some, None, IfSome};
-ghost use Rattle.xns_agenda.specs.Measuring.{IsBounded, borne, doubted, doubted_wait, expected, expected_from, first_wait, is_expected, is_fit, learnt, mends, most_borne, sampled, smoothed_by};
+ghost use Rattle.xns_agenda.specs.Measuring.{IsBounded, ambiguously, borne, doubted, doubted_wait, expected, expected_from, first_wait, is_expected, is_fit, learnt, mends, most_borne, sampled, smoothed_by};
 
 use crate::pace::Pace;
+use crate::progress::Progress;
 use crate::smoothed::Smoothed;
 use crate::timing::Timing;
 
@@ -14,6 +15,9 @@ pub struct Measure {
     pub smoothed: Option<Smoothed>,
     /// How often something went out again, perhaps too early, since a time was measured.
     pub doubts: u8,
+    /// How many acknowledgements of all that was out were ambiguous since a time was measured: each may be of what went out first, or of what
+    /// went out again. At the eighth the count begins anew, and is a doubt.
+    pub ambiguous: u8,
 }
 
 /// By so many doubts at least so long is waited.
@@ -37,7 +41,11 @@ impl Measure {
     pub const NONE: Measure = Measure {
         smoothed: None,
         doubts: 0,
+        ambiguous: 0,
     };
+
+    /// So many ambiguous acknowledgements are a doubt.
+    const MOST_AMBIGUOUS: u8 = 8;
 
     /// The most packets that are borne: so many are counted by 16 bits.
     pub const MOST_BORNE: u16 = u16::MAX;
@@ -84,6 +92,7 @@ impl Measure {
         Measure {
             smoothed: Some(smoothed),
             doubts: 0,
+            ambiguous: 0,
         }
     }
 
@@ -125,33 +134,51 @@ impl Measure {
         }
     }
 
-    /// After the peer acknowledged what had gone out again so long ago, or what had gone out before.
-    fn doubted(self, pace: &Pace, passed: u64) -> Measure
-        requires { IfSome self.smoothed IsBounded }
-        ensures value { result ≡ doubted self pace.now passed }
-        ensures bounded { IfSome result.smoothed IsBounded }
+    /// After one more ambiguous acknowledgement.
+    fn ambiguously(self) -> Measure
+        ensures { result ≡ ambiguously self }
     {
-        if self.is_expected(pace, passed) {
-            return self;
+        if self.ambiguous < Measure::MOST_AMBIGUOUS - 1 {
+            return Measure {
+                ambiguous: self.ambiguous + 1,
+                ..self
+            };
         }
         Measure {
-            smoothed: self.smoothed,
-            doubts: self.doubts.saturating_add(1),
+            doubts: self.doubts.max(2).saturating_add(1),
+            ambiguous: 0,
+            ..self
         }
     }
 
-    /// What is known once the peer acknowledges so many more, or opens the connection.
-    pub fn learnt(self, pace: &Pace, timing: Timing, acknowledged: u64, now: u64) -> Measure
+    /// After the peer acknowledged what had gone out again so long ago, or what had gone out before. `left` says whether something is still
+    /// not acknowledged.
+    fn doubted(self, pace: &Pace, left: bool, passed: u64) -> Measure
         requires { IfSome self.smoothed IsBounded }
-        ensures value { result ≡ learnt self pace.now timing acknowledged now }
+        ensures value { result ≡ doubted self pace.now left passed }
+        ensures bounded { IfSome result.smoothed IsBounded }
+    {
+        if !self.is_expected(pace, passed) {
+            return Measure {
+                doubts: self.doubts.saturating_add(1),
+                ..self
+            };
+        }
+        if left { self } else { self.ambiguously() }
+    }
+
+    /// What is known once the peer acknowledges so many more, or opens the connection.
+    pub fn learnt(self, pace: &Pace, timing: Timing, progress: Progress, now: u64) -> Measure
+        requires { IfSome self.smoothed IsBounded }
+        ensures value { result ≡ learnt self pace.now timing progress now }
         ensures bounded { IfSome result.smoothed IsBounded }
     {
         match timing {
-            Timing::Timed(since, place) if place <= acknowledged => self.sampled(
+            Timing::Timed(since, place) if place <= progress.acknowledged => self.sampled(
                 pace,
                 now.saturating_sub(since),
             ),
-            Timing::Resent(at, _) => self.doubted(pace, now.saturating_sub(at)),
+            Timing::Resent(at, _) => self.doubted(pace, progress.out > 0, now.saturating_sub(at)),
             Timing::Ready | Timing::Timed(_, _) | Timing::Over(_) => self,
         }
     }

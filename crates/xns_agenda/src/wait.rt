@@ -209,9 +209,7 @@ impl Wait {
         requires { self.old.misses ≡ 0 }
         ensures { self.new ≡ taught self.old progress again now }
     {
-        self.measure = self
-            .measure
-            .learnt(&self.pace, self.timing, progress.acknowledged, now);
+        self.measure = self.measure.learnt(&self.pace, self.timing, progress, now);
         self.timing = self.timing.moved_on(progress, again, now);
         self.replies = Replies::NONE;
     }
