@@ -1,7 +1,7 @@
 -- The items that are kept lie in the order of their numbers.
 use Rattle.std.proofs.Common.{◌≡◌, ◌∙◌, ap, sym, refl, subst, arith, ℕ, suc, ◌+◌, ◌<◌, ◌≤◌, ◌==◌, Bool, true, false, cond, List, [], ◌∷◌, length, get_or, Option, Some, None}
 use Rattle.std.specs.Prelude.{nat_lt, ◌||◌, slice_get}
-use Rattle.std.specs.List.{list_any}
+use Rattle.std.specs.List.{insert, list_any}
 use Rattle.std.proofs.lemmas.Bool.Decides.{nat_tests}
 use Rattle.std.proofs.lemmas.Option.{slice_get_past, slice_get_read}
 use Rattle.xns_calls.specs.declared.carried.Carried.{Carried}
@@ -29,6 +29,20 @@ kept_from n k item (e ∷ rest) ordered le =
 -- one more is kept
 pub kept_ordered : (k : ℕ) (item : Carried) (es : List Early) → AreOrdered 0 es → AreOrdered 0 (kept k item es)
 kept_ordered k item es ordered = kept_from 0 k item es ordered (omega arith)
+
+-- where none has a number below it, it comes first
+pub kept_before : (k : ℕ) (item : Carried) (es : List Early) → 0 ≡ below k es → record { number = k; item = item } ∷ es ≡ kept k item es
+kept_before k item es none = ap (λ (i : ℕ). insert es i (record { number = k; item = item })) none
+
+first_ordered : (k : ℕ) (item : Carried) (es : List Early) → AreOrdered 0 es → 0 ≡ below k es → AreOrdered 0 (record { number = k; item = item } ∷ es)
+first_ordered k item es ordered none = subst (AreOrdered 0) (sym (kept_before k item es none)) (kept_ordered k item es ordered)
+
+-- it comes first, or nothing changes
+pub kept_or_same : (p : Bool) (k : ℕ) (item : Carried) (es seen now : List Early) → AreOrdered 0 es → es ≡ seen → 0 ≡ below k seen
+    → now ≡ cond p (record { number = k; item = item } ∷ es) es → AreOrdered 0 now
+kept_or_same true k item es seen now ordered same none is =
+    subst (AreOrdered 0) (sym is) (first_ordered k item es ordered (none ∙ ap (below k) (sym same)))
+kept_or_same false k item es seen now ordered same none is = subst (AreOrdered 0) (sym is) ordered
 
 -- ---- whether one has a number
 

@@ -24,7 +24,7 @@ use std::alloc::{AllocError, Global};
 use xns_idp::Packet;
 use xns_lines::Page;
 use xns_spp::control::SYSTEM;
-use xns_spp::{Header, Item, MOST_PENDING};
+use xns_spp::{Header, MOST_PENDING};
 
 /// Brings a flow to a number, if it has begun.
 #[tactic(auto, unfolding(crate::specs::Exchange::advanced))]
@@ -147,7 +147,7 @@ fn take_new(
         return Ok(());
     };
     let item = Carried {
-        item: Item::carried(scratch.alloc, header, content)?,
+        item: scratch.item_of(header, content)?,
         acknowledged,
         line: heading.origin.number,
     };

@@ -168,6 +168,7 @@ impl KeptSide {
     }
 
     /// Takes a packet of this flow, beside the one that began before. Memory is refused only where [`take_packet`] may refuse it.
+    #[inline(always)]
     pub fn take(
         &mut self,
         scratch: &mut Scratch,
@@ -219,6 +220,7 @@ impl KeptSide {
     }
 
     /// Takes a packet of the flow that began before. Memory is refused only where [`take_packet`] may refuse it.
+    #[inline(always)]
     pub fn take_first(
         &mut self,
         scratch: &mut Scratch,

@@ -32,6 +32,7 @@ fn keeps_none(side: &Side) -> bool
 }
 
 /// Whether an item of that number comes next and waits for nothing, neither flow keeps one, and nothing takes effect of its own.
+#[inline(always)]
 fn is_alone(number: u64, own: &Track, other: &Side, due: Due, header: &Header) -> bool
     ensures { result ≡ is_alone_of due header.now number own.now other.now.track }
 {
@@ -42,6 +43,7 @@ fn is_alone(number: u64, own: &Track, other: &Side, due: Due, header: &Header) -
 }
 
 /// The number of a packet's item, where it is such an item.
+#[inline(always)]
 fn alone_number(own: &Side, other: &Side, due: Due, header: &Header) -> Option<u64>
     ensures value { result ≡ comes_next due header.now own.now.track other.now.track }
     ensures bound { IfSome result (λ number. number < most_numbers) }
@@ -57,6 +59,7 @@ fn alone_number(own: &Side, other: &Side, due: Due, header: &Header) -> Option<u
 
 /// Reads such an item where it lies.
 #[tactic(auto, unfolding(crate::specs::Read::read_once))]
+#[inline(always)]
 fn read_at_once(
     scratch: &mut Scratch,
     page: &mut Page,
@@ -89,8 +92,35 @@ fn read_at_once(
     )
 }
 
+/// Takes a packet of a flow that is no such item, and reads what can be read then.
+#[tactic(auto, using(crate::proofs::Wanted::take_wants))]
+#[inline(never)]
+fn take_waiting(
+    scratch: &mut Scratch,
+    page: &mut Page,
+    heading: &Heading<'_>,
+    own: &mut Side,
+    other: &mut Side,
+    due: Due,
+    packet: &Packet<'_>,
+    header: &Header,
+    content: &[u8],
+) -> Result<(), AllocError>
+    requires { comes_next due header.now own.now.track other.now.track ≡ None }
+    ensures front { page.new.text.front ≡ page.old.text.front }
+    ensures memory { OnErr result (wants_memory due header.now (scene own.old other.old page.old) ≡ true) }
+    ensures scene { OnOk result (scene own.new other.new page.new
+        ≡ handled heading.now due (packet_model packet.now) header.now content.now (scene own.old other.old page.old)) }
+{
+    take_kept(
+        scratch, page, heading, own, other, due, packet, header, content,
+    )?;
+    settle(scratch, page, heading, own, other, due.given)
+}
+
 /// Takes a packet of a flow, and reads what can be read then: the packet's own item where it lies, if that is all.
 #[tactic(auto, using(crate::proofs::Wanted::take_wants))]
+#[inline(always)]
 fn take_begun(
     scratch: &mut Scratch,
     page: &mut Page,
@@ -110,10 +140,9 @@ fn take_begun(
     if let Some(number) = alone_number(own, other, due, header) {
         return read_at_once(scratch, page, heading, own, other, number, header, content);
     }
-    take_kept(
+    take_waiting(
         scratch, page, heading, own, other, due, packet, header, content,
-    )?;
-    settle(scratch, page, heading, own, other, due.given)
+    )
 }
 
 /// Whether a data packet begins its flow, and the flow behind keeps nothing.
@@ -126,6 +155,7 @@ fn begins_first(own: &Side, other: &Side, header: &Header) -> bool
 
 /// Takes a packet that begins its flow, where the flow behind keeps nothing: the flow begins first.
 #[tactic(auto, using(crate::proofs::AtOnce::first_wants))]
+#[inline(never)]
 fn take_first(
     scratch: &mut Scratch,
     page: &mut Page,
@@ -151,6 +181,7 @@ fn take_first(
 
 /// Takes a packet of a flow, and reads what can be read then. Memory is refused only where what takes effect brings a flow on, where its
 /// flow begins, where its item is no repeat, or where an item can be read.
+#[inline(always)]
 pub fn take_packet(
     scratch: &mut Scratch,
     page: &mut Page,

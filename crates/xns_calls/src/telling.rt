@@ -55,6 +55,7 @@ pub fn tell(
 }
 
 /// Prints a message that came in one piece. A call waits for its answer then, and the call of an answer no longer.
+#[inline(always)]
 pub fn tell_whole(
     scratch: &mut Scratch,
     report: &mut Report,
