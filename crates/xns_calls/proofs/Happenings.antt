@@ -161,7 +161,7 @@ taken_step n m i b q packet f content c k t numbered there on = by_number (m == 
 
 -- ---- what is read then
 
--- of its own connection
+-- what is then read of the connection of the packet
 near_settled : (n : Origin) (i : ℕ) (b q : Bool) (c : Connection) (k : Known) (t : Told) → slice_get k.connections i ≡ Some c → IsOrdered t → (scene_in b c k).own.track ≡ Some t.track → t ≡ told_of t.track (scene_in b c k)
     → Stepped c.number b k (settled_there n i q (Some c) k) t []
 near_settled n i true true c k t there ordered track is =
