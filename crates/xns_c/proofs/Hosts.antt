@@ -1,5 +1,5 @@
 -- What is fetched of a host is given, or stays.
-use Rattle.std.proofs.Common.{◌≡◌, ◌≢◌, ◌<◌, ◌≤◌, ℕ, List, [], ◌∷◌, length, max, slice_get, Option, Result, Ok, Err, OnErr, ◌⊎◌, false, IfOk, IfSome, Some, None, inl, inr, refl, sym, ap, ◌∙◌, subst, arith}
+use Rattle.std.proofs.Common.{◌≡◌, ◌≢◌, ◌<◌, ◌≤◌, ℕ, List, length, slice_get, Option, Result, Ok, Err, OnErr, ◌⊎◌, false, Some, None, inl, inr, refl, sym, ap, ◌∙◌, subst, arith}
 use Rattle.std.proofs.lemmas.Bool.{cases_lt}
 use Rattle.xns_connection.specs.Deeds.{Deed}
 use Rattle.xns_host.specs.Hosting.{has_guest}
@@ -16,21 +16,21 @@ use Rattle.xns_host.specs.declared.host.Host.{Host}
 use Rattle.xns_host.specs.declared.outgoing.Outgoing.{Outgoing}
 use Rattle.xns_c.specs.Events.{EventIsGiven}
 use Rattle.xns_c.specs.Given.{IsPut}
-use Rattle.xns_c.specs.Hosts.{FetchesEvent, FetchesPacket, GivesPacket, Turns, WakesHost, answer_of, left_of, time_or_never}
-use Rattle.xns_c.specs.Results.{ok, nothing, no_memory, no_slot, short_buffer}
+use Rattle.xns_c.specs.Hosts.{FetchesEvent, FetchesPacket, GivesPacket, Turns, WakesHost, left_of, time_or_never}
+use Rattle.xns_c.specs.Results.{ok, no_memory, no_slot, short_buffer}
 use Rattle.xns_c.specs.declared.event.XnsEvent.{XnsEvent}
 use Rattle.xns_c.specs.declared.kept_host.KeptHost.{KeptHost}
 
 -- an event that was fetched, or was kept, is given
-pub event_fetched : (k n m : KeptHost) (e : Event) (before after : XnsEvent) (old new : List ℕ) (had count number : ℕ)
-    → n.event ≡ Some e → ((x : Event) → k.event ≡ Some x → n ≡ k)
-    → (k.event ≡ None → TellsNext n.event k.host n.host)
+pub event_fetched : (k n m : KeptHost) (found : Option Event) (e : Event) (before after : XnsEvent) (old new : List ℕ) (had count number : ℕ)
+    → found ≡ Some e → ((x : Event) → k.event ≡ Some x → (found ≡ Some x) × (n.host ≡ k.host))
+    → (k.event ≡ None → TellsNext found k.host n.host)
     → n.packet ≡ k.packet → EventIsGiven e after old new count number → m.host ≡ n.host → m.event ≡ left_of (Some e) number → m.packet ≡ n.packet → FetchesEvent k m before after old new had count number
-event_fetched k n m e before after old new had count number there kept tells packet given host left same = record {
+event_fetched k n m found e before after old new had count number there kept tells packet given host left same = record {
   found = Some e;
   tells = λ no.
       subst (λ (h : Host). TellsNext (Some e) k.host h) (sym host) (subst (λ (x : Option Event). TellsNext x k.host n.host) there (tells no));
-  kept = λ x is. (sym there ∙ (ap (λ (y : KeptHost). y.event) (kept x is) ∙ is), host ∙ ap (λ (y : KeptHost). y.host) (kept x is));
+  kept = λ x is. (sym there ∙ (kept x is).0, host ∙ (kept x is).1);
   given = given;
   left = left;
   packet = same ∙ packet;
@@ -44,20 +44,23 @@ is_put p old new had written way via number given is = elim (cases_lt (length ol
   | inr fits ↦ absurd (omega (arith, is, (given.0 fits).0))
 ]
 
--- how a packet is fetched from a host
-pub packet_fetched : (k n m : KeptHost) (now : ℕ) (p : Outgoing) (done : Result (Unit {0}) HostFault) (old new : List ℕ) (had written way via number : ℕ)
-    → n.packet ≡ Some p → ((x : Outgoing) → k.packet ≡ Some x → n ≡ k) → (k.packet ≡ None → GivesOut now (answer_of done n.packet) k.host n.host) → done ≡ Ok tt
+one_made : (made : Result (Option Outgoing) HostFault) (a b : Option Outgoing) → made ≡ Ok a → made ≡ Ok b → a ≡ b
+one_made made a b e f = cc
+
+-- how a packet is fetched from a host, or was kept, and given
+pub packet_fetched : (k n m : KeptHost) (now : ℕ) (made : Result (Option Outgoing) HostFault) (p : Outgoing) (old new : List ℕ) (had written way via number : ℕ)
+    → made ≡ Ok (Some p) → ((x : Outgoing) → k.packet ≡ Some x → (made ≡ Ok (Some x)) × (n.host ≡ k.host)) → (k.packet ≡ None → GivesOut now made k.host n.host)
     → n.event ≡ k.event → GivesPacket (Some p) old new had written way via number
     → m.host ≡ n.host → m.packet ≡ left_of (Some p) number → m.event ≡ n.event → FetchesPacket k m now old new had written way via number
-packet_fetched k n m now p done old new had written way via number there kept gives fine event given host left same = record {
+packet_fetched k n m now made p old new had written way via number there kept gives event given host left same = record {
   found = Some p;
-  done = done;
+  done = Ok tt;
   gives = λ no.
-      subst (λ (h : Host). GivesOut now (answer_of done (Some p)) k.host h) (sym host)
-      (subst (λ (x : Option Outgoing). GivesOut now (answer_of done x) k.host n.host) there (gives no));
+      subst (λ (h : Host). GivesOut now (Ok (Some p)) k.host h) (sym host)
+      (subst (λ (x : Result (Option Outgoing) HostFault). GivesOut now x k.host n.host) there (gives no));
   starved = λ is. absurd (is_put p old new had written way via number given is);
-  fetched = λ z. fine;
-  kept = λ x is. (sym there ∙ (ap (λ (y : KeptHost). y.packet) (kept x is) ∙ is), host ∙ ap (λ (y : KeptHost). y.host) (kept x is));
+  fetched = λ z. refl;
+  kept = λ x is. (one_made made (Some p) (Some x) there (kept x is).0, host ∙ (kept x is).1);
   given = given;
   left = left;
   event = same ∙ event;

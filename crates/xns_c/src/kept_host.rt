@@ -206,43 +206,44 @@ impl KeptHost {
         }
     }
 
-    /// Fetches the next event, where none is kept.
-    fn fetch_event(&mut self)
-        ensures kept { (e : Event) → self.old.event ≡ Some e → self.new ≡ self.old }
-        ensures tells { self.old.event ≡ None → TellsNext self.new.event self.old.host self.new.host }
+    /// Takes the event that is kept, or else fetches the next one.
+    fn take_event(&mut self) -> Option<Event>
+        ensures kept { (e : Event) → self.old.event ≡ Some e → (result ≡ Some e) × (self.new.host ≡ self.old.host) }
+        ensures tells { self.old.event ≡ None → TellsNext result self.old.host self.new.host }
+        ensures taken { self.new.event ≡ None }
         ensures packet { self.new.packet ≡ self.old.packet }
     {
         if self.event.is_none() {
-            self.event = self.host.next_event();
+            return self.host.next_event();
         }
+        self.event.take()
     }
 
     /// Tells the next event, its words to the front of a buffer. One whose words have no room is kept.
     pub fn next_event(&mut self, event: &mut XnsEvent, words: &mut [u16], count: &mut usize) -> u32
         ensures { FetchesEvent self.old self.new event.old event.new words.old words.new count.old count.new result }
     {
-        self.fetch_event();
-        let Some(found) = &self.event else {
+        let Some(found) = self.take_event() else {
             return NOTHING;
         };
-        let result = give_event(found, event, words, count);
-        if result != SHORT_BUFFER {
-            self.event = None;
+        let result = give_event(&found, event, words, count);
+        if result == SHORT_BUFFER {
+            self.event = Some(found);
         }
         result
     }
 
-    /// Fetches the next packet, where none is kept. An `Err`: there is none, for want of memory.
-    fn fetch_packet(&mut self, now: u64) -> Result<(), HostFault>
-        ensures kept { (p : Outgoing) → self.old.packet ≡ Some p → (result ≡ Ok tt) × (self.new ≡ self.old) }
+    /// Takes the packet that is kept, or else fetches the next one. An `Err`: there is none, for want of memory.
+    fn take_packet(&mut self, now: u64) -> Result<Option<Outgoing>, HostFault>
+        ensures kept { (p : Outgoing) → self.old.packet ≡ Some p → (result ≡ Ok (Some p)) × (self.new.host ≡ self.old.host) }
+        ensures gives { self.old.packet ≡ None → GivesOut now result self.old.host self.new.host }
+        ensures taken { self.new.packet ≡ None }
         ensures event { self.new.event ≡ self.old.event }
-        ensures none { OnErr result (self.new.packet ≡ None) }
-        ensures gives { self.old.packet ≡ None → GivesOut now (answer_of result self.new.packet) self.old.host self.new.host }
     {
         if self.packet.is_none() {
-            self.packet = self.host.next_packet(now)?;
+            return self.host.next_packet(now);
         }
-        Ok(())
+        Ok(self.packet.take())
     }
 
     /// Puts the next packet to the front of a buffer. One that has no room is kept.
@@ -255,17 +256,17 @@ impl KeptHost {
     ) -> u32
         ensures { FetchesPacket self.old self.new now buffer.old buffer.new written.old written.new via.old via.new result }
     {
-        if self.fetch_packet(now).is_err() {
-            return NO_MEMORY;
-        }
-        let Some(found) = &self.packet else {
-            return NOTHING;
+        let found = match self.take_packet(now) {
+            Ok(Some(found)) => found,
+            Ok(None) => return NOTHING,
+            Err(_) => return NO_MEMORY,
         };
         let way = found.via;
         let told = put_front(found.packet.as_slice(), buffer, written);
-        if told != SHORT_BUFFER {
+        if told == SHORT_BUFFER {
+            self.packet = Some(found);
+        } else {
             *via = way;
-            self.packet = None;
         }
         told
     }
