@@ -76,8 +76,8 @@ fn show_scenes(rt: &HostRuntime) -> Result<(), anyhow::Error> {
 
 /// Plays all scenes that show waits, and prints the outcome of each.
 fn show_waits(rt: &HostRuntime) -> Result<(), anyhow::Error> {
-    for scene in waits::ALL {
-        show_play(rt, scene)?;
+    for scene in &waits::ALL {
+        show_play(rt, *scene)?;
     }
     Ok(())
 }
