@@ -109,22 +109,23 @@ def bench_rows(folder, given):
 def hosts_rows(folder, given):
     given.write_bytes(b"")
     program = built_program("test_hosts")
-    hosts, parts = [program, "hosts", "1"], [program, "parts", "1"]
-    fewer = lambda words: [*words[:-1], "20000"]
-    by_hand = beside([*hosts, "100000"], [*parts, "100000"], given, 9, fewer)
 
     # What opening takes is left out: it is that of a run without calls.
-    def of_calls(taken, connections, calls):
-        run = [program, "hosts", connections]
-        return taken([*run, calls], given) - taken([*run, "0"], given)
+    def of_calls(taken, words, calls):
+        return taken([*words, calls], given) - taken([*words, "0"], given)
 
-    seconds = [statistics.median(of_calls(seconds_of, connections, "100000") for _ in range(RUNS)) for connections in ("10000", "1")]
-    counts = [of_calls(instructions_of, connections, "5000") for connections in ("10000", "1")] if has_valgrind() else None
-    crowd = Ratio(seconds[0] / seconds[1], counts[0] / counts[1] if counts else None)
+    def beside_calls(*both):
+        turns = [[of_calls(seconds_of, words, "100000") for words in both] for _ in range(9)]
+        seconds = [statistics.median(spent) for spent in zip(*turns)]
+        counts = [of_calls(instructions_of, words, "5000") for words in both] if has_valgrind() else None
+        return Ratio(seconds[0] / seconds[1], counts[0] / counts[1] if counts else None)
+
+    by_hand = beside_calls([program, "hosts", "1"], [program, "parts", "1"])
+    crowd = beside_calls([program, "hosts", "10000"], [program, "hosts", "1"])
     yield Row("two hosts against two hand-driven endpoints, 100,000 calls; the same on a host with 10,000 connections against one with a single connection", [[by_hand], [crowd]])
     if has_gcc():
-        ours, peer = ([built_c(name, folder, True), "100000"] for name in ("c_calls", "c_calls_peer"))
-        yield Row("two hosts of the library for C against two of its endpoints, 100,000 calls", [[beside(ours, peer, given, 9, fewer)]])
+        ours, peer = ([built_c(name, folder, True)] for name in ("c_calls", "c_calls_peer"))
+        yield Row("two hosts of the library for C against two of its endpoints, 100,000 calls", [[beside_calls(ours, peer)]])
     held = held_by([program, "hosts", "10000", "0"], given) - held_by([program, "hosts", "1", "0"], given)
     yield f"| of an idle connection of a host | {held * 1024 / 20_000_000:.1f} KB | |"
 
