@@ -1,6 +1,6 @@
 #!/usr/bin/env python3
 """Writes 65,536 packets in hex, one a line, that carry calls of Courier; or, with the word `pcap` behind, a capture of them, each in a frame
-of Ethernet, and with a number behind that so many of them. The first word says which:
+of Ethernet. The first word says which:
 
     short      one connection of calls with one argument and their answers
     reversed   one flow of short calls whose items come in reverse order, 63 at a time
@@ -9,7 +9,6 @@ of Ethernet, and with a number behind that so many of them. The first word says 
     endless    one flow of full packets that never ends a message; each line has 4,096 digits
     endless-flows    the same, each packet in a flow of its own
 """
-import itertools
 import struct
 import sys
 
@@ -79,8 +78,8 @@ def write_capture(lines, file):
         file.write(struct.pack("<IIII", 1700000000 + number // 1000, number % 1000 * 1000, len(frame), len(frame)) + frame)
 
 
-if sys.argv[2:3] == ["pcap"]:
-    write_capture(itertools.islice(packets(sys.argv[1]), int((sys.argv[3:] or [PACKETS])[0])), sys.stdout.buffer)
+if sys.argv[2:] == ["pcap"]:
+    write_capture(packets(sys.argv[1]), sys.stdout.buffer)
 else:
     for line in packets(sys.argv[1] if len(sys.argv) == 2 else ""):
         print(line)

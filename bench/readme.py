@@ -1,5 +1,5 @@
-"""README's table of speed, with its wording: processor time and instructions of ours divided by those of a peer. Instructions are counted over fewer calls, events and
-packets where the whole takes too long."""
+"""README's table of speed, with its wording: processor time and instructions of ours divided by those of a peer. Instructions of items each way, and of long messages in
+captures, are counted over fewer of them."""
 import functools, itertools, pathlib, statistics
 from typing import NamedTuple
 
@@ -11,7 +11,7 @@ from measuring import RUNS, compare, held_by, instructions_of, made_by, ratio_of
 README = BENCH.parent / "README.md"
 HEAD = "| What | Time | Instructions |\n|---|---|---|\n"
 CAPTURES = "short", "flows", "long", "endless"
-FEW = 8_192  # packets
+FEW = 8_192  # packets of long messages
 
 
 class Ratio(NamedTuple):
@@ -48,7 +48,7 @@ def made(given, script, *words):
 
 def beside_lines(ours, peer, given, *script):
     whole, few = made(given, *script)
-    return beside(ours, peer, whole, few=few)
+    return beside(ours, peer, whole, few=few if script[-1] in ("long", "endless") else None)
 
 
 def held_by_both(ours, peer, given, *script):
@@ -77,10 +77,9 @@ def calls_rows(folder, given):
     cells = []
     given.write_bytes(b"")
     for which in ("short", "flows", "reversed"):
-        capture, few = (pathlib.Path(folder) / f"{which}-{size}.pcap" for size in ("whole", "few"))
+        capture = pathlib.Path(folder) / f"{which}.pcap"
         capture.write_bytes(made_by("captures.py", which, "pcap"))
-        few.write_bytes(made_by("captures.py", which, "pcap", str(FEW)))
-        cells.append(beside([*ours, capture], [*peer, capture], given, fewer=lambda words, few=few: [*words[:-1], few]))
+        cells.append(beside([*ours, capture], [*peer, capture], given))
     yield Row("`xns calls x.pcap` of as many: short calls, each in a flow of its own, out of order", [cells])
     yield f"| of `xns calls`: one flow; 65,536 flows that each kept 534 bytes of a message | {held[0] / 1000:.1f} MB; {held[1] / 1000:.0f} MB | |"
 
@@ -89,10 +88,9 @@ def bench_rows(folder, given):
     given.write_bytes(b"")
     ours = [built_program("bench")]
     peers = [built_peer("calls_peer", folder, "--cfg", "plain"), built_peer("calls_peer", folder)]
-    fewer = lambda words: [*words[:-2], "20000", "0"]
     yield Row(
         "100,000 calls Add in memory, beside a simple peer and a tuned one",
-        [[beside([*ours, "calls", "100000", "0"], [peer, "100000", "0"], given, 9, fewer) for peer in peers]],
+        [[beside([*ours, "calls", "100000", "0"], [peer, "100000", "0"], given, 9) for peer in peers]],
     )
     peers = [built_peer("exchange_peer", folder, "--cfg", "standard"), built_peer("exchange_peer", folder)]
     fewer = lambda words: [*words[:-1], "1"]
