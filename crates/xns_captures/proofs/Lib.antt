@@ -6,3 +6,4 @@ pub mod Resolutions
 pub mod Steps
 pub mod Tags
 pub mod Whole
+pub mod Windows

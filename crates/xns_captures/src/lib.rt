@@ -27,6 +27,7 @@ mod stamp;
 mod step;
 mod taker;
 mod taking;
+mod window;
 
 pub use byte_order::ByteOrder;
 pub use fault::CaptureFault;

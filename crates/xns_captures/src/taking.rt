@@ -7,18 +7,16 @@ ghost use Rattle.xns_captures.specs.Reading.{StandsAfter, StopsBy};
 use crate::file_fault::FileFault;
 use crate::reading::Reading;
 use crate::taker::PacketTaker;
+use crate::window::Window;
 use std::alloc::Global;
 use std::io::{Read, Write};
 use xns_lines::RunFault;
 
-/// The file is read in pieces of so many bytes.
-const PIECE: usize = 65536;
-
 /// Reads a capture to its end, and hands the packets in its frames to the taker, in order, each with the number and the
 /// time of its frame.
 ///
-/// The file is read in pieces of 65,536 bytes, of which one is held, and the bytes of one part of the capture that is not
-/// there whole.
+/// The file is read in pieces of at most 65,536 bytes. The memory for them grows only where a part of the capture does not
+/// fit in it.
 ///
 /// # Errors
 /// `Capture` where the capture can't be read on: all packets before that are handed on; `TooManyFrames` where it has over
@@ -39,37 +37,24 @@ pub fn take_packets<R: Read, T: PacketTaker, W: Write>(
         (T.fails taker.new before (W.contents writer.new))))) }
 {
     let mut reading = Reading::new(alloc);
-    let mut kept = Vec::new(alloc);
-    let mut piece = [0u8; PIECE];
+    let mut window = Window::new(alloc);
     'file: for _ in 0..u64::MAX {
-        let Ok(count) = reader.read(&mut piece) else {
-            return Err(FileFault::Run(RunFault::Read));
+        let count = match window.read_piece(reader) {
+            Ok(count) => count,
+            Err(fault) => return Err(FileFault::Run(fault)),
         };
         if count == 0 {
-            if let Some(fault) = reading.end_fault(kept.as_slice()) {
+            if let Some(fault) = reading.end_fault(window.as_slice()) {
                 return Err(FileFault::Capture(fault));
             }
             return Ok(());
         }
-        let Ok(()) = kept.extend_from_slice(&piece[..count]) else {
-            return Err(FileFault::Run(RunFault::NoMemory));
-        };
-        let taken = reading.take_parts(kept.as_slice(), taker, writer)?;
-        drop_front(&mut kept, taken);
+        let taken = reading.take_parts(window.as_slice(), taker, writer)?;
+        window.drop_front(taken);
         match taker.pause(writer) {
             Ok(()) => {}
             Err(fault) => return Err(FileFault::Run(fault)),
         }
     }
     Err(FileFault::Run(RunFault::Read))
-}
-
-/// Drops so many bytes from the front.
-fn drop_front(bytes: &mut Vec<u8>, count: usize)
-    requires { count ≤ vec_len bytes.old }
-    ensures { bytes.new.items ≡ drop count bytes.old.items }
-{
-    let total = bytes.len();
-    bytes.copy_within(count..total, 0);
-    bytes.truncate(total - count);
 }

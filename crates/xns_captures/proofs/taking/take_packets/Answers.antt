@@ -1,8 +1,10 @@
-use Rattle.std.proofs.Common.{rules, ◌≡◌, ◌∙◌, ◌++◌, ap, sym, subst, take, drop, ℕ, [], None}
+use Rattle.std.proofs.Common.{◌≡◌, ◌∙◌, ◌⊎◌, inl, inr, ap, sym, subst, append-nil, ◌++◌, drop, List, ℕ, [], None}
 use Rattle.std.proofs.lemmas.Result.{err_from_is_err_and}
 use Rattle.xns_captures.specs.Captures.{ends_with, packets_in}
-use Rattle.xns_captures.specs.Reading.{HasRead, StandsAfter}
+use Rattle.xns_captures.specs.Reading.{HasRead, HasStopped, Says, StandsAfter}
 use Rattle.xns_captures.specs.declared.file_fault.FileFault.TheVariants.{Run}
+use Rattle.xns_captures.specs.declared.reading.Reading.{Reading}
+use Rattle.xns_lines.specs.declared.fault.RunFault.{RunFault}
 use Rattle.xns_lines.specs.declared.fault.RunFault.TheVariants as run
 use Rattle.xns_captures.proofs.Consumed.{consumes_kept, consumes_none, consumes_nothing, consumes_trans}
 use Rattle.xns_captures.proofs.Frames.{stops_in_run}
@@ -15,105 +17,109 @@ file-init g c = (
   [],
   consumes_nothing _,
   (λ before said. subst (λ kept. HasRead c.new-reading.result [] kept (g.T.PacketTaker.stands c.args.taker.now before (g.W.Write.contents c.args.writer.now)))
-      (sym c.new-kept.ensures.items)
+      (sym c.new-window.ensures)
       (begun c.new-reading.result _ c.new-reading.ensures.format c.new-reading.ensures.interfaces c.new-reading.ensures.count c.new-reading.ensures.first said)),
-  rw c.new-kept.ensures.items (contents-none c.new-reading.result.format c.new-reading.result.interfaces.items),
+  rw c.new-window.ensures (contents-none c.new-reading.result.format c.new-reading.result.interfaces.items),
 )
 
-pub returns-in_default-clause-err : goal.returns-in_default-clause-err
-returns-in_default-clause-err g c =
+-- a read that fails, or one for which there is no memory, leaves the taker as it is
+unread : (fault : RunFault) (reading : Reading) (read kept : List ℕ) (stands fails : Says) → (fault ≡ run.NoMemory) ⊎ (fault ≡ run.Read)
+    → HasRead reading read kept stands → HasStopped (Run fault) read (StandsAfter (Run fault) stands fails)
+unread fault reading read kept stands fails (inl e) h =
+    subst (λ f. HasStopped (Run f) read (StandsAfter (Run f) stands fails)) (sym e) (stops_in_run reading run.NoMemory read kept _ _ h h.taken)
+unread fault reading read kept stands fails (inr e) h =
+    subst (λ f. HasStopped (Run f) read (StandsAfter (Run f) stands fails)) (sym e) (stops_in_run reading run.Read read kept _ _ h h.taken)
+
+pub returns-in-Err-clause-err : goal.returns-in-Err-clause-err
+returns-in-Err-clause-err g c =
     let so_far = c.file.invariant in
-    stops_by (Run run.Read) (g.R.Read.remaining c.args.reader.now) (g.R.Read.remaining c.read.new.self) so_far.0
+    stops_by (Run c.in-Err.fault) (g.R.Read.remaining c.args.reader.now) (g.R.Read.remaining c.read_piece.new.reader) so_far.0
     (λ before. g.T.PacketTaker.stands c.args.taker.now before (g.W.Write.contents c.args.writer.now))
-    (λ before. g.T.PacketTaker.stands c.file.taker before (g.W.Write.contents c.file.writer))
-    (consumes_kept _ _ _ so_far.0 so_far.1 c.in_default.ensures.bytes)
-    (λ before said. let h = so_far.2 before said in stops_in_run c.file.reading run.Read so_far.0 c.file.kept.items _ _ h h.taken)
+    (λ before. StandsAfter (Run c.in-Err.fault) (g.T.PacketTaker.stands c.file.taker before (g.W.Write.contents c.file.writer))
+    (g.T.PacketTaker.fails c.file.taker before (g.W.Write.contents c.file.writer)))
+    (consumes_kept _ _ _ so_far.0 so_far.1 c.in-Err.ensures.err.1)
+    (λ before said. unread c.in-Err.fault c.file.reading so_far.0 c.file.window _ _ c.in-Err.ensures.err.0 (so_far.2 before said))
 
 pub returns-then-count-eq0-clause-ok : goal.returns-then-count-eq0-clause-ok
 returns-then-count-eq0-clause-ok g c =
     let so_far = c.file.invariant in
-    let none : take c.in-Ok.count c.read.new.buf ≡ [] = ap (λ (n : ℕ). take n c.read.new.buf) c.if-count-eq0.true in
-    let whole = rw (c.as_slice.ensures.value, c.in_default-end_fault.is) at c.end_fault.ensures in
-    ended (g.R.Read.remaining c.args.reader.now) (g.R.Read.remaining c.read.new.self) c.file.reading so_far.0 c.file.kept.items
+    let more = c.in-Ok.ensures.ok in
+    let none = (more.3 c.if-count-eq0.true).0 in
+    let kept = c.as_slice.ensures ∙ more.1 ∙ ap (λ piece. c.file.window ++ piece) none ∙ append-nil c.file.window in
+    let whole = rw (kept, c.in_default.is) at c.end_fault.ensures in
+    ended (g.R.Read.remaining c.args.reader.now) (g.R.Read.remaining c.read_piece.new.reader) c.file.reading so_far.0 c.file.window
     (λ before. g.T.PacketTaker.stands c.args.taker.now before (g.W.Write.contents c.args.writer.now))
     (λ before. g.T.PacketTaker.stands c.file.taker before (g.W.Write.contents c.file.writer))
-    (consumes_none _ _ _ so_far.0 _ none so_far.1 c.in-Ok.ensures.bytes.0)
-    (c.in-Ok.ensures.bytes.1 c.if-count-eq0.true (search rules))
+    (consumes_none _ _ _ so_far.0 _ none so_far.1 more.2)
+    (more.3 c.if-count-eq0.true).1
     (so_far.3 ∙ ap ends_with (sym whole))
     so_far.2
 
 pub returns-in-Some-clause-err : goal.returns-in-Some-clause-err
 returns-in-Some-clause-err g c =
     let so_far = c.file.invariant in
-    let none : take c.in-Ok.count c.read.new.buf ≡ [] = ap (λ (n : ℕ). take n c.read.new.buf) c.if-count-eq0.true in
-    let cut = rw (c.as_slice.ensures.value, c.in-Some.is) at c.end_fault.ensures in
-    ended_short (g.R.Read.remaining c.args.reader.now) (g.R.Read.remaining c.read.new.self) c.file.reading so_far.0 c.file.kept.items c.in-Some.fault
+    let more = c.in-Ok.ensures.ok in
+    let none = (more.3 c.if-count-eq0.true).0 in
+    let kept = c.as_slice.ensures ∙ more.1 ∙ ap (λ piece. c.file.window ++ piece) none ∙ append-nil c.file.window in
+    let cut = rw (kept, c.in-Some.is) at c.end_fault.ensures in
+    ended_short (g.R.Read.remaining c.args.reader.now) (g.R.Read.remaining c.read_piece.new.reader) c.file.reading so_far.0 c.file.window c.in-Some.fault
     (λ before. g.T.PacketTaker.stands c.args.taker.now before (g.W.Write.contents c.args.writer.now))
     (λ before. g.T.PacketTaker.stands c.file.taker before (g.W.Write.contents c.file.writer))
-    (consumes_none _ _ _ so_far.0 _ none so_far.1 c.in-Ok.ensures.bytes.0)
-    (c.in-Ok.ensures.bytes.1 c.if-count-eq0.true (search rules))
+    (consumes_none _ _ _ so_far.0 _ none so_far.1 more.2)
+    (more.3 c.if-count-eq0.true).1
     (so_far.3 ∙ ap ends_with (sym cut))
     so_far.2
-
-pub returns-in_default-extend_from_slice-clause-err : goal.returns-in_default-extend_from_slice-clause-err
-returns-in_default-extend_from_slice-clause-err g c =
-    let so_far = c.file.invariant in
-    stops_by (Run run.NoMemory) (g.R.Read.remaining c.args.reader.now) (g.R.Read.remaining c.read.new.self)
-    (so_far.0 ++ take c.in-Ok.count c.read.new.buf)
-    (λ before. g.T.PacketTaker.stands c.args.taker.now before (g.W.Write.contents c.args.writer.now))
-    (λ before. g.T.PacketTaker.stands c.file.taker before (g.W.Write.contents c.file.writer))
-    (consumes_trans _ _ _ so_far.0 _ so_far.1 c.in-Ok.ensures.bytes.0)
-    (λ before said.
-    let h = grown c.file.reading so_far.0 c.file.kept.items (take c.in-Ok.count c.read.new.buf) _ (so_far.2 before said) in
-    stops_in_run c.file.reading run.NoMemory _ _ _ _ h h.taken)
 
 pub returns-in_err-taken-clause-err : goal.returns-in_err-taken-clause-err
 returns-in_err-taken-clause-err g c =
     let so_far = c.file.invariant in
+    let more = c.in-Ok.ensures.ok in
     let p = err_from_is_err_and c.from_residual.result c.from_residual.ensures.1 in
     rw (p.1, p.2) (
-    stops_by _ (g.R.Read.remaining c.args.reader.now) (g.R.Read.remaining c.read.new.self)
-    (so_far.0 ++ take c.in-Ok.count c.read.new.buf)
+    stops_by _ (g.R.Read.remaining c.args.reader.now) (g.R.Read.remaining c.read_piece.new.reader)
+    (so_far.0 ++ more.0)
     (λ before. g.T.PacketTaker.stands c.args.taker.now before (g.W.Write.contents c.args.writer.now))
     _
-    (consumes_trans _ _ _ so_far.0 _ so_far.1 c.in-Ok.ensures.bytes.0)
+    (consumes_trans _ _ _ so_far.0 _ so_far.1 more.2)
     (λ before said.
-    c.in_err-taken.ensures.err (so_far.0 ++ take c.in-Ok.count c.read.new.buf) before
-    (anew c.file.reading (so_far.0 ++ take c.in-Ok.count c.read.new.buf) (c.file.kept.items ++ take c.in-Ok.count c.read.new.buf) _ _ _
-    (c.as_slice-in-file.ensures.value ∙ c.in-Ok-extend_from_slice.ensures.items)
-    (grown c.file.reading so_far.0 c.file.kept.items (take c.in-Ok.count c.read.new.buf) _ (so_far.2 before said)) (λ said'. said')))
+    c.in_err-taken.ensures.err (so_far.0 ++ more.0) before
+    (anew c.file.reading (so_far.0 ++ more.0) (c.file.window ++ more.0) _ _ _
+    (c.as_slice-in-file.ensures ∙ more.1)
+    (grown c.file.reading so_far.0 c.file.window more.0 _ (so_far.2 before said)) (λ said'. said')))
     )
 
-pub returns-in-Err-clause-err : goal.returns-in-Err-clause-err
-returns-in-Err-clause-err g c =
+pub returns-in-Err-pause-clause-err : goal.returns-in-Err-pause-clause-err
+returns-in-Err-pause-clause-err g c =
     let so_far = c.file.invariant in
-    stops_by (Run c.in-Err.fault) (g.R.Read.remaining c.args.reader.now) (g.R.Read.remaining c.read.new.self)
-    (so_far.0 ++ take c.in-Ok.count c.read.new.buf)
+    let more = c.in-Ok.ensures.ok in
+    stops_by (Run c.in-Err-pause.fault) (g.R.Read.remaining c.args.reader.now) (g.R.Read.remaining c.read_piece.new.reader)
+    (so_far.0 ++ more.0)
     (λ before. g.T.PacketTaker.stands c.args.taker.now before (g.W.Write.contents c.args.writer.now))
-    (λ before. StandsAfter (Run c.in-Err.fault) (g.T.PacketTaker.stands c.pause.new.self before (g.W.Write.contents c.pause.new.writer))
+    (λ before. StandsAfter (Run c.in-Err-pause.fault) (g.T.PacketTaker.stands c.pause.new.self before (g.W.Write.contents c.pause.new.writer))
     (g.T.PacketTaker.fails c.pause.new.self before (g.W.Write.contents c.pause.new.writer)))
-    (consumes_trans _ _ _ so_far.0 _ so_far.1 c.in-Ok.ensures.bytes.0)
+    (consumes_trans _ _ _ so_far.0 _ so_far.1 more.2)
     (λ before said.
-    let h = c.in_ok-taken.ensures.ok (so_far.0 ++ take c.in-Ok.count c.read.new.buf) before
-    (anew c.file.reading (so_far.0 ++ take c.in-Ok.count c.read.new.buf) (c.file.kept.items ++ take c.in-Ok.count c.read.new.buf) _ _ _
-    (c.as_slice-in-file.ensures.value ∙ c.in-Ok-extend_from_slice.ensures.items)
-    (grown c.file.reading so_far.0 c.file.kept.items (take c.in-Ok.count c.read.new.buf) _ (so_far.2 before said)) (λ said'. said')) in
-    stops_in_run c.take_parts.new.self c.in-Err.fault _ _ _ _ h
-    (paused c.in-Err.fault _ _ _ c.in-Err.ensures.err.0 (c.in-Err.ensures.err.1 before (packets_in None 1 h.frames) h.taken)))
+    let h = c.in_ok-taken.ensures.ok (so_far.0 ++ more.0) before
+    (anew c.file.reading (so_far.0 ++ more.0) (c.file.window ++ more.0) _ _ _
+    (c.as_slice-in-file.ensures ∙ more.1)
+    (grown c.file.reading so_far.0 c.file.window more.0 _ (so_far.2 before said)) (λ said'. said')) in
+    stops_in_run c.take_parts.new.self c.in-Err-pause.fault _ _ _ _ h
+    (paused c.in-Err-pause.fault _ _ _ c.in-Err-pause.ensures.err.0 (c.in-Err-pause.ensures.err.1 before (packets_in None 1 h.frames) h.taken)))
 
 pub file-preserved : goal.file-preserved
 file-preserved g c =
     let so_far = c.file.invariant in
-    let kept : c.drop_front.new.bytes.items ≡ drop c.in_ok-taken.taken c.as_slice-in-file.result.now =
-    c.drop_front.ensures ∙ ap (drop c.in_ok-taken.taken) (sym c.as_slice-in-file.ensures.value) in (
-      so_far.0 ++ take c.in-Ok.count c.read.new.buf,
-      consumes_trans _ _ _ so_far.0 _ so_far.1 c.in-Ok.ensures.bytes.0,
+    let more = c.in-Ok.ensures.ok in
+    let kept : c.drop_front.new.self ≡ drop c.in_ok-taken.taken c.as_slice-in-file.result.now =
+    c.drop_front.ensures ∙ ap (drop c.in_ok-taken.taken) (sym c.as_slice-in-file.ensures) in (
+      so_far.0 ++ more.0,
+      consumes_trans _ _ _ so_far.0 _ so_far.1 more.2,
       (λ before said.
-          let h = c.in_ok-taken.ensures.ok (so_far.0 ++ take c.in-Ok.count c.read.new.buf) before
-          (anew c.file.reading (so_far.0 ++ take c.in-Ok.count c.read.new.buf) (c.file.kept.items ++ take c.in-Ok.count c.read.new.buf) _ _ _
-          (c.as_slice-in-file.ensures.value ∙ c.in-Ok-extend_from_slice.ensures.items)
-          (grown c.file.reading so_far.0 c.file.kept.items (take c.in-Ok.count c.read.new.buf) _ (so_far.2 before said)) (λ said'. said')) in
-          anew c.take_parts.new.self (so_far.0 ++ take c.in-Ok.count c.read.new.buf) _ _ _ _ kept h (c.in-Ok-pause.ensures.ok before (packets_in None 1 h.frames))),
+          let h = c.in_ok-taken.ensures.ok (so_far.0 ++ more.0) before
+          (anew c.file.reading (so_far.0 ++ more.0) (c.file.window ++ more.0) _ _ _
+          (c.as_slice-in-file.ensures ∙ more.1)
+          (grown c.file.reading so_far.0 c.file.window more.0 _ (so_far.2 before said)) (λ said'. said')) in
+          anew c.take_parts.new.self (so_far.0 ++ more.0) _ _ _ _ kept h (c.in-Ok-pause.ensures.ok before (packets_in None 1 h.frames))),
       rw kept c.in_ok-taken.ensures.rest,
     )
 
@@ -124,4 +130,4 @@ returns-clause-err g c =
     (λ before. g.T.PacketTaker.stands c.args.taker.now before (g.W.Write.contents c.args.writer.now))
     (λ before. g.T.PacketTaker.stands c.file.taker before (g.W.Write.contents c.file.writer))
     so_far.1
-    (λ before said. let h = so_far.2 before said in stops_in_run c.file.reading run.Read so_far.0 c.file.kept.items _ _ h h.taken)
+    (λ before said. let h = so_far.2 before said in stops_in_run c.file.reading run.Read so_far.0 c.file.window _ _ h h.taken)

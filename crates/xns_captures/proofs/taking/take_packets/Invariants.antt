@@ -11,5 +11,5 @@ invariant-file g l =
     let stands = g.T.PacketTaker.stands in
     let holds = g.W.Write.contents in
     (read : List ℕ) × Consumes (remaining l.fn.reader) (remaining l.reader) read
-    × ((before : Option (List ℕ)) → stands l.fn.taker before (holds l.fn.writer) [] → HasRead l.reading read l.kept.items (stands l.taker before (holds l.writer)))
-    × (contents l.reading.format l.reading.interfaces.items l.kept.items ≡ ends_with (end_in l.reading.format l.kept.items))
+    × ((before : Option (List ℕ)) → stands l.fn.taker before (holds l.fn.writer) [] → HasRead l.reading read l.window (stands l.taker before (holds l.writer)))
+    × (contents l.reading.format l.reading.interfaces.items l.window ≡ ends_with (end_in l.reading.format l.window))
