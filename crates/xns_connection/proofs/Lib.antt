@@ -5,6 +5,7 @@ mod Coming
 mod Dead
 mod Doing
 mod Dues
+mod Ends
 mod Fills
 mod Given
 mod GivenUp

@@ -5,6 +5,7 @@ pub mod Closed
 pub mod Closing
 pub mod Connecting
 pub mod Deeds
+pub mod Ends
 pub mod Giving
 pub mod Living
 pub mod Moving

@@ -37,7 +37,7 @@ use courier_sessions::Answer;
 use std::alloc::{AllocError, Global};
 use xns_agenda::{Act, Due, Wait};
 use xns_idp::Address;
-use xns_spp::{Bytes, SppPacket};
+use xns_spp::{Bytes, Role, SppPacket};
 
 /// A connection: what it says, when it says it again, and why it is closed.
 #[derive(Drop)]
@@ -55,6 +55,7 @@ pub struct Connection {
 }
 
 impl Connection {
+    ghost use Rattle.xns_connection.specs.Ends.{opener_of};
     ghost use Rattle.xns_connection.specs.Step.{GivesNext, Hands, MovesOwed, Step, is_ours_by, parts_of};
 
     /// Moves items until none can move.
@@ -352,6 +353,27 @@ impl Connection {
         ensures { (s : State) → StandsFor self.now.conversation.endpoint s → result ≡ own_name s.ends }
     {
         self.conversation.endpoint.own()
+    }
+
+    /// The address and connection identifier of the peer, where the peer opened the connection. `None`: our side opened it.
+    pub fn opener(&self) -> Option<(Address, u16)>
+        ensures { result ≡ opener_of self.now }
+    {
+        match self.conversation.endpoint.role() {
+            Role::Initiator => None,
+            Role::Responder => self.conversation.endpoint.peer(),
+        }
+    }
+
+    /// Whether the peer opened the connection.
+    #[inline(always)]
+    pub fn peer_opened(&self) -> bool
+        ensures { result ≡ is_some (opener_of self.now) }
+    {
+        match self.conversation.endpoint.role() {
+            Role::Initiator => false,
+            Role::Responder => true,
+        }
     }
 
     /// The peer's address and connection identifier. `None`: the connection is not open yet.

@@ -12,6 +12,7 @@ ghost use Rattle.xns_connection.specs.Acting.{Acts, IsTold};
 ghost use Rattle.xns_connection.specs.Agreeing.{handed_up, HasCalled, HasServed, ArePeers, IsClosing, Agree};
 ghost use Rattle.xns_connection.specs.Closed.{AGoodCloseLosesNothing};
 ghost use Rattle.xns_connection.specs.Closing.{drains};
+ghost use Rattle.xns_connection.specs.Ends.{AConnectionKeepsItsEnd};
 ghost use Rattle.xns_connection.specs.Living.{Deeds, no_deeds, Lives, IsLived, ProgramsAgree};
 ghost use Rattle.xns_connection.specs.Step.{AClosingConnectionDoesNotWaitForEver, AConnectionGivesWhatItMade, AMessageIsHandedAsByAStep, AStepHasOneEnd, AStepKeepsItsPromises, TheDeadAreSilent};
 ghost use Rattle.xns_connection.specs.Story.{Story, GoesOn, new_story};
@@ -131,6 +132,12 @@ pub fn a_closing_connection_does_not_wait_for_ever()
 /// A connection that is given up counts as closed by the exchange only where the peer acknowledged all that its side said, and its End.
 pub fn a_good_close_loses_nothing()
     ensures { AGoodCloseLosesNothing }
+{}
+
+/// Whatever is done, a connection keeps its end: an open connection has the same end, and one that is not open has at most learned its peer.
+/// So its own address and identifier stay, and so does who opened it.
+pub fn a_connection_keeps_its_end()
+    ensures { AConnectionKeepsItsEnd }
 {}
 
 /// Where memory was not refused a step has one end only, whether items moved until none could or the side refused one.
