@@ -24,6 +24,7 @@ mod Peers
 mod Readable
 mod Rejecting
 mod Rounds
+mod Saying
 mod Says
 mod Scenes
 mod Settled

@@ -100,6 +100,23 @@ ends_then p q = record {
   moved = λ z m. q.moved z (p.moved (q.free z) m);
 }
 
+-- a scene that reads no more says what it said
+pub deaf_follows : (x : Scene) → Follows x (deafened x)
+deaf_follows x = record {
+  says = λ h w. record {
+    has = w.has;
+    fed = w.fed;
+    all = λ z. absurd (deafens (is_stopped x.side) (x.closing.end_sent && is_called x.side) x.closing.reply_sent z);
+    given = w.given;
+    last = w.last;
+    knows = record { wanted = w.knows.wanted; heard = w.knows.heard };
+  };
+  runs = start;
+  side = refl;
+  wanted = refl;
+  still = λ z. absurd (deafens (is_stopped x.side) (x.closing.end_sent && is_called x.side) x.closing.reply_sent z);
+}
+
 -- ---- an item is taken
 
 not_free : (x y : Scene) → drains y.side y.closing ≡ true → drains y.side y.closing ≡ false → y ≡ x
@@ -130,7 +147,7 @@ noted_follows next x (Some item) is drain =
       still = λ z. not_free x y (same ∙ drain) z;
     }
 
-noting_drains : (x : Scene) (o : Option Item) → drains (noting o x).side (noting o x).closing ≡ drains x.side x.closing
+pub noting_drains : (x : Scene) (o : Option Item) → drains (noting o x).side (noting o x).closing ≡ drains x.side x.closing
 noting_drains x None = refl
 noting_drains x (Some item) =
     let b = beside x.closing (noted x.closing item.stream) item.stream refl in
@@ -175,10 +192,10 @@ pub record Closes (x y : Scene) : Type 0 where
   pub follows : Follows x y
   pub deaf : y.closing.deaf ≡ x.closing.deaf
 
-closes_not : (x : Scene) → Closes x x
+pub closes_not : (x : Scene) → Closes x x
 closes_not x = record { follows = follows_not x; deaf = refl }
 
-closes_then : {x y z : Scene} → Closes x y → Closes y z → Closes x z
+pub closes_then : {x y z : Scene} → Closes x y → Closes y z → Closes x z
 closes_then p q = record { follows = follows_then p.follows q.follows; deaf = q.deaf ∙ p.deaf }
 
 -- as `ClosesThen`, where the second scene may read on behind End
@@ -186,16 +203,16 @@ pub record ClosesSo (x y : Scene) : Type 0 where
   pub follows : EndsSo x y
   pub deaf : y.closing.deaf ≡ x.closing.deaf
 
-closes_so : {x y : Scene} → Closes x y → ClosesSo x y
+pub closes_so : {x y : Scene} → Closes x y → ClosesSo x y
 closes_so p = record { follows = ends_so p.follows; deaf = p.deaf }
 
-so_then : {x y z : Scene} → ClosesSo x y → ClosesSo y z → ClosesSo x z
+pub so_then : {x y z : Scene} → ClosesSo x y → ClosesSo y z → ClosesSo x z
 so_then p q = record { follows = ends_then p.follows q.follows; deaf = q.deaf ∙ p.deaf }
 
-record DrainsOut (x y : Scene) : Type 0 where
-  closes : Closes x y
-  drain : drains y.side y.closing ≡ drains x.side x.closing
-  none : drains x.side x.closing ≡ true → waiting_count y.state ≡ 0
+pub record DrainsOut (x y : Scene) : Type 0 where
+  pub closes : Closes x y
+  pub drain : drains y.side y.closing ≡ drains x.side x.closing
+  pub none : drains x.side x.closing ≡ true → waiting_count y.state ≡ 0
 
 drains_by : TheNextItemIsHandedUp → (x : Scene) (b : Bool) → drains x.side x.closing ≡ b
     → DrainsOut x (if b then taken_many (waiting_count x.state) x else x)
@@ -205,279 +222,5 @@ drains_by next x true is =
     record { closes = record { follows = p.follows; deaf = p.deaf }; drain = p.drain ∙ sym is; none = λ z. omega (arith, few) }
 drains_by next x false is = record { closes = closes_not x; drain = refl; none = λ z. absurd (cc) }
 
-drains_out : TheNextItemIsHandedUp → (x : Scene) → DrainsOut x (drained_out x)
+pub drains_out : TheNextItemIsHandedUp → (x : Scene) → DrainsOut x (drained_out x)
 drains_out next x = drains_by next x (drains x.side x.closing) refl
-
--- ---- an item is put out
-
-said_says : ItemsAreAcceptedOrChangeNothing → (x : Scene) (item : Item) (c : Closing) → is_ok (send_answer x.state item) ≡ true
-    → (drains x.side c ≡ false → drains x.side x.closing ≡ false) → (EndsLast x.side x.closing → EndsLast x.side c)
-    → ((g : List Item) → g ++ closing_items c ≡ (g ++ closing_items x.closing) ++ item ∷ []) → KnowsToo x.closing c
-    → (h : Story) → Says x h → Says (record x { closing = c; state = after_send x.state item }) h
-said_says law x item c ok free last more too h w =
-    let s : State = x.state in
-    let v : State = after_send s item in
-    let e : v ≡ record s { accepted = s.accepted ++ item ∷ [] } = law.accepted s item ok in
-    let front : take v.handed v.taken ≡ take s.handed s.taken = ap (λ (w : State). take w.handed w.taken) e in
-    record {
-      has = w.has;
-      fed = subst (λ (xs : List Item). Begins h.fed xs) (sym front) w.fed;
-      all = λ z. w.all (free z) ∙ sym front;
-      given = more h.given ∙ ap (λ (xs : List Item). xs ++ item ∷ []) w.given ∙ sym (ap (λ (u : State). u.accepted) e);
-      last = last w.last;
-      knows = knows_still x.closing c s v too front h.fed w.knows;
-    }
-
--- why End may be put out
-record MayEnd (x : Scene) : Type 0 where
-  wanted : x.closing.wanted ≡ true
-  free : drains x.side x.closing ≡ false
-  unsent : x.closing.end_sent ≡ false
-  out : has_items (out_of x.side) ≡ false
-
-why_end : (x : Scene) → may_end x ≡ true → MayEnd x
-why_end x may = by x.closing.wanted (drains x.side x.closing) x.closing.end_sent (owes_answer x.side) (has_items (out_of x.side)) refl refl refl refl may where
-  by : (a b c d e : Bool) → x.closing.wanted ≡ a → drains x.side x.closing ≡ b → x.closing.end_sent ≡ c → has_items (out_of x.side) ≡ e
-      → (a && (not b && (not c && (not d && not e)))) ≡ true → MayEnd x
-  by false b c d e p q r s z = absurd (cc)
-  by true true c d e p q r s z = absurd (cc)
-  by true false true d e p q r s z = absurd (cc)
-  by true false false true e p q r s z = absurd (cc)
-  by true false false false true p q r s z = absurd (cc)
-  by true false false false false p q r s z = record { wanted = p; free = q; unsent = r; out = s }
-
--- an item that is put out lets none move where nothing of the side is out
-none_fed : {S : Type 0} (r : Result S FeedRefusal) (v w : State) → feeding r v ≡ None → feeding r w ≡ None
-none_fed (Ok t) v w e = absurd (cc)
-none_fed (Err Busy) v w e = refl
-none_fed (Err Stopped) v w e = absurd (cc)
-none_fed (Err TooLong) v w e = absurd (cc)
-none_fed (Err Attention) v w e = absurd (cc)
-none_fed (Err (Fault f)) v w e = absurd (cc)
-none_fed (Err NoMemory) v w e = absurd (cc)
-
-none_feeds : {S : Type 0} (side : PumpSide S) (t : S) (v w : State) (o : Option Item) → feeds side t v o ≡ None → feeds side t w o ≡ None
-none_feeds side t v w None e = refl
-none_feeds side t v w (Some x) e = none_fed (side.fed t x) (after_take v) (after_take w) e
-
-caller_moved : (t : Talk) (s v : State) → t.out ≡ [] → take_answer v ≡ take_answer s → IsMoved (Calls t) s → IsMoved (Calls t) v
-caller_moved t s v out same e =
-    let fed : feeds caller_side t s (take_answer s) ≡ None = ap (λ (xs : List Item). moving caller_side t s xs) (sym out) ∙ e in
-    ap (λ (xs : List Item). moving caller_side t v xs) out ∙ ap (λ (o : Option Item). feeds caller_side t v o) same ∙ none_feeds caller_side t s v (take_answer s) fed
-
-ended_moved : (side : Side) (c : Closing) (s v : State) → out_of side ≡ [] → take_answer v ≡ take_answer s → drains side (record c { end_sent = true }) ≡ false
-    → IsMoved side s → IsMoved side v
-ended_moved (Calls t) c s v out same free e = caller_moved t s v out same e
-ended_moved (Answers a) c s v out same free e = let r = reads_on (Answers a) (record c { end_sent = true }) free in let never = r.end in absurd (cc)
-
-ended_free : (side : Side) (c : Closing) → c.end_sent ≡ false → drains side (record c { end_sent = true }) ≡ false → drains side c ≡ false
-ended_free side c unsent free =
-    let r = reads_on side (record c { end_sent = true }) free in
-    ap (λ (b : Bool). b || ((c.end_sent && is_called side) || (c.reply_sent || c.deaf))) r.going
-    ∙ ap (λ (b : Bool). (b && is_called side) || (c.reply_sent || c.deaf)) unsent ∙ ap (λ (b : Bool). b || c.deaf) r.reply ∙ r.heard
-
-end_follows : ItemsAreAcceptedOrChangeNothing → (x : Scene) → may_end x ≡ true → is_ok (send_answer x.state (closing_item end_stream)) ≡ true
-    → ClosesSo x (record x { closing = record x.closing { end_sent = true }; state = after_send x.state (closing_item end_stream) })
-end_follows law x may ok =
-    let item : Item = closing_item end_stream in
-    let c : Closing = record x.closing { end_sent = true } in
-    let why = why_end x may in
-    let free = ended_free x.side x.closing why.unsent in
-    let reply = (reads_on x.side x.closing why.free).reply in
-    let out = no_items (out_of x.side) why.out in
-    let none : closing_items x.closing ≡ [] =
-    ap (λ (b : Bool). put_if b end_stream ++ put_if x.closing.reply_sent end_reply_stream) why.unsent ∙ ap (λ (b : Bool). put_if b end_reply_stream) reply in
-    record {
-      follows = record {
-        says = said_says law x item c ok free (λ last sent. (why.wanted, out))
-            (λ g.
-            ap (λ (b : Bool). g ++ (item ∷ [] ++ put_if b end_reply_stream)) reply
-            ∙ ap (λ (xs : List Item). xs ++ item ∷ []) (sym (ap (λ (xs : List Item). g ++ xs) none ∙ append-nil g)))
-            (λ items k. record { wanted = k.wanted; heard = k.heard });
-        runs = sends start item;
-        side = refl;
-        wanted = refl;
-        free = free;
-        moved = λ z m. ended_moved x.side x.closing x.state (after_send x.state item) out (ap take_answer (law.accepted x.state item ok)) z m;
-      };
-      deaf = refl;
-    }
-
--- End was put out, if it was
-record PutsEnd (x y : Scene) : Type 0 where
-  closes : ClosesSo x y
-  said : may_end y ≡ true → is_ok (send_answer y.state (closing_item end_stream)) ≡ false
-
-ends_by : ItemsAreAcceptedOrChangeNothing → (x : Scene) (m o : Bool) → may_end x ≡ m → is_ok (send_answer x.state (closing_item end_stream)) ≡ o
-    → PutsEnd x (if m && o then record x { closing = record x.closing { end_sent = true }; state = after_send x.state (closing_item end_stream) } else x)
-ends_by law x true true may ok = record {
-  closes = end_follows law x may ok;
-  said = λ again.
-      let y : Scene = record x { closing = record x.closing { end_sent = true }; state = after_send x.state (closing_item end_stream) } in
-      let twice = (why_end y again).unsent in
-      absurd (cc);
-}
-ends_by law x true false may ok = record { closes = closes_so (closes_not x); said = λ again. ok }
-ends_by law x false o may ok = record { closes = closes_so (closes_not x); said = λ again. absurd (cc) }
-
-ends : ItemsAreAcceptedOrChangeNothing → (x : Scene) → PutsEnd x (ended x)
-ends law x = ends_by law x (may_end x) (is_ok (send_answer x.state (closing_item end_stream))) refl refl
-
--- EndReply was put out, if it was
-record PutsReply (x y : Scene) : Type 0 where
-  closes : Closes x y
-  said : may_reply y ≡ true → is_ok (send_answer y.state (closing_item end_reply_stream)) ≡ false
-
-unsent : (a b c : Bool) → (a && (not b && c)) ≡ true → b ≡ false
-unsent true true c e = absurd (cc)
-unsent true false c e = refl
-unsent false b c e = absurd (cc)
-
-drains_then : (a b c d : Bool) → (a && (b && (c && d))) ≡ true → c ≡ true
-drains_then true true true d e = refl
-drains_then true true false d e = absurd (cc)
-drains_then true false c d e = absurd (cc)
-drains_then false b c d e = absurd (cc)
-
-reply_follows : ItemsAreAcceptedOrChangeNothing → (x : Scene) → may_reply x ≡ true → is_ok (send_answer x.state (closing_item end_reply_stream)) ≡ true
-    → Closes x (record x { closing = record x.closing { reply_sent = true }; state = after_send x.state (closing_item end_reply_stream) })
-reply_follows law x may ok =
-    let item : Item = closing_item end_reply_stream in
-    let unsaid = unsent x.closing.reply_wanted x.closing.reply_sent (drains x.side x.closing && not (has_items (out_of x.side))) may in
-    let end : List Item = put_if x.closing.end_sent end_stream in
-    record {
-      follows = record {
-        says = said_says law x item (record x.closing { reply_sent = true }) ok (λ z. absurd (let never = (reads_on x.side (record x.closing { reply_sent = true }) z).reply in cc))
-            (λ last. last)
-            (λ g.
-            sym (append_assoc g end (item ∷ []))
-            ∙ ap (λ (xs : List Item). xs ++ item ∷ []) (sym (ap (λ (b : Bool). g ++ (end ++ put_if b end_reply_stream)) unsaid ∙ ap (λ (xs : List Item). g ++ xs) (append-nil end))))
-            (λ items k. record { wanted = k.wanted; heard = k.heard });
-        runs = sends start item;
-        side = refl;
-        wanted = refl;
-        still = λ z. absurd (let never = (reads_on x.side (record x.closing { reply_sent = true }) z).reply in cc);
-      };
-      deaf = refl;
-    }
-
-replies_by : ItemsAreAcceptedOrChangeNothing → (x : Scene) (m o : Bool) → may_reply x ≡ m → is_ok (send_answer x.state (closing_item end_reply_stream)) ≡ o
-    → PutsReply x (if m && o then record x { closing = record x.closing { reply_sent = true }; state = after_send x.state (closing_item end_reply_stream) } else x)
-replies_by law x true true may ok = record {
-  closes = reply_follows law x may ok;
-  said = λ again.
-      let y : Scene = record x { closing = record x.closing { reply_sent = true }; state = after_send x.state (closing_item end_reply_stream) } in
-      let no = unsent y.closing.reply_wanted y.closing.reply_sent (drains y.side y.closing && not (has_items (out_of y.side))) again in
-      absurd (cc);
-}
-replies_by law x true false may ok = record { closes = closes_not x; said = λ again. ok }
-replies_by law x false o may ok = record { closes = closes_not x; said = λ again. absurd (cc) }
-
-replies : ItemsAreAcceptedOrChangeNothing → (x : Scene) → PutsReply x (replied x)
-replies law x = replies_by law x (may_reply x) (is_ok (send_answer x.state (closing_item end_reply_stream))) refl refl
-
--- EndReply is put out only where what comes is looked at for the peer's EndReply alone
-reply_drains : (x : Scene) (m o : Bool) → may_reply x ≡ m
-    → (let y : Scene = if m && o then record x { closing = record x.closing { reply_sent = true }; state = after_send x.state (closing_item end_reply_stream) } else x in drains y.side y.closing)
-    ≡ drains x.side x.closing
-reply_drains x true true may =
-    stays_true (is_stopped x.side) (x.closing.end_sent && is_called x.side) x.closing.deaf
-    ∙ sym (drains_then x.closing.reply_wanted (not x.closing.reply_sent) (drains x.side x.closing) (not (has_items (out_of x.side))) may)
-reply_drains x true false may = refl
-reply_drains x false o may = refl
-
--- how many wait is the same
-sent_same : ItemsAreAcceptedOrChangeNothing → (x : Scene) (m o : Bool) (c : Closing) (item : Item) → is_ok (send_answer x.state item) ≡ o
-    → waiting_count (if m && o then record x { closing = c; state = after_send x.state item } else x).state ≡ waiting_count x.state
-sent_same law x true true c item ok = law.waiting x.state item ok
-sent_same law x true false c item ok = refl
-sent_same law x false o c item ok = refl
-
--- ---- all of it
-
--- what is said of closing is said
-pub record IsSaid (y : Scene) : Type 0 where
-  pub read : drains y.side y.closing ≡ true → waiting_count y.state ≡ 0
-  pub end : may_end y ≡ true → is_ok (send_answer y.state (closing_item end_stream)) ≡ false
-  pub reply : may_reply y ≡ true → is_ok (send_answer y.state (closing_item end_reply_stream)) ≡ false
-
-pub record ClosesUp (x y : Scene) : Type 0 where
-  pub closes : ClosesSo x y
-  pub said : IsSaid y
-
-pub closes_up : TheNextItemIsHandedUp → ItemsAreAcceptedOrChangeNothing → (x : Scene) → ClosesUp x (closed_up x)
-closes_up next law x =
-    let a : Scene = ended x in
-    let b : Scene = drained_out a in
-    let y : Scene = replied b in
-    let p = ends law x in
-    let q = drains_out next a in
-    let r = replies law b in
-    let same : waiting_count y.state ≡ waiting_count b.state =
-    sent_same law b (may_reply b) (is_ok (send_answer b.state (closing_item end_reply_stream))) (record b.closing { reply_sent = true }) (closing_item end_reply_stream) refl in
-    record {
-      closes = so_then p.closes (closes_so (closes_then q.closes r.closes));
-      said = record {
-        read = λ yes. same ∙ q.none (sym q.drain ∙ sym (reply_drains b _ _ refl) ∙ yes);
-        end = λ may.
-            let is : y ≡ a = (follows_then q.closes.follows r.closes.follows).still (why_end y may).free in
-            ap (λ (w : Scene). is_ok (send_answer w.state (closing_item end_stream))) is ∙ p.said (sym (ap may_end is) ∙ may);
-        reply = r.said;
-      };
-    }
-
-pub deaf_follows : (x : Scene) → Follows x (deafened x)
-deaf_follows x = record {
-  says = λ h w. record {
-    has = w.has;
-    fed = w.fed;
-    all = λ z. absurd (deafens (is_stopped x.side) (x.closing.end_sent && is_called x.side) x.closing.reply_sent z);
-    given = w.given;
-    last = w.last;
-    knows = record { wanted = w.knows.wanted; heard = w.knows.heard };
-  };
-  runs = start;
-  side = refl;
-  wanted = refl;
-  still = λ z. absurd (deafens (is_stopped x.side) (x.closing.end_sent && is_called x.side) x.closing.reply_sent z);
-}
-
--- ---- one that reads no more does so for good
-
-taken_drained : (n : ℕ) (x : Scene) → drains x.side x.closing ≡ true → drains (taken_many n x).side (taken_many n x).closing ≡ true
-unfolding taken_many
-taken_drained zero x drain = drain
-taken_drained (suc n) x drain = let y : Scene = taken_many n x in noting_drains y (take_answer y.state) ∙ taken_drained n x drain
-
-ended_too : (a b c d : Bool) → (a || ((b && c) || d)) ≡ true → (a || (c || d)) ≡ true
-ended_too true b c d e = refl
-ended_too false true c d e = e
-ended_too false false true d e = refl
-ended_too false false false d e = e
-
-ended_drained : (x : Scene) (b : Bool) → drains x.side x.closing ≡ true
-    → (let y : Scene = if b then record x { closing = record x.closing { end_sent = true }; state = after_send x.state (closing_item end_stream) } else x in drains y.side y.closing)
-    ≡ true
-ended_drained x true drain = ended_too (is_stopped x.side) x.closing.end_sent (is_called x.side) (x.closing.reply_sent || x.closing.deaf) drain
-ended_drained x false drain = drain
-
-out_drained : (x : Scene) (b : Bool) → drains x.side x.closing ≡ true
-    → (let y : Scene = if b then taken_many (waiting_count x.state) x else x in drains y.side y.closing) ≡ true
-out_drained x true drain = taken_drained (waiting_count x.state) x drain
-out_drained x false drain = drain
-
-pub closed_drained : (x : Scene) → drains x.side x.closing ≡ true → drains (closed_up x).side (closed_up x).closing ≡ true
-closed_drained x drain =
-    let a : Scene = ended x in
-    let b : Scene = drained_out a in
-    reply_drains b (may_reply b) (is_ok (send_answer b.state (closing_item end_reply_stream))) refl
-    ∙ out_drained a (drains a.side a.closing) (ended_drained x (may_end x && is_ok (send_answer x.state (closing_item end_stream))) drain)
-
-last_true : (a b c : Bool) → (a || (b || (c || true))) ≡ true
-last_true true b c = refl
-last_true false true c = refl
-last_true false false true = refl
-last_true false false false = refl
-
-pub deaf_drained : (x : Scene) → drains (deafened x).side (deafened x).closing ≡ true
-deaf_drained x = last_true (is_stopped x.side) (x.closing.end_sent && is_called x.side) x.closing.reply_sent

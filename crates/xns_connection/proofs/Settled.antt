@@ -17,7 +17,8 @@ use Rattle.xns_connection.specs.declared.side.Side.{Side}
 use Rattle.xns_connection.specs.declared.side.Side.TheVariants.{Calls, Answers}
 use Rattle.xns_connection.proofs.Fills.{Behind, Below, Fills, HasConversed, Until, at_end, has_conversed}
 use Rattle.xns_connection.proofs.Leading.{goes_on, same_messages, stays}
-use Rattle.xns_connection.proofs.Says.{EndsSo, IsSaid, Says, closed_drained, closes_up, deaf_drained, deaf_follows, ends_so, ends_then}
+use Rattle.xns_connection.proofs.Saying.{IsSaid, closed_drained, closes_up, deaf_drained}
+use Rattle.xns_connection.proofs.Says.{EndsSo, Says, deaf_follows, ends_so, ends_then}
 use Rattle.xns_connection.proofs.Tellings.{ReadsOn, reads_by, reads_on, unsaid, on_ok, if_err, deafened as deafens}
 
 -- ---- the side of a scene
