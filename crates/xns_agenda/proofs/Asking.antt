@@ -1,20 +1,19 @@
 -- A peer that is asked for a word and says none is borne as long as the patience says.
-use Rattle.std.proofs.Common.{◌≡◌, ◌∙◌, ap, add-one, refl, sym, subst, ℕ, zero, suc, ◌+◌, ◌*◌, ◌<◌, ◌≤◌, Bool, true, false, Option, Some, None, arith}
-use Rattle.std.specs.Prelude.{nat_le, if◌then◌else◌}
-use Rattle.std.proofs.lemmas.Bool.{leb-true}
+use Rattle.std.proofs.Common.{◌≡◌, ◌∙◌, ap, add-one, refl, sym, subst, ℕ, zero, suc, ◌+◌, ◌*◌, ◌<◌, ◌≤◌, Option, Some, None, arith}
+use Rattle.std.specs.Prelude.{nat_le}
 use Rattle.std.proofs.Math.Nat.{min-le_right}
 use Rattle.xns_agenda.specs.Measuring.{borne, first_wait, most_borne, next_length, wait_by, waits_time}
-use Rattle.xns_agenda.specs.Waiting.{Waiting, act_at, act_by, after_by, after_step, idling, later, rested, unless_silent}
+use Rattle.xns_agenda.specs.Waiting.{Waiting, act_at, act_by, after_by, after_step, idling, later, rested}
 use Rattle.xns_agenda.specs.Patience.{Asked, begins, steps, sends}
 use Rattle.xns_agenda.specs.declared.act.Act.{Act}
-use Rattle.xns_agenda.specs.declared.act.Act.TheVariants.{Nothing, Ask, GiveUp}
+use Rattle.xns_agenda.specs.declared.act.Act.TheVariants.{Ask, GiveUp}
 use Rattle.xns_agenda.specs.declared.due.Due.{Due}
 use Rattle.xns_agenda.specs.declared.due.Due.TheVariants.{AskAt}
 use Rattle.xns_agenda.specs.declared.measure.Measure.{Measure}
 use Rattle.xns_agenda.specs.declared.pace.Pace.{Pace}
 use Rattle.xns_agenda.specs.declared.smoothed.Smoothed.{Smoothed}
 use Rattle.xns_agenda.proofs.Measures.{patient, tried, waits_grow}
-use Rattle.xns_agenda.proofs.Patience.{later_by, later_on, length_after, next_after, time_after}
+use Rattle.xns_agenda.proofs.Patience.{given_up, later_by, later_on, length_after, next_after, over, time_after}
 
 -- ---- no wait is longer than the longest
 
@@ -50,29 +49,10 @@ asked_first span w = record {
   late = omega arith;
 }
 
-over : (b : Bool) (v : Waiting) (t now : ℕ) → nat_le t now ≡ b → (if b then unless_silent v Ask else Nothing) ≡ Ask → t ≤ now
-over true v t now test is = leb-true t now test
-over false v t now test is = absurd (cc)
-
-given_by : (b : Bool) → (if b then GiveUp else Ask) ≡ GiveUp → b ≡ true
-given_by true is = refl
-given_by false is = absurd (cc)
-
-record GivenUp (v : Waiting) (t now : ℕ) : Type 0 where
-  pub over : t ≤ now
-  pub many : borne v.measure v.pace ≤ v.misses
-
-given_up : (b : Bool) (v : Waiting) (t now : ℕ) → nat_le t now ≡ b → (if b then unless_silent v Ask else Nothing) ≡ GiveUp → GivenUp v t now
-given_up true v t now test is = record {
-  over = leb-true t now test;
-  many = leb-true (borne v.measure v.pace) v.misses (given_by (nat_le (borne v.measure v.pace) v.misses) is);
-}
-given_up false v t now test is = absurd (cc)
-
 asked_again : (span : ℕ) (w v : Waiting) (n now : ℕ) → IsAsked span w n v → act_at v now ≡ Ask → IsAsked span w (n + 1) (after_by v Ask now)
 asked_again span w v n now before is =
     let test : act_by v (AskAt before.until) now ≡ Ask = ap (λ (d : Due). act_by v d now) (sym before.due) ∙ is in
-    let more = over (nat_le before.until now) v before.until now refl test in
+    let more = over Ask (λ e. absurd (cc)) (nat_le before.until now) v before.until now refl test in
     let length = before.length in
     let first : ℕ = first_wait w.measure w.pace in
     let one : waits_time w.pace first (suc n) ≡ waits_time w.pace first n + v.length
@@ -110,7 +90,7 @@ pub not_early : (w v : Waiting) (span n now : ℕ) → w.misses ≡ 0 → Asked 
 not_early w v span n now none asked is =
     let b = is_asked asked in
     let test : act_by v (AskAt b.until) now ≡ GiveUp = ap (λ (d : Due). act_by v d now) (sym b.due) ∙ is in
-    let g = given_up (nat_le b.until now) v b.until now refl test in
+    let g = given_up Ask (λ e. absurd (cc)) (nat_le b.until now) v b.until now refl test in
     let same : borne v.measure v.pace ≡ borne w.measure w.pace
     = ap (λ (p : Pace). borne v.measure p) b.pace ∙ ap (λ (m : Measure). borne m w.pace) b.measure in
     let misses = b.misses in

@@ -1,5 +1,5 @@
 -- A peer that says no word is waited for as long as the patience says.
-use Rattle.std.proofs.Common.{Some, ◌≡◌, ◌∙◌, ap, add-one, refl, sym, subst, ℕ, zero, suc, ◌+◌, ◌<◌, ◌≤◌, Bool, true, false, arith}
+use Rattle.std.proofs.Common.{Some, ◌≡◌, ◌≢◌, ◌∙◌, ap, add-one, refl, sym, subst, ℕ, zero, suc, ◌+◌, ◌<◌, ◌≤◌, Bool, true, false, arith}
 use Rattle.std.specs.Prelude.{nat_le, if◌then◌else◌}
 use Rattle.std.proofs.lemmas.Bool.{leb-true}
 use Rattle.xns_agenda.specs.Measuring.{borne, first_wait, most_borne, next_length, waits_time}
@@ -51,25 +51,28 @@ begun_at start w out = record {
   late = omega arith;
 }
 
--- a packet goes out again only when the wait is over
-over : (b : Bool) (v : Waiting) (t now : ℕ) → nat_le t now ≡ b → (if b then unless_silent v Again else Nothing) ≡ Again → t ≤ now
-over true v t now test is = leb-true t now test
-over false v t now test is = absurd (cc)
+-- ---- a packet goes out, or the peer is given up, only when the wait is over
 
-given_by : (b : Bool) → (if b then GiveUp else Again) ≡ GiveUp → b ≡ true
-given_by true is = refl
-given_by false is = absurd (cc)
+pub over : (act : Act) → act ≢ Nothing → (b : Bool) (v : Waiting) (t now : ℕ) → nat_le t now ≡ b
+    → (if b then unless_silent v act else Nothing) ≡ act → t ≤ now
+over act some true v t now test is = leb-true t now test
+over act some false v t now test is = absurd (some (sym is))
 
-record GivenUp (v : Waiting) (t now : ℕ) : Type 0 where
+given_by : (act : Act) → act ≢ GiveUp → (b : Bool) → (if b then GiveUp else act) ≡ GiveUp → b ≡ true
+given_by act other true is = refl
+given_by act other false is = absurd (other is)
+
+pub record GivenUp (v : Waiting) (t now : ℕ) : Type 0 where
   pub over : t ≤ now
   pub many : borne v.measure v.pace ≤ v.misses
 
-given_up : (b : Bool) (v : Waiting) (t now : ℕ) → nat_le t now ≡ b → (if b then unless_silent v Again else Nothing) ≡ GiveUp → GivenUp v t now
-given_up true v t now test is = record {
+pub given_up : (act : Act) → act ≢ GiveUp → (b : Bool) (v : Waiting) (t now : ℕ) → nat_le t now ≡ b
+    → (if b then unless_silent v act else Nothing) ≡ GiveUp → GivenUp v t now
+given_up act other true v t now test is = record {
   over = leb-true t now test;
-  many = leb-true (borne v.measure v.pace) v.misses (given_by (nat_le (borne v.measure v.pace) v.misses) is);
+  many = leb-true (borne v.measure v.pace) v.misses (given_by act other (nat_le (borne v.measure v.pace) v.misses) is);
 }
-given_up false v t now test is = absurd (cc)
+given_up act other false v t now test is = absurd (cc)
 
 pub later_on : (start time until now length : ℕ) → later start time ≤ until → until ≤ now → later start (time + length) ≤ later now length
 later_on start time until now length late more = grind arith
@@ -77,7 +80,7 @@ later_on start time until now length late more = grind arith
 sent_again : (start : ℕ) (w v : Waiting) (n now : ℕ) → Waited start w n v → act_at v now ≡ Again → Waited start w (n + 1) (after_by v Again now)
 sent_again start w v n now before is =
     let test : act_by v (AgainAt before.until) now ≡ Again = ap (λ (d : Due). act_by v d now) (sym before.due) ∙ is in
-    let more = over (nat_le before.until now) v before.until now refl test in
+    let more = over Again (λ e. absurd (cc)) (nat_le before.until now) v before.until now refl test in
     let length = before.length in
     let first : ℕ = first_wait w.measure w.pace in
     let sum : waits_time w.pace first (suc (suc n)) ≡ waits_time w.pace first (suc n) + v.length
@@ -129,7 +132,7 @@ pub not_early : (w v : Waiting) (start n now : ℕ) → w.misses ≡ 0 → Vain 
 not_early w v start n now none vain is =
     let b = waited vain in
     let test : act_by v (AgainAt b.until) now ≡ GiveUp = ap (λ (d : Due). act_by v d now) (sym b.due) ∙ is in
-    let g = given_up (nat_le b.until now) v b.until now refl test in
+    let g = given_up Again (λ e. absurd (cc)) (nat_le b.until now) v b.until now refl test in
     let same : borne v.measure v.pace ≡ borne w.measure w.pace
     = ap (λ (p : Pace). borne v.measure p) b.pace ∙ ap (λ m. borne m w.pace) b.measure in
     let misses = b.misses in
