@@ -5,3 +5,4 @@ pub mod Answered
 pub mod Agree
 pub mod Room
 pub mod Pumps
+pub mod Empties

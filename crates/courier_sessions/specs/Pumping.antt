@@ -1,7 +1,7 @@
 -- Items that move between a side of a conversation and an end until nothing moves. What is out is sent, as far as the
 -- end accepts it. Once nothing is out, what waits at the end is fed to the side, as far as the side takes it.
-use Rattle.std.specs.Prelude.{◌≡◌, List, [], ◌∷◌, Option, Some, None, Result, Ok, Err}
-use Rattle.courier_messages.specs.Refusal.{Stops}
+use Rattle.std.specs.Prelude.{◌≡◌, List, [], ◌∷◌, Option, Some, None, Result, Ok, Err, IsOk}
+use Rattle.courier_messages.specs.Refusal.{Stops, KeepsNothing}
 use Rattle.xns_spp.specs.Held.{Held, StandsFor}
 use Rattle.xns_spp.specs.Sending.{send_fault, after_send, take_answer, after_take}
 use Rattle.xns_spp.specs.State.{State}
@@ -26,6 +26,8 @@ pub record Side (S : Type 0) : Type 1 where
   pub stops : S → S → Type 0
   -- an item at which memory may be refused
   pub grows : S → Item → Type 0
+  -- an item whose bytes can be kept where they are, without memory
+  pub uncopied : S → Item → Type 0
 
 -- ---- one item that is fed
 
@@ -83,6 +85,7 @@ caller_side = record {
   fed = talk.fed;
   stops = talk.IsStopped;
   grows = λ t x. MayGrow (talk.fed t x) x;
+  uncopied = λ t x. IsOk (talk.fed t x) × KeepsNothing t.phase;
 }
 
 -- ---- the side that is called
@@ -94,6 +97,7 @@ server_side = record {
   fed = answering.fed;
   stops = answering.IsStopped;
   grows = λ a x. MayGrow (answering.fed a x) x;
+  uncopied = λ a x. IsOk (answering.fed a x) × KeepsNothing a.phase;
 }
 
 -- ---- steps that are taken

@@ -4,7 +4,7 @@ ghost use Rattle.std.specs.Prelude.{◌≡◌, ◌<◌, ℕ, List, length, false
 ghost use Rattle.courier_messages.specs.declared.fault.SessionFault.TheVariants.{NoMemory};
 ghost use Rattle.courier_messages.specs.RawCalls.{words_call};
 ghost use Rattle.courier_messages.specs.Head.{with_words};
-ghost use Rattle.courier_messages.specs.Refusal.{Follows};
+ghost use Rattle.courier_messages.specs.Refusal.{Follows, MakeSecondPiece};
 ghost use Rattle.courier_messages.specs.Text.{item_of};
 ghost use Rattle.courier_sessions.specs.Feeding.{Judges};
 ghost use Rattle.courier_sessions.specs.declared.call_refusal.CallRefusal.TheVariants as refusals;
@@ -13,9 +13,10 @@ ghost use Rattle.courier_sessions.specs.Talk.{Talk, new_talk, called, call_refus
 
 use crate::call_refusal::CallRefusal;
 use crate::feed_refusal::FeedRefusal;
+use crate::intake::Intake;
 use crate::outgoing::{MOST_ITEM, copied_item, put_message};
 use crate::side::{WordSide, told};
-use courier_messages::{Head, Incoming, MOST_BYTES, PiecedMessage, SessionFault, versions};
+use courier_messages::{Head, MOST_BYTES, PiecedMessage, SessionFault, versions};
 use std::alloc::{AllocError, Global};
 use std::collections::VecDeque;
 use std::marker::Model;
@@ -27,7 +28,7 @@ const MOST_WORDS: usize = MOST_BYTES / 2 - 6;
 /// The side that calls, one call at a time.
 #[derive(Drop)]
 pub struct WordCaller {
-    incoming: Incoming,
+    incoming: Intake,
     out: VecDeque<Item>,
     failed: bool,
     transaction: u16,
@@ -74,7 +75,7 @@ impl WordCaller {
         ensures { IfOk result (λ s. s ≡ new_talk) }
     {
         Ok(WordCaller {
-            incoming: Incoming::new(alloc),
+            incoming: Intake::new(alloc),
             out: versions(alloc)?,
             failed: false,
             transaction: 0,
@@ -163,6 +164,7 @@ impl WordCaller {
     }
 
     /// What is wrong with an item of these parts, if anything is. The item is not taken in.
+    #[inline(always)]
     fn judge(&self, stream: u8, last: bool, body: &[u8]) -> Result<(), SessionFault>
         ensures { Judges result (after_item self.now (item_of stream last body.now)) }
     {
@@ -176,9 +178,12 @@ impl WordCaller {
     }
 
     /// Takes in one more item, and keeps the answer that it ends.
+    #[inline(always)]
     fn take_item(&mut self, alloc: Global, item: Item) -> Result<(), SessionFault>
         ensures hears { Follows result (after_item self.old item) self.new }
         ensures memory { result ≡ Err NoMemory → (self.new ≡ self.old) × (0 < length item.body) }
+        ensures kept { result ≡ Err NoMemory → MakeSecondPiece self.old.phase item.body }
+        ensures out { self.new.out ≡ self.old.out }
     {
         let Some(message) = self.incoming.take(alloc, item)? else {
             return Ok(());
@@ -249,6 +254,23 @@ impl WordSide for WordCaller {
             item.last,
             item.body.as_slice(),
         )
+    }
+
+    #[inline(always)]
+    fn needs_no_copy(&self, item: &Item) -> bool {
+        if !self.incoming.is_empty() || self.failed {
+            return false;
+        }
+        if item.attention || item.body.as_slice().len() > MOST_ITEM {
+            return false;
+        }
+        self.judge(item.stream, item.last, item.body.as_slice())
+            .is_ok()
+    }
+
+    #[inline(always)]
+    fn feed_uncopied(&mut self, alloc: Global, item: Item) {
+        let _ = self.take_item(alloc, item);
     }
 
     fn first_out(&self) -> Option<&Item> {

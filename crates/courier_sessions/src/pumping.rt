@@ -21,6 +21,7 @@ fn refuses(endpoint: &Endpoint, item: &Item) -> bool
 }
 
 /// Gives an endpoint an item to send. An item that the endpoint refuses is let go.
+#[inline(always)]
 fn accept(endpoint: &mut Endpoint, item: Item)
     ensures { (s : State) → StandsFor endpoint.old s → StandsFor endpoint.new (after_send s item) }
 {
@@ -50,6 +51,19 @@ fn send_first<S: WordSide>(side: &mut S, endpoint: &mut Endpoint) -> bool
     true
 }
 
+/// Feeds a side the first item that waits at an endpoint, which hands the item up. The item needs no copy.
+#[inline(always)]
+fn feed_uncopied<S: WordSide>(side: &mut S, alloc: Global, endpoint: &mut Endpoint)
+    ensures fed { (s : State) (x : Item) → StandsFor endpoint.old s → take_answer s ≡ Some x → S.side.uncopied side.old x →
+        S.side.fed side.old x ≡ Ok side.new }
+    ensures stands { (s : State) → StandsFor endpoint.old s → StandsFor endpoint.new (after_take s) }
+    ensures out { S.side.out side.new ≡ S.side.out side.old }
+{
+    if let Some(item) = endpoint.take() {
+        side.feed_uncopied(alloc, item);
+    }
+}
+
 /// Feeds a side the first item that waits at an endpoint, which then hands the item up. Returns whether an item was
 /// fed: none is where none waits, or where the side is busy. An item that the side refuses still waits at the endpoint.
 fn feed_first<S: WordSide>(
@@ -68,6 +82,10 @@ fn feed_first<S: WordSide>(
     let Some(item) = endpoint.first_waiting() else {
         return Ok(false);
     };
+    if side.needs_no_copy(item) {
+        feed_uncopied(side, alloc, endpoint);
+        return Ok(true);
+    }
     match side.feed(alloc, item) {
         Ok(()) => {
             let _ = endpoint.take();

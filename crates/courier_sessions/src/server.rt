@@ -8,7 +8,7 @@ ghost use Rattle.courier_messages.specs.declared.fault.SessionFault.TheVariants.
 ghost use Rattle.courier_messages.specs.declared.message.Message.{Message};
 ghost use Rattle.courier_messages.specs.Cutting.{cut};
 ghost use Rattle.courier_messages.specs.Head.{with_words};
-ghost use Rattle.courier_messages.specs.Refusal.{Follows};
+ghost use Rattle.courier_messages.specs.Refusal.{Follows, MakeSecondPiece};
 ghost use Rattle.courier_messages.specs.Text.{item_of};
 ghost use Rattle.courier_sessions.specs.Feeding.{Judges};
 ghost use Rattle.courier_sessions.specs.Answering.{Answering, new_answering, is_busy, after_item, transaction_in};
@@ -21,11 +21,12 @@ use crate::answer::Answer;
 use crate::answer_refusal::AnswerRefusal;
 use crate::feed_refusal::FeedRefusal;
 use crate::heads::{answer_head, is_call, is_reject, is_too_long, transaction_of};
+use crate::intake::Intake;
 use crate::outgoing::{MOST_ITEM, copied_item, put_message};
 use crate::program::Program;
 use crate::side::{WordSide, told};
 use crate::unlisted::{Unlisted, refusal, reject_words};
-use courier_messages::{Head, Incoming, PiecedMessage, SessionFault, put_out, versions};
+use courier_messages::{Head, PiecedMessage, SessionFault, put_out, versions};
 use std::alloc::{AllocError, Global};
 use std::collections::VecDeque;
 use std::marker::Model;
@@ -35,7 +36,7 @@ use xns_spp::Item;
 #[derive(Drop)]
 pub struct WordServer {
     programs: Vec<Program>,
-    incoming: Incoming,
+    incoming: Intake,
     out: VecDeque<Item>,
     failed: bool,
     call: Option<PiecedMessage>,
@@ -65,7 +66,7 @@ impl WordServer {
     {
         Ok(WordServer {
             programs,
-            incoming: Incoming::new(alloc),
+            incoming: Intake::new(alloc),
             out: versions(alloc)?,
             failed: false,
             call: None,
@@ -81,6 +82,7 @@ impl WordServer {
     }
 
     /// What is wrong with an item of these parts, if anything is. The item is not taken in.
+    #[inline(always)]
     fn judge(&self, stream: u8, last: bool, body: &[u8]) -> Result<(), SessionFault>
         ensures { Judges result (after_item self.now (item_of stream last body.now)) }
     {
@@ -95,9 +97,12 @@ impl WordServer {
     }
 
     /// Takes in one more item, and keeps the call that it ends.
+    #[inline(always)]
     fn take_item(&mut self, alloc: Global, item: Item) -> Result<(), SessionFault>
         ensures hears { Follows result (after_item self.old item) self.new }
         ensures memory { result ≡ Err NoMemory → (self.new ≡ self.old) × (0 < length item.body) }
+        ensures kept { result ≡ Err NoMemory → MakeSecondPiece self.old.phase item.body }
+        ensures out { self.new.out ≡ self.old.out }
     {
         let Some(message) = self.incoming.take(alloc, item)? else {
             return Ok(());
@@ -348,6 +353,23 @@ impl WordSide for WordServer {
             item.last,
             item.body.as_slice(),
         )
+    }
+
+    #[inline(always)]
+    fn needs_no_copy(&self, item: &Item) -> bool {
+        if !self.incoming.is_empty() || self.failed || self.is_busy() {
+            return false;
+        }
+        if item.attention || item.body.as_slice().len() > MOST_ITEM {
+            return false;
+        }
+        self.judge(item.stream, item.last, item.body.as_slice())
+            .is_ok()
+    }
+
+    #[inline(always)]
+    fn feed_uncopied(&mut self, alloc: Global, item: Item) {
+        let _ = self.take_item(alloc, item);
     }
 
     fn first_out(&self) -> Option<&Item> {

@@ -13,7 +13,7 @@ use xns_spp::Item;
 ///
 /// Each `impl` names the side that its steps are defined by.
 pub trait WordSide {
-    ghost use Rattle.std.specs.Prelude.{◌≡◌, ◌≢◌, ◌<◌, List, [], ◌∷◌, length, Some, None, option_copied};
+    ghost use Rattle.std.specs.Prelude.{◌≡◌, ◌≢◌, ◌<◌, List, [], ◌∷◌, length, true, Some, None, Ok, option_copied};
     ghost use Rattle.xns_spp.specs.declared.item.Item.{Item};
     ghost use Rattle.courier_sessions.specs.Pumping.{Side, IsFed};
 
@@ -23,6 +23,16 @@ pub trait WordSide {
     /// Takes in one more item of the peer's, whose bytes are copied, and keeps the message that it ends.
     fn feed(&mut self, alloc: Global, item: &Item) -> Result<(), FeedRefusal>
         ensures fed { IsFed side self.old item.now result self.new }
+        ensures out { side.out self.new ≡ side.out self.old };
+
+    /// Whether the item can be fed without a copy: nothing is wrong with the item, and nothing is kept of what came, so
+    /// the item's bytes take no memory. The side may also say no where it does not know that nothing is kept.
+    fn needs_no_copy(&self, item: &Item) -> bool
+        ensures { result ≡ true → side.uncopied self.now item.now };
+
+    /// Takes in an item that needs no copy, and keeps the message that the item ends. For other items there is `feed`.
+    fn feed_uncopied(&mut self, alloc: Global, item: Item)
+        ensures fed { side.uncopied self.old item → side.fed self.old item ≡ Ok self.new }
         ensures out { side.out self.new ≡ side.out self.old };
 
     /// The first item that is to go out, which stays.
