@@ -23,6 +23,7 @@ use crate::connection::Connection;
 use crate::flag::as_byte;
 use crate::front::put_front;
 use crate::handle::XnsEndpoint;
+use crate::handling::Handle;
 use crate::item::XnsItem;
 use crate::laws::packets_have_their_sizes;
 use crate::received::XnsReceived;

@@ -1,9 +1,12 @@
-ghost use Rattle.std.specs.Prelude.{Option};
+ghost use Rattle.std.specs.Prelude.{◌≡◌, Option};
 ghost use Rattle.std.specs.Coded.{coded_option};
 ghost use Rattle.xns_c.specs.Line.{Line};
 ghost use Rattle.xns_c.specs.Owned.{owned_if};
 ghost use Rattle.xns_c.specs.contracts.connection.Connection.{the_row};
 
+use crate::connection::Connection;
+use crate::handling::Handle;
+use crate::owner::Owner;
 use std::marker::Model;
 
 /// An endpoint, or none, as C keeps it: one word. A null pointer is none.
@@ -15,4 +18,21 @@ pub struct XnsEndpoint {
 
 impl Model for XnsEndpoint {
     ghost also_owns = { λ h. owned_if the_row h.at h.line };
+}
+
+impl Handle for XnsEndpoint {
+    type Kept = Connection;
+
+    ghost held = { λ h. h.line };
+
+    fn exchange(&mut self, owner: Owner<Connection>) -> Owner<Connection>
+        ensures { (self.new.line ≡ owner.value) × (result.value ≡ self.old.line) }
+    {
+        let Owner { at } = owner;
+        let found = self.at;
+        self.at = at as *mut u8;
+        Owner {
+            at: found as *mut Connection,
+        }
+    }
 }

@@ -18,6 +18,7 @@ ghost use Rattle.xns_c.specs.declared.kept_host.KeptHost.{KeptHost};
 use crate::address::XnsAddress;
 use crate::event::XnsEvent;
 use crate::faults::host_fault_number;
+use crate::handling::Handle;
 use crate::host_handle::XnsHost;
 use crate::kept_host::KeptHost;
 use crate::results::{NO_HOST, OK};

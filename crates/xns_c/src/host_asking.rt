@@ -12,6 +12,7 @@ ghost use Rattle.xns_c.specs.Structs.{address_in};
 ghost use Rattle.xns_c.specs.declared.kept_host.KeptHost.{KeptHost};
 
 use crate::address::XnsAddress;
+use crate::handling::Handle;
 use crate::host_handle::XnsHost;
 use crate::kept_host::NEVER;
 use crate::results::{NO_CONNECTION, NO_HOST, NOTHING, OK};

@@ -6,6 +6,7 @@ ghost use Rattle.xns_c.specs.Programs.{GivesTable, GivesText, TableWants, progra
 ghost use Rattle.xns_c.specs.Results.{no_memory};
 
 use crate::giving::{give_program, give_text};
+use crate::handling::Handle;
 use crate::node::XnsNode;
 use crate::programs_handle::XnsPrograms;
 use crate::results::NOTHING;

@@ -12,6 +12,7 @@ use crate::finding::{
     find_error, find_procedure, name_of_error, name_of_procedure, name_of_program,
 };
 use crate::giving::{give_name, tell_number, tell_program};
+use crate::handling::Handle;
 use crate::kept_programs::KeptPrograms;
 use crate::notation_fault::XnsNotationFault;
 use crate::programs_handle::XnsPrograms;
