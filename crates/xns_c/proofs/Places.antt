@@ -9,7 +9,7 @@ use Rattle.xns_idp.specs.Reading.{packet_of, packet_fault, packet_fields, word_a
 use Rattle.xns_idp.specs.declared.fault.IdpFault.{IdpFault}
 use Rattle.xns_idp.specs.declared.fault.IdpFault.TheVariants.{Short}
 use Rattle.xns_c.specs.declared.packet.XnsPacket.{XnsPacket}
-use Rattle.xns_c.specs.Views.{packet_in}
+use Rattle.xns_c.specs.Views.{StandsIn, packet_in}
 use Rattle.xns_c.specs.Given.{is_yes, as_byte}
 use Rattle.xns_c.specs.Structs.{address_in}
 use Rattle.xns_spp.specs.declared.header.Header.{Header}
@@ -42,7 +42,7 @@ placed b x e =
     sym (ap (λ (m : ℕ). take m xs) (counts ∙ sym (ap length is) ∙ length-take n xs) ∙ take_min n xs ∙ is)
 
 -- what stands behind the first of the data
-pub behind : (b : List ℕ) (x : PacketModel × ℕ) (k n : ℕ) → packet_of b ≡ Ok x → k + n ≡ length x.0.body → slice_range b (30 + k) (30 + k + n) ≡ drop k x.0.body
+behind : (b : List ℕ) (x : PacketModel × ℕ) (k n : ℕ) → packet_of b ≡ Ok x → k + n ≡ length x.0.body → slice_range b (30 + k) (30 + k + n) ≡ drop k x.0.body
 behind b x k n e size =
     let xs : List ℕ = drop 30 b in
     let counts : 30 + length x.0.body - 30 ≡ k + n = omega (arith, size) in
@@ -75,6 +75,20 @@ within b x e =
     let most = min-le_right n (length xs) in
     let left = length-drop 30 b in
     omega (arith, header, size, cut, most, left)
+
+-- what stands behind the first of the data lies within the bytes
+pub stands : {IsSuch : PacketModel → Type 0} (before size : ℕ) (b : List ℕ) (x : PacketModel × ℕ) → packet_of b ≡ Ok x → IsSuch x.0
+    → before + size ≡ length x.0.body → StandsIn IsSuch before b (30 + before) size
+stands before size b x reads such is =
+    let fits = within b x reads in
+    record {
+      packet = x.0;
+      taken = x.1;
+      reads = reads;
+      such = such;
+      within = omega (arith, is, fits);
+      body = behind b x before size reads is;
+    }
 
 flag_again : (x : Bool) → is_yes (as_byte x) ≡ x
 flag_again true = refl

@@ -1,10 +1,11 @@
 -- Both sides of the Echo protocol (XSIS 028112, Echo Protocol).
-use Rattle.std.specs.Prelude.{◌≡◌, ◌⊎◌, ◌≤◌, ◌+◌, ℕ, false, true, List, drop, length, slice_range, Ok}
+use Rattle.std.specs.Prelude.{◌≡◌, ◌⊎◌, ℕ, false, true, List, drop, Ok}
 use Rattle.xns_idp.specs.Packet.{PacketModel, broadcast}
 use Rattle.xns_idp.specs.Reading.{packet_of}
 use Rattle.xns_idp.specs.declared.address.Address.{Address}
 use Rattle.xns_small.specs.Echo.{IsAnswered, echo_of, echo_spelling}
 use Rattle.xns_small.specs.Sending.{sent_packet}
+use Rattle.xns_c.specs.Views.{StandsIn}
 
 -- ---- the side that answers
 
@@ -30,10 +31,5 @@ pub record IsEchoed (asked : Address) (p : PacketModel) : Type 0 where
   pub host : (p.source.host ≡ asked.host) ⊎ (asked.host ≡ broadcast)
 
 -- the bytes are such a reply, and what it echoes stands at a place within them
-pub record IsEchoedIn (asked : Address) (bytes : List ℕ) (place size : ℕ) : Type 0 where
-  pub packet : PacketModel
-  pub taken : ℕ
-  pub reads : packet_of bytes ≡ Ok (packet, taken)
-  pub echoed : IsEchoed asked packet
-  pub within : place + size ≤ length bytes
-  pub body : slice_range bytes place (place + size) ≡ drop 2 packet.body
+abbrev pub IsEchoedIn : (asked : Address) → List ℕ → (place size : ℕ) → Type 0
+IsEchoedIn asked = StandsIn (IsEchoed asked) 2

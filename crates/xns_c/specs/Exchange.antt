@@ -1,10 +1,11 @@
 -- Both sides of a packet exchange (XSIS 028112, Packet Exchange Protocol). Of one that asks C holds whom it asks, and under which
 -- identifier.
-use Rattle.std.specs.Prelude.{◌≡◌, ◌≢◌, ◌⊎◌, ◌≤◌, ℕ, ◌+◌, List, [], drop, length, slice_range, Ok}
+use Rattle.std.specs.Prelude.{◌≡◌, ◌≢◌, ◌⊎◌, ◌≤◌, ℕ, List, [], length, Ok}
 use Rattle.xns_idp.specs.Packet.{PacketModel, broadcast}
 use Rattle.xns_idp.specs.Reading.{long_at, packet_of, word_at}
 use Rattle.xns_idp.specs.declared.address.Address.{Address}
 use Rattle.xns_small.specs.Exchange.{RequesterModel, IsResponse, asking_packet}
+use Rattle.xns_c.specs.Views.{StandsIn}
 
 -- ---- the side that asks
 
@@ -13,13 +14,8 @@ abbrev pub asker : Address → ℕ → RequesterModel
 asker target id = record { asked = target; id = id; packet = [] }
 
 -- the bytes are the response, and its own data stand at a place within them
-pub record IsResponseIn (requester : RequesterModel) (bytes : List ℕ) (place size : ℕ) : Type 0 where
-  pub packet : PacketModel
-  pub taken : ℕ
-  pub reads : packet_of bytes ≡ Ok (packet, taken)
-  pub response : IsResponse requester packet
-  pub within : place + size ≤ length bytes
-  pub body : slice_range bytes place (place + size) ≡ drop 6 packet.body
+abbrev pub IsResponseIn : RequesterModel → List ℕ → (place size : ℕ) → Type 0
+IsResponseIn requester = StandsIn (IsResponse requester) 6
 
 -- ---- the side that answers
 

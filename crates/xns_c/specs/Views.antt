@@ -1,6 +1,7 @@
 -- What the structs of packets that C sees stand for.
-use Rattle.std.specs.Prelude.{ℕ, ◌+◌, List, slice_range}
+use Rattle.std.specs.Prelude.{◌≡◌, ◌≤◌, ℕ, ◌+◌, List, drop, length, slice_range, Ok}
 use Rattle.xns_idp.specs.Packet.{PacketModel}
+use Rattle.xns_idp.specs.Reading.{packet_of}
 use Rattle.xns_spp.specs.declared.header.Header.{Header}
 use Rattle.xns_c.specs.Given.{is_yes}
 use Rattle.xns_c.specs.Structs.{address_in}
@@ -21,6 +22,15 @@ packet_with p body = record {
 -- the packet whose body stands at its place in the bytes
 abbrev pub packet_in : XnsPacket → List ℕ → PacketModel
 packet_in p bytes = packet_with p (slice_range bytes p.body_at (p.body_at + p.body_length))
+
+-- the bytes are such a packet, and its own data, behind so many bytes of its body, stand at a place within them
+pub record StandsIn (IsSuch : PacketModel → Type 0) (before : ℕ) (bytes : List ℕ) (place size : ℕ) : Type 0 where
+  pub packet : PacketModel
+  pub taken : ℕ
+  pub reads : packet_of bytes ≡ Ok (packet, taken)
+  pub such : IsSuch packet
+  pub within : place + size ≤ length bytes
+  pub body : slice_range bytes place (place + size) ≡ drop before packet.body
 
 abbrev pub header_in : XnsHeader → Header
 header_in h = record {
