@@ -15,28 +15,18 @@ message_given m words =
     else if m.kind == 3 then Some (messages.Abort m.transaction m.number words)
     else None
 
--- what stands before a message's words, as C is told it: a field that its kind does not have is 0
+-- what stands before the words of a message that is no call, as C is told it: a field that its kind does not have is 0
+abbrev pub short_head : (kind transaction number : ℕ) → XnsMessage
+short_head kind transaction number =
+    record { kind = kind; transaction = transaction; program = 0; version = 0; procedure = 0; number = number }
+
+-- what stands before the words of a message, as C is told it
 abbrev pub head_given : Message → XnsMessage
 head_given (messages.Call transaction program version procedure words) =
     record { kind = 0; transaction = transaction; program = program; version = version; procedure = procedure; number = 0 }
-head_given (messages.Reject transaction reason words) = record {
-  kind = 1;
-  transaction = transaction;
-  program = 0;
-  version = 0;
-  procedure = 0;
-  number = reason;
-}
-head_given (messages.Return transaction words) =
-    record { kind = 2; transaction = transaction; program = 0; version = 0; procedure = 0; number = 0 }
-head_given (messages.Abort transaction error words) = record {
-  kind = 3;
-  transaction = transaction;
-  program = 0;
-  version = 0;
-  procedure = 0;
-  number = error;
-}
+head_given (messages.Reject transaction reason words) = short_head 1 transaction reason
+head_given (messages.Return transaction words) = short_head 2 transaction 0
+head_given (messages.Abort transaction error words) = short_head 3 transaction error
 
 -- the answer of this kind: 1 a reject, 2 a return, 3 an abort
 abbrev pub answer_in : ℕ → ℕ → Option Answer

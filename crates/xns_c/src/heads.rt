@@ -4,7 +4,7 @@ ghost use Rattle.std.specs.Prelude.{◌≡◌, ℕ, List, IfSome, IfOk, Some, No
 ghost use Rattle.courier_messages.specs.Message.{message_bytes};
 ghost use Rattle.courier_messages.specs.declared.head.Head.TheVariants.{Call};
 ghost use Rattle.courier_messages.specs.Head.{with_words};
-ghost use Rattle.xns_c.specs.Heads.{head_given, message_given, answer_in};
+ghost use Rattle.xns_c.specs.Heads.{head_given, message_given, answer_in, short_head};
 
 use crate::message::XnsMessage;
 use courier_messages::{Head, Words, write_message};
@@ -54,7 +54,7 @@ pub fn head_out(head: Head) -> XnsMessage
 
 /// What comes before the words of a message that is no call.
 fn short_head(kind: u8, transaction: u16, number: u16) -> XnsMessage
-    ensures { result ≡ record { kind = kind; transaction = transaction; program = 0; version = 0; procedure = 0; number = number } }
+    ensures { result ≡ short_head kind transaction number }
 {
     XnsMessage {
         kind,
