@@ -115,15 +115,10 @@ pub extern "C" fn xns_programs_find_procedure(
         number.old number.new result }
     ensures same { programs_of handle.new ≡ programs_of handle.old }
 {
-    let Some(kept) = handle.take(alloc) else {
-        return NOTHING;
-    };
-    let result = tell_number(
-        find_procedure(&kept.programs, program, version, name),
-        number,
-    );
-    handle.put(kept);
-    result
+    let found = handle.ask(alloc, None, |kept| {
+        find_procedure(&kept.programs, program, version, name)
+    });
+    tell_number(found, number)
 }
 
 /// Tells the number of the error of this name in a program.
@@ -142,12 +137,10 @@ pub extern "C" fn xns_programs_find_error(
         number.old number.new result }
     ensures same { programs_of handle.new ≡ programs_of handle.old }
 {
-    let Some(kept) = handle.take(alloc) else {
-        return NOTHING;
-    };
-    let result = tell_number(find_error(&kept.programs, program, version, name), number);
-    handle.put(kept);
-    result
+    let found = handle.ask(alloc, None, |kept| {
+        find_error(&kept.programs, program, version, name)
+    });
+    tell_number(found, number)
 }
 
 /// Puts the name of a program to the front of a buffer.
