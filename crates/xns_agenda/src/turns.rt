@@ -32,6 +32,7 @@ impl Turns {
     }
 
     /// Whose turn is first. A `None`: nobody has a turn.
+    #[inline(always)]
     pub fn first(&self) -> Option<usize>
         ensures some { IfSome result (λ k. IsFirst self.now k) }
         ensures none { result ≡ None → HasNoTurn self.now }
