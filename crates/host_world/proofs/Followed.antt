@@ -12,6 +12,7 @@ use Rattle.xns_spp.specs.Packet.{SppPacketModel}
 use Rattle.xns_host.specs.Coming.{Arrives, Comes, Opens}
 use Rattle.xns_host.specs.Coming as coming
 use Rattle.xns_connection.specs.Deeds as deeds
+use Rattle.xns_connection.specs.Ends.{opener_of}
 use Rattle.xns_host.specs.Events.{event_by, event_in, event_of, is_newly_open}
 use Rattle.xns_host.specs.Hosting.{IsPlace, confirms, free_place, of_closed, of_stranger, may_go, tells as has_news}
 use Rattle.xns_connection.specs.Living.{Deeds}
@@ -40,7 +41,7 @@ use Rattle.host_world.specs.Pairing.{no_more, one_message_more}
 use Rattle.host_world.specs.Seen.{number_of}
 use Rattle.host_world.proofs.Guests.{announced, answers, calls, closes, gives, hands, hears_it, not_served, tells}
 use Rattle.host_world.proofs.Numbers.{at_place, beside, may_be_told, same_or_other, since_stranger, since_told}
-use Rattle.host_world.proofs.Shown.{event_number, later_is, newly_event, why_by}
+use Rattle.host_world.proofs.Reporting.{event_number, later_is, newly_event, why_by}
 use Rattle.host_world.proofs.Following.{Led, led, left, Goes, Still, at_once, same_goes, still, still_then, then_does, EachStill, each_then, still_if, turns_still, all_act, no_packet, gives_none, in_vain, follows, followed, did_same, did_other, one_guest, not_equal}
 
 -- ---- at one number, and at the others
@@ -160,7 +161,7 @@ may_go_away gs (free_place k there) g e = absurd (nobody_there g (sym there ∙ 
 may_go_away gs (of_closed k t f full there since first) g e =
     subst MayBeForgotten (one_guest f g (sym there ∙ e)) (inl (since_told (is_some f.connection.closed) f.connection.told (due_time f.connection.wait.due) t since))
 may_go_away gs (of_stranger k t f full none there since first) g e =
-    let x = since_stranger (is_some f.opener) f.confirmed f.heard_of (is_some f.connection.closed) (has_news f.connection) t f.connection.wait.heard_at since in
+    let x = since_stranger (is_some (opener_of f.connection)) f.confirmed f.heard_of (is_some f.connection.closed) (has_news f.connection) t f.connection.wait.heard_at since in
     subst MayBeForgotten (one_guest f g (sym there ∙ e)) (inr (x.0, x.1))
 
 -- whatever is in the place then

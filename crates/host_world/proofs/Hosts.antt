@@ -12,6 +12,7 @@ use Rattle.xns_host.specs.Turn.{Abandons, ConnectsTo, GivesOut, TellsNext, Turn,
 use Rattle.xns_host.specs.Went.{GuestHears, GuestStep, GuestTagged, GuestUnserved, Went}
 use Rattle.xns_host.specs.Whole.{Whole}
 use Rattle.xns_connection.specs.Deeds.{Deed}
+use Rattle.xns_connection.specs.Ends.{AConnectionKeepsItsEnd}
 use Rattle.xns_host.specs.Strays.{StrayQueue}
 use Rattle.xns_host.specs.declared.register.Register.{Register}
 use Rattle.xns_host.specs.declared.event.Event.{Event}
@@ -21,55 +22,56 @@ use Rattle.xns_host.specs.declared.host_fault.HostFault.{HostFault}
 use Rattle.xns_host.specs.declared.outgoing.Outgoing.{Outgoing}
 use Rattle.host_world.specs.Dialogue.{Dialogue, new_dialogue, View, free, held, Happening, abandons, connects, opens, abandoning, connecting, opening}
 use Rattle.host_world.specs.Seen.{NumberHasHistory, IsSaid, IsSeen, HasLived, Quiet, abandons_none, begins, finds_no_room, gives_out, goes_on, has_abandoned, has_connected, has_said, is_refused, moves, news_of, number_of, of_answer, of_call, of_close, said_at, serves, tags, takes_in, tells_nothing, was_told}
-use Rattle.host_world.proofs.Shown.{Passes, Shows, ShowsIn, after_answer, after_call, after_close, first_said, first_unseen, hearing, stays, tagging, unserving}
+use Rattle.host_world.proofs.Doing.{after_answer, after_call, after_close, hearing, unserving}
+use Rattle.host_world.proofs.Shown.{Passes, Shows, ShowsIn, first_said, first_unseen, stays, tagging}
 use Rattle.host_world.proofs.Numbers.{passes_then, One, AtEach, Silent, silent, silent_if, then_silent, one_changed, unsaid, of_guest, set_changed, turned, all_act, next_packet, next_event, no_event, connected_shows, opened_shows, taking}
 
 -- ---- a packet that came
 
-opens_it : (now way : ℕ) (bytes : List ℕ) (packet : SppPacketModel) (w : Whole) {register : Register} {strays : StrayQueue} {r : Places} → Opens now way bytes packet w register strays r → Silent w.places.guests r.guests
-opens_it now way bytes packet w (coming.opened {mid = mid} {new = new} number id peer programs opener served seats turn) =
+opens_it : AConnectionKeepsItsEnd → (now way : ℕ) (bytes : List ℕ) (packet : SppPacketModel) (w : Whole) {register : Register} {strays : StrayQueue} {r : Places} → Opens now way bytes packet w register strays r → Silent w.places.guests r.guests
+opens_it ends now way bytes packet w (coming.opened {mid = mid} {new = new} number id peer programs opener served seats turn) =
     let guest = seats.guest in
     let shows = opened_shows guest seats.answering in
     let taken = taken_by (vacated w.places number) number guest in
     then_silent (λ k. []) w.places.guests taken.guests new.guests
     (unsaid number w.places.guests taken.guests (taking w.places guest [] seats.place
     (first_unseen free (held (new_dialogue false)) opens [] (Some (Some guest)) opening refl (stays (held (new_dialogue false)) (Some (Some guest)) shows))))
-    (unsaid number taken.guests new.guests (turned (GuestHears now bytes false) number taken new [] (λ d g h s t. hearing now bytes false d g h s t)
+    (unsaid number taken.guests new.guests (turned (GuestHears now bytes false) number taken new [] (λ d g h s t. hearing ends now bytes false d g h s t)
     (subst (λ (p : Places). Turns (GuestHears now bytes false) number p new) seats.is turn)))
-opens_it now way bytes packet w (coming.full why same complains) = silent w.places.guests
-opens_it now way bytes packet w (coming.starved same) = silent w.places.guests
+opens_it ends now way bytes packet w (coming.full why same complains) = silent w.places.guests
+opens_it ends now way bytes packet w (coming.starved same) = silent w.places.guests
 
-comes : (now way : ℕ) (bytes : List ℕ) (w : Whole) {result : Bool} {n : Whole} → Comes now way bytes w result n → Silent w.places.guests n.places.guests
-comes now way bytes w (coming.foreign never) = silent w.places.guests
-comes now way bytes w (coming.echoes p taken is asks stray) = silent w.places.guests
-comes now way bytes w (coming.refuses p taken {q = q} is quotes turn) =
-    unsaid quotes.number w.places.guests q.guests (turned (GuestUnserved now quotes.quote.error) quotes.number w.places q [] (λ d g h s t. unserving now quotes.quote.error d g h s t) turn)
-comes now way bytes w (coming.hears p {q = q} is names turn) =
-    unsaid names.number w.places.guests q.guests (turned (GuestHears now bytes (confirms p)) names.number w.places q [] (λ d g h s t. hearing now bytes (confirms p) d g h s t) turn)
-comes now way bytes w (coming.opens p is opener o) = opens_it now way bytes p w o
+comes : AConnectionKeepsItsEnd → (now way : ℕ) (bytes : List ℕ) (w : Whole) {result : Bool} {n : Whole} → Comes now way bytes w result n → Silent w.places.guests n.places.guests
+comes ends now way bytes w (coming.foreign never) = silent w.places.guests
+comes ends now way bytes w (coming.echoes p taken is asks stray) = silent w.places.guests
+comes ends now way bytes w (coming.refuses p taken {q = q} is quotes turn) =
+    unsaid quotes.number w.places.guests q.guests (turned (GuestUnserved now quotes.quote.error) quotes.number w.places q [] (λ d g h s t. unserving ends now quotes.quote.error d g h s t) turn)
+comes ends now way bytes w (coming.hears p {q = q} is names turn) =
+    unsaid names.number w.places.guests q.guests (turned (GuestHears now bytes (confirms p)) names.number w.places q [] (λ d g h s t. hearing ends now bytes (confirms p) d g h s t) turn)
+comes ends now way bytes w (coming.opens p is opener o) = opens_it ends now way bytes p w o
 
-arrives : (now way : ℕ) (bytes : List ℕ) (w : Whole) {result : Bool} {n : Whole} → Arrives now way bytes w result n → Silent w.places.guests n.places.guests
-arrives now way bytes w (coming.meant c) = comes now way bytes w c
-arrives now way bytes w (coming.unheard p taken c is served complains) = silent w.places.guests
-arrives now way bytes w (coming.unmeant c never) = silent w.places.guests
+arrives : AConnectionKeepsItsEnd → (now way : ℕ) (bytes : List ℕ) (w : Whole) {result : Bool} {n : Whole} → Arrives now way bytes w result n → Silent w.places.guests n.places.guests
+arrives ends now way bytes w (coming.meant c) = comes ends now way bytes w c
+arrives ends now way bytes w (coming.unheard p taken c is served complains) = silent w.places.guests
+arrives ends now way bytes w (coming.unmeant c never) = silent w.places.guests
 
 -- ---- the calls of a host
 
-said_by : (now : ℕ) {deed : Deed} {x : Happening} → IsSaid deed x → (a b : Option (Option Guest)) → Went now deed a b → (v : View) → ShowsIn v a → Passes (x ∷ []) v b
-said_by now is None b w v shows = absurd w
-said_by now is (Some None) b w v shows = absurd w
-said_by now is (Some (Some g)) None w v shows = absurd w
-said_by now is (Some (Some g)) (Some None) w v shows = absurd w
-said_by now {deed} {x} is (Some (Some g)) (Some (Some h)) w v shows = of_guest g (x ∷ []) (Some (Some h)) (λ d s. by is d s w) v shows where
+said_by : AConnectionKeepsItsEnd → (now : ℕ) {deed : Deed} {x : Happening} → IsSaid deed x → (a b : Option (Option Guest)) → Went now deed a b → (v : View) → ShowsIn v a → Passes (x ∷ []) v b
+said_by ends now is None b w v shows = absurd w
+said_by ends now is (Some None) b w v shows = absurd w
+said_by ends now is (Some (Some g)) None w v shows = absurd w
+said_by ends now is (Some (Some g)) (Some None) w v shows = absurd w
+said_by ends now {deed} {x} is (Some (Some g)) (Some (Some h)) w v shows = of_guest g (x ∷ []) (Some (Some h)) (λ d s. by is d s w) v shows where
   by : {deed : Deed} {x : Happening} → IsSaid deed x → (d : Dialogue) → Shows d g → GuestStep now deed g h → Passes (x ∷ []) (held d) (Some (Some h))
-  by (of_call c) d s step = after_call now d g h c s step
-  by (of_answer kind words) d s step = after_answer now d g h kind words s step
-  by of_close d s step = after_close now d g h s step
+  by (of_call c) d s step = after_call ends now d g h c s step
+  by (of_answer kind words) d s step = after_answer ends now d g h kind words s step
+  by of_close d s step = after_close ends now d g h s step
 
-pub turns_say : (now number : ℕ) (deed : Deed) (x : Happening) (h j : Host) → IsSaid deed x → Turn now number deed (Ok tt) h j → AtEach (One number (x ∷ [])) h.guests.items j.guests.items
-turns_say now number deed x h j is t =
+pub turns_say : AConnectionKeepsItsEnd → (now number : ℕ) (deed : Deed) (x : Happening) (h j : Host) → IsSaid deed x → Turn now number deed (Ok tt) h j → AtEach (One number (x ∷ [])) h.guests.items j.guests.items
+turns_say ends now number deed x h j is t =
     one_changed h.guests.items j.guests.items number (x ∷ []) t.apart.others
-    (λ v shows. said_by (time_at h.clock now) is (slice_get h.guests.items number) (slice_get j.guests.items number) t.went v shows)
+    (λ v shows. said_by ends (time_at h.clock now) is (slice_get h.guests.items number) (slice_get j.guests.items number) t.went v shows)
 
 pub connects_to : (now way socket : ℕ) (peer : Address) (number : ℕ) (h j : Host) → ConnectsTo now way socket peer (Ok number) h j → AtEach (One number (connects ∷ [])) h.guests.items j.guests.items
 connects_to now way socket peer number h j c =
@@ -87,30 +89,30 @@ abandoned_at number h j a =
     (set_changed h.guests.items number (Some g) None (abandons ∷ []) a.there.1
     (of_guest g (abandons ∷ []) (Some None) (λ d s. first_said (held d) free abandons [] (Some None) (abandoning d) refl (stays free (Some None) tt))))
 
-pub telling_next : (event : Event) (h j : Host) → TellsNext (Some event) h j → AtEach (One (number_of event) (news_of event ∷ [])) h.guests.items j.guests.items
-telling_next event h j t = next_event h.clock.latest (places_of h) event t.next
+pub telling_next : AConnectionKeepsItsEnd → (event : Event) (h j : Host) → TellsNext (Some event) h j → AtEach (One (number_of event) (news_of event ∷ [])) h.guests.items j.guests.items
+telling_next ends event h j t = next_event ends h.clock.latest (places_of h) event t.next
 
-giving : (now : ℕ) (result : Result (Option Outgoing) HostFault) (h j : Host) → GivesOut now result h j → (waiting : List Outgoing) → h.strays.waiting ≡ waiting → Silent h.guests.items j.guests.items
-giving now result h j g [] is =
+giving : AConnectionKeepsItsEnd → (now : ℕ) (result : Result (Option Outgoing) HostFault) (h j : Host) → GivesOut now result h j → (waiting : List Outgoing) → h.strays.waiting ≡ waiting → Silent h.guests.items j.guests.items
+giving ends now result h j g [] is =
     let n = (g.next is).0 in
-    then_silent (λ k. []) h.guests.items g.mid.guests j.guests.items (all_act (time_at h.clock now) (places_of h) g.acts.one_by_one) (next_packet (time_at h.clock now) h.settings.first_wait g.mid n)
-giving now result h j g (o ∷ os) is =
+    then_silent (λ k. []) h.guests.items g.mid.guests j.guests.items (all_act ends (time_at h.clock now) (places_of h) g.acts.one_by_one) (next_packet ends (time_at h.clock now) h.settings.first_wait g.mid n)
+giving ends now result h j g (o ∷ os) is =
     let s = g.stray o os is in
-    then_silent (λ k. []) h.guests.items g.mid.guests j.guests.items (all_act (time_at h.clock now) (places_of h) g.acts.one_by_one)
+    then_silent (λ k. []) h.guests.items g.mid.guests j.guests.items (all_act ends (time_at h.clock now) (places_of h) g.acts.one_by_one)
     (silent_if g.mid.guests j.guests.items (ap (λ (p : Places). p.guests) s.1))
 
-pub quietly : (h j : Host) → Quiet h j → Silent h.guests.items j.guests.items
-quietly h j (is_refused now number deed fault t) = λ k v shows. subst (Passes [] v) (sym (t.unchanged k)) (stays v (slice_get h.guests.items k) shows)
-quietly h j (abandons_none number fault a) = silent_if h.guests.items j.guests.items (ap (λ (p : Places). p.guests) a.unchanged)
-quietly h j (finds_no_room now way socket peer fault c) = silent_if h.guests.items j.guests.items (ap (λ (p : Places). p.guests) c.unchanged)
-quietly h j (tells_nothing t) = no_event h.clock.latest (places_of h) t.next
-quietly h j (takes_in now way bytes result t) = arrives (time_at h.clock now) way bytes (whole_of h) t.comes
-quietly h j (gives_out now result g) = giving now result h j g h.strays.waiting refl
-quietly h j (serves socket programs result s) = silent_if h.guests.items j.guests.items (ap (λ (w : Whole). w.places.guests) s.rest)
-quietly h j (moves network m) = silent_if h.guests.items j.guests.items (ap (λ (w : Whole). w.places.guests) m.is)
-quietly h j (tags number tag (Ok u) t) =
+pub quietly : AConnectionKeepsItsEnd → (h j : Host) → Quiet h j → Silent h.guests.items j.guests.items
+quietly ends h j (is_refused now number deed fault t) = λ k v shows. subst (Passes [] v) (sym (t.unchanged k)) (stays v (slice_get h.guests.items k) shows)
+quietly ends h j (abandons_none number fault a) = silent_if h.guests.items j.guests.items (ap (λ (p : Places). p.guests) a.unchanged)
+quietly ends h j (finds_no_room now way socket peer fault c) = silent_if h.guests.items j.guests.items (ap (λ (p : Places). p.guests) c.unchanged)
+quietly ends h j (tells_nothing t) = no_event h.clock.latest (places_of h) t.next
+quietly ends h j (takes_in now way bytes result t) = arrives ends (time_at h.clock now) way bytes (whole_of h) t.comes
+quietly ends h j (gives_out now result g) = giving ends now result h j g h.strays.waiting refl
+quietly ends h j (serves socket programs result s) = silent_if h.guests.items j.guests.items (ap (λ (w : Whole). w.places.guests) s.rest)
+quietly ends h j (moves network m) = silent_if h.guests.items j.guests.items (ap (λ (w : Whole). w.places.guests) m.is)
+quietly ends h j (tags number tag (Ok u) t) =
     unsaid number h.guests.items j.guests.items (turned (GuestTagged tag) number (places_of h) (places_of j) [] (λ d g k s is. tagging tag d g k s is) t.tagged)
-quietly h j (tags number tag (Err fault) t) = silent_if h.guests.items j.guests.items (ap (λ (p : Places). p.guests) t.unchanged)
+quietly ends h j (tags number tag (Err fault) t) = silent_if h.guests.items j.guests.items (ap (λ (p : Places). p.guests) t.unchanged)
 
 -- ---- from a new host on
 
@@ -130,20 +132,20 @@ says_more : (said : ℕ → List Happening) (number : ℕ) (x : Happening) (old 
 says_more said number x old new p step k =
     subst (λ (xs : List Happening). Passes xs free (slice_get new k)) (more_said said number x k) (passes_then (said k) (One number (x ∷ []) k) free (slice_get old k) (slice_get new k) (p k) (step k))
 
-lives : {h : Host} {said : ℕ → List Happening} → HasLived h said → (k : ℕ) → Passes (said k) free (slice_get h.guests.items k)
-lives {h} (begins network host settings secret new) k =
+lives : AConnectionKeepsItsEnd → {h : Host} {said : ℕ → List Happening} → HasLived h said → (k : ℕ) → Passes (said k) free (slice_get h.guests.items k)
+lives ends {h} (begins network host settings secret new) k =
     subst (λ (gs : List (Option Guest)). Passes [] free (slice_get gs k)) (sym new.nobody) (stays free (slice_get (replicate settings.connections None) k) (free_at_first settings.connections k))
-lives (has_connected {h = h} {j = j} {said = said} before now way socket peer number c) k =
-    says_more said number connects h.guests.items j.guests.items (lives before) (connects_to now way socket peer number h j c) k
-lives (has_said {h = h} {j = j} {said = said} before now number deed x is t) k =
-    says_more said number x h.guests.items j.guests.items (lives before) (turns_say now number deed x h j is t) k
-lives (has_abandoned {h = h} {j = j} {said = said} before number a) k =
-    says_more said number abandons h.guests.items j.guests.items (lives before) (abandoned_at number h j a) k
-lives (was_told {h = h} {j = j} {said = said} before event t) k =
-    says_more said (number_of event) (news_of event) h.guests.items j.guests.items (lives before) (telling_next event h j t) k
-lives (goes_on {h = h} {j = j} {said = said} before q) k =
+lives ends (has_connected {h = h} {j = j} {said = said} before now way socket peer number c) k =
+    says_more said number connects h.guests.items j.guests.items (lives ends before) (connects_to now way socket peer number h j c) k
+lives ends (has_said {h = h} {j = j} {said = said} before now number deed x is t) k =
+    says_more said number x h.guests.items j.guests.items (lives ends before) (turns_say ends now number deed x h j is t) k
+lives ends (has_abandoned {h = h} {j = j} {said = said} before number a) k =
+    says_more said number abandons h.guests.items j.guests.items (lives ends before) (abandoned_at number h j a) k
+lives ends (was_told {h = h} {j = j} {said = said} before event t) k =
+    says_more said (number_of event) (news_of event) h.guests.items j.guests.items (lives ends before) (telling_next ends event h j t) k
+lives ends (goes_on {h = h} {j = j} {said = said} before q) k =
     subst (λ (xs : List Happening). Passes xs free (slice_get j.guests.items k)) (append-nil (said k))
-    (passes_then (said k) [] free (slice_get h.guests.items k) (slice_get j.guests.items k) (lives before k) (quietly h j q k))
+    (passes_then (said k) [] free (slice_get h.guests.items k) (slice_get j.guests.items k) (lives ends before k) (quietly ends h j q k))
 
 seen : (v : View) (place : Option (Option Guest)) → ShowsIn v place → IsSeen v place
 seen free None s = tt
@@ -153,7 +155,7 @@ seen (held d) None s = absurd s
 seen (held d) (Some None) s = absurd s
 seen (held d) (Some (Some g)) s = record { ours = s.ours; closed = s.closed; told = s.told }
 
-pub has_history : (h : Host) (said : ℕ → List Happening) → HasLived h said → (k : ℕ) → NumberHasHistory (slice_get h.guests.items k) (said k)
-has_history h said l k =
-    let p = lives l k in
+pub has_history : AConnectionKeepsItsEnd → (h : Host) (said : ℕ → List Happening) → HasLived h said → (k : ℕ) → NumberHasHistory (slice_get h.guests.items k) (said k)
+has_history ends h said l k =
+    let p = lives ends l k in
     record { view = p.view; seen = seen p.view (slice_get h.guests.items k) p.shows; happened = p.events; course = p.course; is = p.is }

@@ -3,6 +3,8 @@ mod Sides
 mod Stepping
 mod Deeds
 mod Shown
+mod Doing
+mod Reporting
 mod Numbers
 mod Hosts
 mod Telling

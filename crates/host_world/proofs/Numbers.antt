@@ -11,11 +11,13 @@ use Rattle.courier_messages.specs.Conversation.{conversation}
 use Rattle.courier_sessions.specs.Talks.{count_if}
 use Rattle.courier_sessions.specs.declared.program.Program.{Program}
 use Rattle.xns_idp.specs.declared.address.Address.{Address}
+use Rattle.xns_spp.specs.Held.{Held}
 use Rattle.xns_spp.specs.State.{State}
 use Rattle.xns_host.specs.Hosting.{IsConnected, IsAnswering, IsPlace, free_place, of_closed, of_stranger, is_past, may_go, tells as has_news}
 use Rattle.xns_agenda.specs.Waiting.{due_time}
 use Rattle.xns_host.specs.Places.{Acts, ActsAt, AsksEvent, AsksInVain, GivesNone, NextEvent, NextPacket, Places, Turns, became, event_passed, packet_passed, seated, taken_by, vacated, vacated_if}
 use Rattle.xns_host.specs.Places as places
+use Rattle.xns_connection.specs.Ends.{AConnectionKeepsItsEnd, opener_by, opener_of}
 use Rattle.xns_connection.specs.Story.{SideHas, new_story}
 use Rattle.xns_host.specs.Went.{GuestGives}
 use Rattle.xns_host.specs.Identifiers.{Ids}
@@ -31,7 +33,9 @@ use Rattle.xns_connection.specs.declared.side.Side.TheVariants.{Calls, Answers}
 use Rattle.host_world.specs.Dialogue.{Dialogue, new_dialogue, View, free, held, MayGo, Happening, goes, freeing, is_said}
 use Rattle.host_world.specs.Seen.{news_of, number_of}
 use Rattle.host_world.proofs.Dialogues.{course_on}
-use Rattle.host_world.proofs.Shown.{Passes, Shows, ShowsIn, acting, event_number, first_unseen, giving_out, stays, tells_it}
+use Rattle.host_world.proofs.Doing.{acting, giving_out}
+use Rattle.host_world.proofs.Reporting.{event_number, tells_it}
+use Rattle.host_world.proofs.Shown.{Passes, Shows, ShowsIn, first_unseen, stays}
 use Rattle.host_world.proofs.Sides.{Has}
 
 -- ---- one behind the other
@@ -167,31 +171,31 @@ became_so p number g h xs was each = by (may_go h.connection) refl where
 
 -- ---- what is due, and what goes out
 
-acts_at : (now number : ℕ) (p r : Places) → ActsAt now number p r → Silent p.guests r.guests
-acts_at now number p r a =
+acts_at : AConnectionKeepsItsEnd → (now number : ℕ) (p r : Places) → ActsAt now number p r → Silent p.guests r.guests
+acts_at ends now number p r a =
     subst (Silent p.guests) (sym (ap (λ (q : Places). q.guests) a.is))
-    (unsaid number p.guests (became p number a.next).guests (became_so p number a.guest a.next [] a.was (λ d s. acting now d a.guest a.next s a.acts)))
+    (unsaid number p.guests (became p number a.next).guests (became_so p number a.guest a.next [] a.was (λ d s. acting ends now d a.guest a.next s a.acts)))
 
-pub all_act : (now : ℕ) (p : Places) {r : Places} → Acts now p r → Silent p.guests r.guests
-all_act now p Acts.nobody = silent p.guests
-all_act now p (Acts.another {q = q} {r = r} number before first act) =
-    then_silent (λ k. []) p.guests q.guests r.guests (all_act now p before) (acts_at now number q r act)
+pub all_act : AConnectionKeepsItsEnd → (now : ℕ) (p : Places) {r : Places} → Acts now p r → Silent p.guests r.guests
+all_act ends now p Acts.nobody = silent p.guests
+all_act ends now p (Acts.another {q = q} {r = r} number before first act) =
+    then_silent (λ k. []) p.guests q.guests r.guests (all_act ends now p before) (acts_at ends now number q r act)
 
-asks_packet : (now number : ℕ) (result : Result (Option Outgoing) HostFault) (p r : Places) → Turns (GuestGives now result) number (packet_passed p number) r → Silent p.guests r.guests
-asks_packet now number result p r t =
-    unsaid number p.guests r.guests (turned (GuestGives now result) number (packet_passed p number) r [] (λ d g h s g_h. giving_out now result d g h s g_h) t)
+asks_packet : AConnectionKeepsItsEnd → (now number : ℕ) (result : Result (Option Outgoing) HostFault) (p r : Places) → Turns (GuestGives now result) number (packet_passed p number) r → Silent p.guests r.guests
+asks_packet ends now number result p r t =
+    unsaid number p.guests r.guests (turned (GuestGives now result) number (packet_passed p number) r [] (λ d g h s g_h. giving_out ends now result d g h s g_h) t)
 
-gives_none : (now : ℕ) (p : Places) {r : Places} → GivesNone now p r → Silent p.guests r.guests
-gives_none now p GivesNone.nobody = silent p.guests
-gives_none now p (GivesNone.another {q = q} {r = r} number before first asked) =
-    then_silent (λ k. []) p.guests q.guests r.guests (gives_none now p before) (asks_packet now number (Ok None) q r asked)
+gives_none : AConnectionKeepsItsEnd → (now : ℕ) (p : Places) {r : Places} → GivesNone now p r → Silent p.guests r.guests
+gives_none ends now p GivesNone.nobody = silent p.guests
+gives_none ends now p (GivesNone.another {q = q} {r = r} number before first asked) =
+    then_silent (λ k. []) p.guests q.guests r.guests (gives_none ends now p before) (asks_packet ends now number (Ok None) q r asked)
 
-pub next_packet : (now wait : ℕ) (p : Places) {result : Result (Option Outgoing) HostFault} {r : Places} → NextPacket now wait p result r → Silent p.guests r.guests
-next_packet now wait p (places.nothing before none) = gives_none now p before
-next_packet now wait p (places.gives {q = q} {r = r} {packet = packet} number before first asked) =
-    then_silent (λ k. []) p.guests q.guests r.guests (gives_none now p before) (asks_packet now number (Ok (Some packet)) q r asked)
-next_packet now wait p (places.starves {q = q} {r = r} number before first asked) =
-    then_silent (λ k. []) p.guests q.guests r.guests (gives_none now p before) (asks_packet now number (Err NoMemory) q r asked)
+pub next_packet : AConnectionKeepsItsEnd → (now wait : ℕ) (p : Places) {result : Result (Option Outgoing) HostFault} {r : Places} → NextPacket now wait p result r → Silent p.guests r.guests
+next_packet ends now wait p (places.nothing before none) = gives_none ends now p before
+next_packet ends now wait p (places.gives {q = q} {r = r} {packet = packet} number before first asked) =
+    then_silent (λ k. []) p.guests q.guests r.guests (gives_none ends now p before) (asks_packet ends now number (Ok (Some packet)) q r asked)
+next_packet ends now wait p (places.starves {q = q} {r = r} number before first asked) =
+    then_silent (λ k. []) p.guests q.guests r.guests (gives_none ends now p before) (asks_packet ends now number (Err NoMemory) q r asked)
 
 -- ---- what the program is told
 
@@ -203,14 +207,14 @@ in_vain now p AsksInVain.nobody = silent p.guests
 in_vain now p (AsksInVain.another {q = q} {r = r} number before first asked) =
     then_silent (λ k. []) p.guests q.guests r.guests (in_vain now p before) (asked_none now number q asked)
 
-asked_some : (now number : ℕ) (p : Places) {r : Places} (event : Event) → AsksEvent now number p (Some event) r → AtEach (One (number_of event) (news_of event ∷ [])) p.guests r.guests
-asked_some now number p event (places.tells g h e was is t) =
+asked_some : AConnectionKeepsItsEnd → (now number : ℕ) (p : Places) {r : Places} (event : Event) → AsksEvent now number p (Some event) r → AtEach (One (number_of event) (news_of event ∷ [])) p.guests r.guests
+asked_some ends now number p event (places.tells g h e was is t) =
     subst (λ (n : ℕ). AtEach (One n (news_of event ∷ [])) p.guests (became (event_passed p number) number h).guests) (sym (event_number number g event is))
-    (became_so (event_passed p number) number g h (news_of event ∷ []) was (λ d s. tells_it now number d g h event s t is))
+    (became_so (event_passed p number) number g h (news_of event ∷ []) was (λ d s. tells_it ends now number d g h event s t is))
 
-pub next_event : (now : ℕ) (p : Places) {r : Places} (event : Event) → NextEvent now p (Some event) r → AtEach (One (number_of event) (news_of event ∷ [])) p.guests r.guests
-next_event now p event (places.told {q = q} {r = r} number before first asked) =
-    silent_then (One (number_of event) (news_of event ∷ [])) p.guests q.guests r.guests (in_vain now p before) (asked_some now number q event asked)
+pub next_event : AConnectionKeepsItsEnd → (now : ℕ) (p : Places) {r : Places} (event : Event) → NextEvent now p (Some event) r → AtEach (One (number_of event) (news_of event ∷ [])) p.guests r.guests
+next_event ends now p event (places.told {q = q} {r = r} number before first asked) =
+    silent_then (One (number_of event) (news_of event ∷ [])) p.guests q.guests r.guests (in_vain now p before) (asked_some ends now number q event asked)
 
 pub no_event : (now : ℕ) (p : Places) {r : Places} → NextEvent now p None r → Silent p.guests r.guests
 no_event now p (places.nothing before none) = in_vain now p before
@@ -264,7 +268,7 @@ opened_shows {programs = programs} g c = record {
   state = _;
   stands = c.tells.stands;
   side = new_answers programs _ g.connection.conversation.side c.tells.has;
-  ours = ap is_none c.known_by;
+  ours = ap (λ (e : Held). is_none (opener_by e.ends.role e.ends)) c.tells.stands.holds;
   asked = λ z. absurd (cc);
   closed = c.made.made.unclosed;
   told = c.made.made.untold;
@@ -307,9 +311,9 @@ gives_way gs (free_place k at) v shows = stays v (Some None) (subst (ShowsIn v) 
 gives_way gs (of_closed k t g full at since first) v shows =
     goes_from v g (λ d s. inl (sym s.told ∙ since_told (is_some g.connection.closed) g.connection.told (due_time g.connection.wait.due) t since)) (subst (ShowsIn v) at shows)
 gives_way gs (of_stranger k t g full none at since first) v shows =
-    let x = since_stranger (is_some g.opener) g.confirmed g.heard_of (is_some g.connection.closed) (has_news g.connection) t g.connection.wait.heard_at since in
+    let x = since_stranger (is_some (opener_of g.connection)) g.confirmed g.heard_of (is_some g.connection.closed) (has_news g.connection) t g.connection.wait.heard_at since in
     goes_from v g (λ d s.
-    let theirs : d.ours ≡ false = sym s.ours ∙ some_is g.opener x.0 in
+    let theirs : d.ours ≡ false = sym s.ours ∙ some_is (opener_of g.connection) x.0 in
     inr (theirs, s.unheard x.1 theirs, sym s.closed ∙ none_is g.connection.closed x.2)) (subst (ShowsIn v) at shows)
 
 vacating : (p : Places) {n : ℕ} → IsPlace p.guests n → Silent p.guests (vacated p n).guests

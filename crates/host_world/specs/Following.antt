@@ -10,6 +10,7 @@ use Rattle.item_world.specs.declared.side.Side.TheVariants.{A, B}
 use Rattle.xns_idp.specs.declared.address.Address.{Address}
 use Rattle.xns_connection.specs.Deeds as deeds
 use Rattle.xns_connection.specs.Deeds.{Deed}
+use Rattle.xns_connection.specs.Ends.{opener_of}
 use Rattle.xns_connection.specs.Living.{Deeds}
 use Rattle.xns_connection.specs.Story.{asked_of}
 use Rattle.xns_host.specs.Turn.{Abandons, ConnectsTo, MovesTo, ServesAt, Tags, TellsNext, Turn}
@@ -30,7 +31,7 @@ use Rattle.host_world.specs.declared.station.Station.{Station}
 
 -- the program was told that the connection is closed; or a peer opened it, and no call of it was handed
 abbrev pub MayBeForgotten : Guest → Type 0
-MayBeForgotten h = (h.connection.told ≡ true) ⊎ ((is_some h.opener ≡ true) × (h.heard_of ≡ false))
+MayBeForgotten h = (h.connection.told ≡ true) ⊎ ((is_some (opener_of h.connection) ≡ true) × (h.heard_of ≡ false))
 
 -- steps of the meeting led on, in which the program at this side did so and the connection gave these packets, to the connection in this
 -- place; or to one that was forgotten

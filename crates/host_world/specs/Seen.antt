@@ -8,6 +8,7 @@ use Rattle.courier_sessions.specs.declared.program.Program.{Program}
 use Rattle.xns_idp.specs.declared.address.Address.{Address}
 use Rattle.xns_connection.specs.Deeds as deeds
 use Rattle.xns_connection.specs.Deeds.{Deed}
+use Rattle.xns_connection.specs.Ends.{opener_of}
 use Rattle.xns_host.specs.Standing.{IsNewHost}
 use Rattle.xns_host.specs.Turn.{Abandons, ConnectsTo, GivesOut, MovesTo, ServesAt, Tags, TakesIn, TellsNext, Turn}
 use Rattle.xns_host.specs.declared.event.Event.{Event}
@@ -75,7 +76,7 @@ pub data HasLived : Host → (ℕ → List Happening) → Type 0 where
 
 -- the connection is such: who opened it, why it is closed, and whether the program was told that
 pub record IsSeenAs (d : Dialogue) (g : Guest) : Type 0 where
-  pub ours : is_none g.opener ≡ d.ours
+  pub ours : is_none (opener_of g.connection) ≡ d.ours
   pub closed : g.connection.closed ≡ d.closed
   pub told : g.connection.told ≡ d.told
 

@@ -152,4 +152,6 @@ pub fn a_number_keeps_its_order()
 /// [`a_number_keeps_its_order`] says of histories holds of what a program sees.
 pub fn each_number_of_a_host_has_a_history()
     ensures { (h : Host) (said : ℕ → List Happening) → HasLived h said → (k : ℕ) → NumberHasHistory (slice_get h.guests.items k) (said k) }
-{}
+{
+    xns_connection::laws::a_connection_keeps_its_end();
+}

@@ -13,7 +13,7 @@ use Rattle.xns_host.specs.Hosting.{address_in}
 use Rattle.xns_host.specs.Ours.{HasSocket, IsOurs, IsToSocket}
 use Rattle.xns_host.specs.Ours as ours
 use Rattle.xns_host.specs.Services.{has_called, programs_at}
-use Rattle.xns_host.specs.Strays.{HasComplained, StrayQueue}
+use Rattle.xns_host.specs.Strays.{HasComplained}
 use Rattle.xns_host.specs.Turn.{whole_of}
 use Rattle.xns_host.specs.Whole.{Whole}
 use Rattle.xns_host.specs.declared.services.Services.{Services}

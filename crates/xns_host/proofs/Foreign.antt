@@ -88,7 +88,7 @@ named_not_ours w p q number all same named never n =
     let one : n.number ≡ number = same_Some n.number number (sym n.named ∙ name) in
     let at : slice_get w.places.guests number ≡ Some (Some n.there.guest)
     = subst (λ (m : ℕ). slice_get w.places.guests m ≡ Some (Some n.there.guest)) one n.there.there in
-    ∥∥₁_elim (all.each number n.there.guest at).fits (Prim.hlevel props) (λ fit.
+    ∥∥₁_elim (all.each number n.there.guest at).story (Prim.hlevel props) (λ fit.
     let yes : is_ours_at fit.story.state.ends p ≡ true = n.there.is fit.story.state fit.tells.stands in
     let no : is_ours_at fit.story.state.ends q ≡ false = never n.there.guest fit.story.state at fit.tells.stands in
     let bad : true ≡ false = sym yes ∙ (ap (λ (x : SppPacketModel). is_ours_at fit.story.state.ends x) same ∙ no) in
@@ -115,7 +115,7 @@ quoted_not_ours w c quote number all quoted owner never q =
     = same_Some q.number number (sym q.owner ∙ (ap (λ (x : Quote). owner_in w.register.identifiers x.source_id) same ∙ owner)) in
     let at : slice_get w.places.guests number ≡ Some (Some q.there.guest)
     = subst (λ (m : ℕ). slice_get w.places.guests m ≡ Some (Some q.there.guest)) one q.there.there in
-    ∥∥₁_elim (all.each number q.there.guest at).fits (Prim.hlevel props) (λ fit.
+    ∥∥₁_elim (all.each number q.there.guest at).story (Prim.hlevel props) (λ fit.
     let yes : is_sent_by q.there.guest fit.story.state q.quote ≡ true = q.there.is fit.story.state fit.tells.stands in
     let no : is_sent_by q.there.guest fit.story.state quote ≡ false = never q.there.guest fit.story.state at fit.tells.stands in
     let bad : true ≡ false = sym yes ∙ (ap (λ (x : Quote). is_sent_by q.there.guest fit.story.state x) same ∙ no) in

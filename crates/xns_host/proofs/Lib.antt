@@ -10,9 +10,12 @@ mod Fitting
 mod Follows
 mod Foreign
 mod Hearing
+mod Joining
+mod Leaving
 mod Meant
 mod Noting
 mod OnTerms
+mod Openers
 mod Ordered
 mod Placed
 mod Registered

@@ -5,17 +5,17 @@ use Rattle.std.specs.Option.{is_some}
 use Rattle.std.proofs.lemmas.List.{length-set}
 use Rattle.std.proofs.lemmas.Option.{slice_get_read}
 use Rattle.courier_messages.specs.declared.message.Message.{Message}
-use Rattle.courier_sessions.specs.declared.answer.Answer.{Answer}
 use Rattle.xns_agenda.specs.Agenda.{Plan}
 use Rattle.xns_agenda.specs.Waiting.{act_at}
-use Rattle.xns_connection.specs.Deeds.{Deed, gave, heard, told_by, with_answer}
+use Rattle.xns_connection.specs.Deeds.{Deed, heard, told_by}
+use Rattle.xns_connection.specs.Ends.{AConnectionKeepsItsEnd, KeepsEnd}
 use Rattle.xns_host.specs.Events.{event_by, event_for, is_newly_open, later_event}
 use Rattle.xns_host.specs.Hosting.{HasNoneDone, IsAllNoted, IsApart, IsNotDone, IsNotDoneIn, IsNotedBut, has_guest, may_go}
 use Rattle.xns_host.specs.Knowing.{known_in, known_of}
 use Rattle.xns_host.specs.Places.{places_with, vacated_if}
-use Rattle.xns_host.specs.Registered.{FitsEnd, IsAllRegistered}
+use Rattle.xns_host.specs.Registered.{HasStory, IsAllRegistered}
 use Rattle.xns_connection.specs.Step.{AConnectionGivesWhatItMade, AMessageIsHandedAsByAStep, AStepKeepsItsPromises, Step}
-use Rattle.xns_connection.specs.Story.{Story, asked_of, waiting_message, with_handed}
+use Rattle.xns_connection.specs.Story.{waiting_message, with_handed}
 use Rattle.xns_connection.specs.Telling.{Goes}
 use Rattle.xns_host.specs.Went.{GuestActs, GuestGives, GuestHears, GuestReports, GuestStep, GuestTagged, GuestTells, GuestUnserved, Went, hears, lost}
 use Rattle.xns_connection.specs.declared.connection.Connection.{Connection}
@@ -25,9 +25,8 @@ use Rattle.xns_host.specs.declared.guest.Guest.{Guest}
 use Rattle.xns_host.specs.declared.host_fault.HostFault.{HostFault}
 use Rattle.xns_host.specs.declared.outgoing.Outgoing.{Outgoing}
 use Rattle.xns_host.specs.declared.register.Register.{Register}
-use Rattle.xns_connection.specs.declared.side.Side.{Side}
 use Rattle.xns_connection.specs.declared.why.Why.{Why}
-use Rattle.xns_host.proofs.Ends.{StillFits, from_fits, goes_fits, handed_still, hears_fits, still_fits}
+use Rattle.xns_host.proofs.Ends.{from_story, goes_story, hears_story, still_keeps, still_story}
 use Rattle.xns_host.proofs.Meant.{acts_so, given_so, handed_story, handing, handing_steps, heard_hears}
 use Rattle.xns_host.proofs.Noting.{kept_but, place_other, place_set, same_or_other}
 use Rattle.xns_host.proofs.Placed.{set_back, settled_apart, settled_gone, settled_kept}
@@ -39,62 +38,57 @@ Places = List (Option Guest)
 
 -- ---- a connection that went on
 
--- what a host knows of it is as it was, and its end has that still, with its identifier
+-- what a host knows of the connection is as it was; the connection keeps its end, and its story goes on
 pub record Stays (g h : Guest) : Type 0 where
   pub known : known_of h ≡ known_of g
-  pub fits : FitsEnd g → StillFits g h
+  pub keeps : KeepsEnd g.connection h.connection
+  pub story : HasStory g → HasStory h
 
--- a deed of the program leaves the end as it was
-abbrev pub IsStill : Deed → Type 0
-IsStill deed = (side : Side) (h : Story) → (told_by deed side h).state ≡ h.state
-
-answer_still : (o : Option ℕ) (kind : Answer) (words : List ℕ) (h : Story) → (with_answer o kind words h).state ≡ h.state
-answer_still None kind words h = refl
-answer_still (Some k) kind words h = refl
-
-pub gave_still : (kind : Answer) (words : List ℕ) → IsStill (gave kind words)
-gave_still kind words side h = answer_still (asked_of side) kind words h
-
-pub step_stays : AStepKeepsItsPromises → (now : ℕ) (deed : Deed) (g h : Guest) → IsStill deed → GuestStep now deed g h → Stays g h
-step_stays law now deed g h still s =
-    let known : known_of h ≡ known_of g = ap known_of s.same in
-    record {
-      known = known;
-      fits = from_fits g h (told_by deed g.connection.conversation.side) (still g.connection.conversation.side) known (law now deed g.connection h.connection s.step).story;
-    }
+pub step_stays : AStepKeepsItsPromises → AConnectionKeepsItsEnd → (now : ℕ) (deed : Deed) (g h : Guest) → GuestStep now deed g h → Stays g h
+step_stays law ends now deed g h s = record {
+  known = ap known_of s.same;
+  keeps = ends.steps now deed g.connection h.connection s.step;
+  story = from_story g h (told_by deed g.connection.conversation.side) (law now deed g.connection h.connection s.step).story;
+}
 
 pub step_undone : (now : ℕ) (deed : Deed) (c d : Connection) → Step now deed c d → IsNotDone c → IsNotDone d
 step_undone now deed c d s = not_done_after c d s.told s.stays (λ at. waits_on now deed c.wait d.wait at s.steps)
 
-pub heard_stays : AStepKeepsItsPromises → (now : ℕ) (b : List ℕ) (confirming : Bool) (g h : Guest) → GuestHears now b confirming g h → Stays g h
-heard_stays law now b confirming g h (hears is) =
-    let known : known_of h ≡ known_of g = ap known_of is.same in
-    record { known = known; fits = hears_fits g h b known (heard_hears law now b g.connection h.connection is.step) }
-heard_stays law now b confirming g h (lost stores) = record { known = refl; fits = λ e. record { fits = e; id = refl } }
+pub heard_stays : AStepKeepsItsPromises → AConnectionKeepsItsEnd → (now : ℕ) (b : List ℕ) (confirming : Bool) (g h : Guest)
+    → GuestHears now b confirming g h → Stays g h
+heard_stays law ends now b confirming g h (hears is) = record {
+  known = ap known_of is.same;
+  keeps = ends.steps now (heard b) g.connection h.connection is.step;
+  story = hears_story g h b (heard_hears law now b g.connection h.connection is.step);
+}
+heard_stays law ends now b confirming g h (lost stores) =
+    record { known = refl; keeps = still_keeps g.connection g.connection refl; story = λ e. e }
 
 pub heard_undone : (now : ℕ) (b : List ℕ) (confirming : Bool) (g h : Guest) → GuestHears now b confirming g h → IsNotDone g.connection → IsNotDone h.connection
 heard_undone now b confirming g h (hears is) = step_undone now (heard b) g.connection h.connection is.step
 heard_undone now b confirming g h (lost stores) = λ was. was
 
-pub unserved_stays : (now error : ℕ) (g h : Guest) → GuestUnserved now error g h → Goes g.connection.conversation h.connection.conversation → Stays g h
-unserved_stays now error g h is goes =
-    let known : known_of h ≡ known_of g = ap known_of is.same in
-    record { known = known; fits = goes_fits g h known goes }
+pub unserved_stays : AConnectionKeepsItsEnd → (now error : ℕ) (g h : Guest) → GuestUnserved now error g h
+    → Goes g.connection.conversation h.connection.conversation → Stays g h
+unserved_stays ends now error g h is goes =
+    record { known = ap known_of is.same; keeps = ends.refused error now g.connection h.connection is.parts; story = goes_story g h goes }
 
-pub acted_stays : (now : ℕ) (g h : Guest) → GuestActs now g h → Goes g.connection.conversation h.connection.conversation → Stays g h
-acted_stays now g h is goes =
-    let known : known_of h ≡ known_of g = ap known_of is.same in
-    record { known = known; fits = goes_fits g h known goes }
+pub acted_stays : AConnectionKeepsItsEnd → (now : ℕ) (g h : Guest) → GuestActs now g h → Goes g.connection.conversation h.connection.conversation → Stays g h
+acted_stays ends now g h is goes =
+    record { known = ap known_of is.same; keeps = ends.acts now g.connection h.connection is.parts; story = goes_story g h goes }
 
 pub acted_undone : (now : ℕ) (g h : Guest) → GuestActs now g h → may_go h.connection ≡ false → IsNotDone g.connection → IsNotDone h.connection
 acted_undone now g h is left was =
     let k = acts_so now g.connection h.connection is.parts in
     not_done_act now g.connection h.connection (act_at g.connection.wait now) refl k.told k.closed k.wait left was
 
-pub gave_stays : AConnectionGivesWhatItMade → (now : ℕ) (r : Result (Option Outgoing) HostFault) (g h : Guest) → GuestGives now r g h → Stays g h
-gave_stays law now r g h is =
-    let known : known_of h ≡ known_of g = ap known_of is.same in
-    record { known = known; fits = goes_fits g h known (law now is.answer g.connection h.connection is.gave).goes }
+pub gave_stays : AConnectionGivesWhatItMade → AConnectionKeepsItsEnd → (now : ℕ) (r : Result (Option Outgoing) HostFault) (g h : Guest)
+    → GuestGives now r g h → Stays g h
+gave_stays law ends now r g h is = record {
+  known = ap known_of is.same;
+  keeps = ends.gives now is.answer g.connection h.connection is.gave;
+  story = goes_story g h (law now is.answer g.connection h.connection is.gave).goes;
+}
 
 pub gave_undone : (now : ℕ) (r : Result (Option Outgoing) HostFault) (g h : Guest) → GuestGives now r g h → IsNotDone g.connection → IsNotDone h.connection
 gave_undone now r g h is =
@@ -103,25 +97,26 @@ gave_undone now r g h is =
 
 -- ---- one that told something
 
-told_fits : AMessageIsHandedAsByAStep → (now : ℕ) (g h : Guest) (o : Option Message) → waiting_message g.connection.conversation.side ≡ o → GuestTells now g h
-    → known_of h ≡ known_of g → FitsEnd g → StillFits g h
-told_fits law now g h (Some m) waits t known =
-    from_fits g h (λ s. with_handed g.connection.conversation.side s m) (handed_still g.connection.conversation.side m) known
-    (handed_story law now g.connection h.connection m waits (t.handed (λ none. cc)))
-told_fits law now g h None waits t known = still_fits g h known (ap (λ (c : Connection). c.conversation) (t.closed waits))
+later_by : AMessageIsHandedAsByAStep → AConnectionKeepsItsEnd → (now : ℕ) (g h : Guest) (o : Option Message)
+    → waiting_message g.connection.conversation.side ≡ o → GuestTells now g h → Stays g h
+later_by law ends now g h (Some m) waits t =
+    let hands = t.handed (λ none. cc) in
+    record {
+      known = ap known_of t.same;
+      keeps = ends.hands now g.connection h.connection hands;
+      story = from_story g h (λ s. with_handed g.connection.conversation.side s m) (handed_story law now g.connection h.connection m waits hands);
+    }
+later_by law ends now g h None waits t =
+    let same = ap (λ (c : Connection). c.conversation) (t.closed waits) in
+    record { known = ap known_of t.same; keeps = still_keeps g.connection h.connection same; story = still_story g h same }
 
-later_stays : AMessageIsHandedAsByAStep → (now : ℕ) (g h : Guest) → GuestTells now g h → Stays g h
-later_stays law now g h t =
-    let known : known_of h ≡ known_of g = ap known_of t.same in
-    record { known = known; fits = told_fits law now g h (waiting_message g.connection.conversation.side) refl t known }
-
-pub told_stays : AMessageIsHandedAsByAStep → (now : ℕ) (g h : Guest) → GuestReports now g h → Stays g h
-told_stays law now g h t = by (is_newly_open g) refl where
+pub told_stays : AMessageIsHandedAsByAStep → AConnectionKeepsItsEnd → (now : ℕ) (g h : Guest) → GuestReports now g h → Stays g h
+told_stays law ends now g h t = by (is_newly_open g) refl where
   by : (newly : Bool) → is_newly_open g ≡ newly → Stays g h
   by true is =
-      let known : known_of h ≡ known_of g = ap known_of (t.opened is) in
-      record { known = known; fits = still_fits g h known (ap (λ (k : Guest). k.connection.conversation) (t.opened is)) }
-  by false is = later_stays law now g h (t.later is)
+      let same = ap (λ (k : Guest). k.connection.conversation) (t.opened is) in
+      record { known = ap known_of (t.opened is); keeps = still_keeps g.connection h.connection same; story = still_story g h same }
+  by false is = later_by law ends now g h (waiting_message g.connection.conversation.side) refl (t.later is)
 
 has_why : (number tag : ℕ) (told : Bool) (why : Option Why) (e : Event) → event_by number tag None (if told then None else why) ≡ Some e → (told || is_some why) ≡ true
 has_why number tag true why e some = refl
@@ -155,8 +150,8 @@ told_undone law now number g h e some t left was = by (is_newly_open g) refl whe
 
 pub tagged_stays : (tag : ℕ) (g h : Guest) → GuestTagged tag g h → Stays g h
 tagged_stays tag g h is =
-    let known : known_of h ≡ known_of g = ap known_of is in
-    record { known = known; fits = still_fits g h known (ap (λ (k : Guest). k.connection.conversation) is) }
+    let same = ap (λ (k : Guest). k.connection.conversation) is in
+    record { known = ap known_of is; keeps = still_keeps g.connection h.connection same; story = still_story g h same }
 
 pub tagged_undone : (tag : ℕ) (g h : Guest) → GuestTagged tag g h → IsNotDone g.connection → IsNotDone h.connection
 tagged_undone tag g h is = subst IsNotDone (sym (ap (λ (k : Guest). k.connection) is))
@@ -174,8 +169,7 @@ stays_noted a gs hs n old g h all is stays less read items = kept_but a gs hs n 
 pub stays_registered : (r : Register) (gs : Places) (n : ℕ) (old : Option Guest) (g h : Guest) → IsAllRegistered r gs → old ≡ Some g → Stays g h → n < length gs
     → old ≡ get_or gs n old → IsAllRegistered r (slice_set gs n (Some h))
 stays_registered r gs n old g h all is stays less read =
-    still_registered r gs n old (Some h) all (ap Some stays.known ∙ sym (ap known_in is))
-    (λ f was fit. let same : f ≡ g = cc in subst (λ (x : Guest). StillFits x h) (sym same) (stays.fits (subst FitsEnd same fit))) read less
+    still_registered r gs n old g h all is stays.keeps stays.story less read
 
 pub stays_undone : (gs : Places) (n : ℕ) (old : Option Guest) (g h : Guest) → HasNoneDone gs → old ≡ Some g → (IsNotDone g.connection → IsNotDone h.connection)
     → n < length gs → old ≡ get_or gs n old → HasNoneDone (slice_set gs n (Some h))

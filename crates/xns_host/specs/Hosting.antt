@@ -15,7 +15,8 @@ use Rattle.xns_connection.specs.Connecting.{is_dead}
 use Rattle.xns_connection.specs.Deeds.{acted}
 use Rattle.xns_host.specs.Events.{event_in, is_newly_open}
 use Rattle.xns_host.specs.Identifiers.{Ids, IsNext, is_free}
-use Rattle.xns_host.specs.Knowing.{id_of}
+use Rattle.xns_connection.specs.Ends.{opener_of}
+use Rattle.xns_host.specs.Knowing.{id_of, who_opened}
 use Rattle.xns_host.specs.Quotes.{is_sent_by, quoted_packet}
 use Rattle.xns_host.specs.Register.{peer_at}
 use Rattle.xns_connection.specs.Step.{parts_of}
@@ -51,7 +52,7 @@ lingers_since c = if is_some c.closed && c.told then due_time c.wait.due else No
 -- when its peer was last heard, if that peer only opened the connection, and nothing came of the connection yet
 abbrev pub stranger_since : Guest → Option ℕ
 stranger_since g =
-    if is_some g.opener && (not g.confirmed && (not g.heard_of &&
+    if is_some (opener_of g.connection) && (not g.confirmed && (not g.heard_of &&
     (not (is_some g.connection.closed) && not (tells g.connection)))) then Some g.connection.wait.heard_at else None
 
 abbrev pub facts_of : Guest → Facts
@@ -173,13 +174,14 @@ pub data Wants (strays : List Outgoing) (guests : List (Option Guest)) (short : 
   for_event : (k : ℕ) (g : Guest) → slice_get guests k ≡ Some (Some g) → event_in k (Some g) ≢ None → Wants strays guests short 0
   for_due : (k t : ℕ) (g : Guest) → slice_get guests k ≡ Some (Some g) → due_time g.connection.wait.due ≡ Some t → Wants strays guests short t
 
--- a connection may have something to tell: a message is there, which may be a call that is to be rejected, or the program was not told that
--- it is open or why it is closed
+-- a connection may have something to tell: a message waits, which may be a call that is to be rejected; or the program was not told that
+-- the connection is open, or why it is closed
 pub record MayTell (guests : List (Option Guest)) : Type 0 where
   pub number : ℕ
   pub there : IsThere (λ g. may_tell g ≡ true) (slice_get guests number)
 
--- the time that is told is the earliest of these, or 0 where a connection may have something to tell; where there is none, none is told
+-- a host tells the earliest time at which something wants it, or 0 where a connection may have something to tell; a host that nothing wants
+-- tells none
 pub record IsFirstWant (strays : List Outgoing) (guests : List (Option Guest)) (short time : Option ℕ) : Type 0 where
   pub least : (t : ℕ) → Wants strays guests short t → IsBy time t
   pub wanted : (t : ℕ) → time ≡ Some t → Wants strays guests short t ⊎ ((t ≡ 0) × MayTell guests)
@@ -233,7 +235,7 @@ pub record IsConnected (guests : List (Option Guest)) (number : ℕ) (settings :
   pub made : IsMadeBy settings now true guest.connection
   pub via : guest.via ≡ way
   pub peer : guest.peer ≡ to
-  pub opener : guest.opener ≡ None
+  pub opener : opener_of guest.connection ≡ None
   pub confirmed : guest.confirmed ≡ false
   pub heard_of : guest.heard_of ≡ false
   pub opening : guest.opening_untold ≡ settings.tells_opened
@@ -280,7 +282,7 @@ pub record IsAnswering (settings : Settings) (ids : Ids) (own opener : Address) 
   pub made : IsMadeBy settings now false guest.connection
   pub via : guest.via ≡ way
   pub peer : guest.peer ≡ opener
-  pub known_by : guest.opener ≡ Some (peer_at opener id own.socket)
+  pub known_by : who_opened guest ≡ Some (peer_at opener id own.socket)
   pub confirmed : guest.confirmed ≡ false
   pub heard_of : guest.heard_of ≡ false
   pub opening : guest.opening_untold ≡ false

@@ -1,6 +1,8 @@
 -- What a host knows of a connection.
 use Rattle.std.specs.Prelude.{ℕ, Option, Some, None}
 use Rattle.xns_idp.specs.declared.address.Address.{Address}
+use Rattle.xns_connection.specs.Ends.{opener_of}
+use Rattle.xns_host.specs.Register.{peer_at}
 use Rattle.xns_host.specs.declared.guest.Guest.{Guest}
 use Rattle.xns_host.specs.declared.peer.Peer.{Peer}
 
@@ -8,15 +10,22 @@ use Rattle.xns_host.specs.declared.peer.Peer.{Peer}
 abbrev pub id_of : Guest → ℕ
 id_of g = g.connection.conversation.endpoint.ends.id
 
--- what a host knows of a connection as long as it is there, beside what the connection is: who opened it, by which way its packets go out,
--- and its peer
+-- a peer that opened a connection, by its address and identifier, and at which socket of ours
+abbrev pub opener_to : (socket : ℕ) → Option (Address × ℕ) → Option Peer
+opener_to socket None = None
+opener_to socket (Some o) = Some (peer_at o.0 o.1 socket)
+
+-- the peer that opened the connection, and at which socket of ours, as the connection's end says; none where we opened it
+abbrev pub who_opened : Guest → Option Peer
+who_opened g = opener_to g.connection.conversation.endpoint.ends.own.socket (opener_of g.connection)
+
+-- what a host knows of a connection beside what the connection is: by which way its packets go out, and its peer
 pub record Known : Type 0 where
-  pub opener : Option Peer
   pub via : ℕ
   pub peer : Address
 
 abbrev pub known_of : Guest → Known
-known_of g = record { opener = g.opener; via = g.via; peer = g.peer }
+known_of g = record { via = g.via; peer = g.peer }
 
 -- what a host knows of the connection in this place
 abbrev pub known_in : Option Guest → Option Known

@@ -4,7 +4,7 @@ ghost use Rattle.std.specs.Prelude.{◌≡◌, ◌≢◌, ◌<◌, ℕ, List, On
 ghost use Rattle.xns_agenda.specs.Waiting.{IsDueAfter, last_time};
 ghost use Rattle.xns_host.specs.Events.{event_for, is_newly_open};
 ghost use Rattle.xns_host.specs.Hosting.{IsNotDone, facts_of, lingers_since, may_go, stranger_since};
-ghost use Rattle.xns_host.specs.Knowing.{id_of};
+ghost use Rattle.xns_host.specs.Knowing.{id_of, who_opened};
 ghost use Rattle.xns_spp.specs.Ends.{is_ours_at};
 ghost use Rattle.xns_spp.specs.Held.{StandsFor};
 ghost use Rattle.xns_spp.specs.Packet.{IsSppPacket, spp_packet_of};
@@ -37,8 +37,6 @@ pub struct Guest {
     pub via: u64,
     /// Whom we opened the connection to, or who opened it.
     pub peer: Address,
-    /// Who opened the connection. `None`: we did.
-    pub opener: Option<Peer>,
     /// Whether a packet of the connection with our identifier came.
     pub confirmed: bool,
     /// Whether the program was told of a call of the connection.
@@ -57,6 +55,15 @@ impl Guest {
     {
         let (_, id) = self.connection.own();
         id
+    }
+
+    /// Who opened the connection, and at which socket of ours. `None`: we did.
+    pub fn opener(&self) -> Option<Peer>
+        ensures { result ≡ who_opened self.now }
+    {
+        let (peer, id) = self.connection.opener()?;
+        let (own, _) = self.connection.own();
+        Some(Peer::at(&peer, id, own.socket))
     }
 
     /// Takes in a packet that was read from bytes, at this time, if the packet belongs to the connection; whether it does. The caller says
@@ -217,7 +224,7 @@ impl Guest {
     fn stranger_since(&self) -> Option<u64>
         ensures { result ≡ stranger_since self.now }
     {
-        if self.opener.is_some()
+        if self.connection.peer_opened()
             && !self.confirmed
             && !self.heard_of
             && !self.connection.is_closed()

@@ -31,7 +31,7 @@ use crate::strays::Strays;
 use courier_sessions::{Answer, Program};
 use std::alloc::{AllocError, Global};
 use xns_agenda::{Agenda, Clock};
-use xns_connection::laws::a_step_keeps_its_promises;
+use xns_connection::laws::{a_connection_keeps_its_end, a_step_keeps_its_promises};
 use xns_connection::{Call, Connection};
 use xns_idp::Address;
 
@@ -192,7 +192,6 @@ impl Host {
             connection,
             via,
             peer,
-            opener: None,
             confirmed: false,
             heard_of: false,
             opening_untold: self.settings.tells_opened,
@@ -221,6 +220,7 @@ impl Host {
         ensures turn { Turn now number (made (call_model call.now)) result self.old self.new }
     {
         a_step_keeps_its_promises();
+        a_connection_keeps_its_end();
         let now = self.clock.tell(now);
         if number >= self.guests.len() {
             return Err(HostFault::NoConnection { number });
@@ -252,6 +252,7 @@ impl Host {
         ensures turn { Turn now number (gave answer words.now) result self.old self.new }
     {
         a_step_keeps_its_promises();
+        a_connection_keeps_its_end();
         let now = self.clock.tell(now);
         if number >= self.guests.len() {
             return Err(HostFault::NoConnection { number });
@@ -272,6 +273,7 @@ impl Host {
         ensures turn { Turn now number asked result self.old self.new }
     {
         a_step_keeps_its_promises();
+        a_connection_keeps_its_end();
         let now = self.clock.tell(now);
         if number >= self.guests.len() {
             return Err(HostFault::NoConnection { number });

@@ -124,8 +124,8 @@ pub fn forget_in(
         return;
     };
     register.release(guest.id());
-    if let Some(opener) = &guest.opener {
-        register.leave(opener);
+    if let Some(opener) = guest.opener() {
+        register.leave(&opener);
     }
 }
 

@@ -9,7 +9,9 @@ use crate::host::Host;
 use crate::host_fault::HostFault;
 use crate::outgoing::Outgoing;
 use crate::slots::{note, settle_in};
-use xns_connection::laws::{a_connection_gives_what_it_made, a_message_is_handed_as_by_a_step};
+use xns_connection::laws::{
+    a_connection_gives_what_it_made, a_connection_keeps_its_end, a_message_is_handed_as_by_a_step,
+};
 
 impl Host {
     ghost use Rattle.xns_host.specs.Hosting.{ActsIn, EachActs, IsApart};
@@ -32,6 +34,7 @@ impl Host {
         ensures set_up { StaysSetUp self.old self.new }
     {
         a_message_is_handed_as_by_a_step();
+        a_connection_keeps_its_end();
         let now = self.clock.latest();
         self.agenda.pass_event(number);
         let Some(guest) = &mut self.guests[number] else {
@@ -74,6 +77,7 @@ impl Host {
         ensures strays { self.new.strays ≡ self.old.strays }
         ensures set_up { StaysSetUp self.old self.new }
     {
+        a_connection_keeps_its_end();
         if number >= self.guests.len() {
             return;
         }
@@ -122,6 +126,7 @@ impl Host {
         ensures set_up { StaysSetUp self.old self.new }
     {
         a_connection_gives_what_it_made();
+        a_connection_keeps_its_end();
         self.agenda.pass_packet(number);
         let Some(guest) = &mut self.guests[number] else {
             return Ok(None);

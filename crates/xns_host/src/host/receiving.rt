@@ -21,7 +21,7 @@ use crate::slots::{note, put_in};
 use courier_sessions::Program;
 use std::alloc::AllocError;
 use xns_connection::Connection;
-use xns_connection::laws::a_step_keeps_its_promises;
+use xns_connection::laws::{a_connection_keeps_its_end, a_step_keeps_its_promises};
 use xns_idp::packet_type::{ECHO, ERROR, SEQUENCED_PACKET};
 use xns_idp::{Address, Packet, decode};
 use xns_small::error_number::{NO_RESOURCES, NO_SUCH_SOCKET};
@@ -183,6 +183,7 @@ impl Host {
         ensures strays { self.new.strays ≡ self.old.strays }
         ensures set_up { StaysSetUp self.old self.new }
     {
+        a_connection_keeps_its_end();
         if number >= self.guests.len() {
             return false;
         }
@@ -242,6 +243,7 @@ impl Host {
         ensures set_up { StaysSetUp self.old self.new }
     {
         a_step_keeps_its_promises();
+        a_connection_keeps_its_end();
         xns_spp::laws::written_packet_is_read_again();
         if number >= self.guests.len() {
             return false;
@@ -347,7 +349,6 @@ impl Host {
             connection,
             via,
             peer,
-            opener: Some(opener),
             confirmed: false,
             heard_of: false,
             opening_untold: false,

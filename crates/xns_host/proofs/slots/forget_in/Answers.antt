@@ -1,5 +1,5 @@
 use Rattle.std.proofs.Common.{◌≡◌, rules, slice_get, slice_set, subst, ℕ, None}
-use Rattle.xns_host.proofs.Registered.{left, left_opened, none_left}
+use Rattle.xns_host.proofs.Leaving.{left, left_opened, none_left}
 use Rattle.xns_host.proofs.slots.forget_in.Goals as goal
 
 pub returns-in_default-clause-left : goal.returns-in_default-clause-left

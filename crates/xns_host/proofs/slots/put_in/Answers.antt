@@ -5,7 +5,7 @@ use Rattle.xns_agenda.specs.Turns.{with_turn}
 use Rattle.xns_host.specs.Hosting.{facts_of}
 use Rattle.xns_host.specs.Places.{places_with}
 use Rattle.xns_host.specs.declared.guest.Guest.{Guest}
-use Rattle.xns_host.proofs.Registered.{seated}
+use Rattle.xns_host.proofs.Leaving.{seated}
 use Rattle.xns_host.proofs.slots.put_in.Goals as goal
 
 pub returns : goal.returns

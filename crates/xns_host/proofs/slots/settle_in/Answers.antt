@@ -1,7 +1,7 @@
 use Rattle.std.proofs.Common.{◌∙◌, ap, List, Option, None, length}
 use Rattle.std.proofs.lemmas.List.{length-set}
 use Rattle.xns_host.specs.declared.guest.Guest.{Guest}
-use Rattle.xns_host.proofs.Registered.{forgotten}
+use Rattle.xns_host.proofs.Leaving.{forgotten}
 use Rattle.xns_host.proofs.slots.settle_in.Goals as goal
 
 pub returns-then-done-clause-registered : goal.returns-then-done-clause-registered

@@ -5,7 +5,7 @@ use Rattle.std.proofs.lemmas.Option.{slice_get_within}
 use Rattle.xns_host.specs.Hosting.{has_guest}
 use Rattle.xns_host.specs.Places.{places_with}
 use Rattle.xns_host.specs.declared.guest.Guest.{Guest}
-use Rattle.xns_host.proofs.Registered.{forgotten}
+use Rattle.xns_host.proofs.Leaving.{forgotten}
 use Rattle.xns_host.proofs.Turns.{who}
 use Rattle.xns_host.proofs.Undone.{gone_not_done}
 use Rattle.xns_host.proofs.host.Host.abandon.Goals as goal

@@ -12,12 +12,12 @@ use Rattle.xns_host.proofs.host.Host.act.Goals as goal
 pub note-requires-clause-others : goal.note-requires-clause-others
 note-requires-clause-others c =
     stays_noted c.args.self.now.agenda c.args.self.now.guests.items c.as_slice.result.now c.args.number c.index_mut.result.now c.in-Some.guest c.act.new.self
-    c.args.self.now.noted c.in-Some.is (acted_stays c.args.now _ _ c.act.ensures.acts c.act.ensures.goes) (omega arith) (search rules) (search rules)
+    c.args.self.now.noted c.in-Some.is (acted_stays c.a_connection_keeps_its_end.ensures c.args.now _ _ c.act.ensures.acts c.act.ensures.goes) (omega arith) (search rules) (search rules)
 
 pub settle_in-requires-clause-registered : goal.settle_in-requires-clause-registered
 settle_in-requires-clause-registered c =
     stays_registered c.args.self.now.register c.args.self.now.guests.items c.args.number c.index_mut.result.now c.in-Some.guest c.act.new.self
-    c.args.self.now.registered c.in-Some.is (acted_stays c.args.now _ _ c.act.ensures.acts c.act.ensures.goes) (omega arith) (search rules)
+    c.args.self.now.registered c.in-Some.is (acted_stays c.a_connection_keeps_its_end.ensures c.args.now _ _ c.act.ensures.acts c.act.ensures.goes) (omega arith) (search rules)
 
 pub invariant_of-self-2-clause-not_done : goal.invariant_of-self-2-clause-not_done
 invariant_of-self-2-clause-not_done c =

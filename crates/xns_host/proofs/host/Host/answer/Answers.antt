@@ -3,18 +3,18 @@ use Rattle.xns_connection.specs.Deeds.{gave}
 use Rattle.xns_connection.specs.Reasons.{answer_fault_of}
 use Rattle.xns_host.specs.Refusing.{TellsRefusal}
 use Rattle.xns_host.specs.declared.guest.Guest.{Guest}
-use Rattle.xns_host.proofs.Turns.{gave_still, is_there, not_none, one_guest, set_apart, stays_noted, stays_registered, stays_undone, step_stays, step_undone, went_set}
+use Rattle.xns_host.proofs.Turns.{is_there, not_none, one_guest, set_apart, stays_noted, stays_registered, stays_undone, step_stays, step_undone, went_set}
 use Rattle.xns_host.proofs.host.Host.answer.Goals as goal
 
 pub note-requires-clause-others : goal.note-requires-clause-others
 note-requires-clause-others c =
     stays_noted c.args.self.now.agenda c.args.self.now.guests.items c.as_slice.result.now c.args.number c.index_mut.result.now c.in-Some.guest c.answer.new.self
-    c.args.self.now.noted c.in-Some.is (step_stays c.a_step_keeps_its_promises.ensures c.tell-now.result (gave c.args.answer c.args.words.now) _ _ (gave_still c.args.answer c.args.words.now) c.in_ok-answer.ensures.step) (omega arith) (search rules) (search rules)
+    c.args.self.now.noted c.in-Some.is (step_stays c.a_step_keeps_its_promises.ensures c.a_connection_keeps_its_end.ensures c.tell-now.result (gave c.args.answer c.args.words.now) _ _ c.in_ok-answer.ensures.step) (omega arith) (search rules) (search rules)
 
 pub invariant_of-self-2-clause-registered : goal.invariant_of-self-2-clause-registered
 invariant_of-self-2-clause-registered c =
     stays_registered c.args.self.now.register c.args.self.now.guests.items c.args.number c.index_mut.result.now c.in-Some.guest c.answer.new.self
-    c.args.self.now.registered c.in-Some.is (step_stays c.a_step_keeps_its_promises.ensures c.tell-now.result (gave c.args.answer c.args.words.now) _ _ (gave_still c.args.answer c.args.words.now) c.in_ok-answer.ensures.step) (omega arith) (search rules)
+    c.args.self.now.registered c.in-Some.is (step_stays c.a_step_keeps_its_promises.ensures c.a_connection_keeps_its_end.ensures c.tell-now.result (gave c.args.answer c.args.words.now) _ _ c.in_ok-answer.ensures.step) (omega arith) (search rules)
 
 pub invariant_of-self-2-clause-not_done : goal.invariant_of-self-2-clause-not_done
 invariant_of-self-2-clause-not_done c =

@@ -1,16 +1,19 @@
-use Rattle.std.proofs.Common.{◌≡◌, ◌<◌, inl, inr, arith, refl, rules, subst, ℕ, true, false, None}
+use Rattle.std.proofs.Common.{◌≡◌, ◌<◌, ◌∙◌, inl, inr, arith, refl, rules, subst, sym, ℕ, true, false, Option, None}
 use Rattle.xns_idp.specs.declared.address.Address.{Address}
 use Rattle.xns_spp.specs.State.{initiator_state}
 use Rattle.xns_agenda.specs.Agenda.{HasNoNumber}
 use Rattle.xns_host.specs.Hosting.{IsPlace, address_in}
+use Rattle.xns_connection.specs.Ends.{opener_of}
 use Rattle.xns_host.specs.Identifiers.{IsNext}
+use Rattle.xns_host.specs.Knowing.{opener_to}
+use Rattle.xns_host.specs.declared.peer.Peer.{Peer}
 use Rattle.xns_host.specs.Settings.{IsMadeBy}
 use Rattle.xns_connection.specs.Story.{new_story}
 use Rattle.xns_connection.specs.Telling.{Tells}
 use Rattle.xns_host.proofs.OnTerms.{made_on, on_terms}
 use Rattle.xns_host.proofs.Waking.{all_in_use, gets_place, no_room, not_both}
-use Rattle.xns_host.proofs.Ends.{told_id}
-use Rattle.xns_host.proofs.Registered.{all_joined, joined, joined_as, opened_by_none, turned_over}
+use Rattle.xns_host.proofs.Ends.{end_opened, end_opener, has_story, told_id}
+use Rattle.xns_host.proofs.Joining.{OpenedBy, all_joined, joined, joined_as, opened_by_none, turned_over}
 use Rattle.xns_host.proofs.Undone.{came_not_done, not_done_new}
 use Rattle.xns_host.specs.Places.{places_with}
 use Rattle.xns_host.proofs.Placed.{taken_apart, taken_as, taken_there}
@@ -22,13 +25,17 @@ put_in-requires-clause-registered c =
     c.take.ensures.given c.take.ensures.some c.take.ensures.owner c.take.ensures.peers in
     let id = told_id c.in-Ok.connection.conversation _ c.in-Ok.ensures.tells in
     let named = joined_as id has in
-    all_joined c.args.self.now.register c.take.new.self c.args.self.now.guests.items _ _ c.args.self.now.registered named (λ o opened. absurd (cc))
-    (opened_by_none c.args.self.now.register c.take.new.self c.take.ensures.peers)
+    let none : opener_to c.in-Ok.connection.conversation.endpoint.ends.own.socket (opener_of c.in-Ok.connection) ≡ None
+    = end_opened c.in-Ok.connection _ c.in-Ok.ensures.tells.stands in
+    all_joined c.args.self.now.register c.take.new.self c.args.self.now.guests.items _ _ c.args.self.now.registered named
+    (λ o opened. let some = sym none ∙ opened in absurd (cc))
+    (subst (λ (p : Option Peer). OpenedBy c.args.self.now.register c.take.new.self p) (sym none)
+    (opened_by_none c.args.self.now.register c.take.new.self c.take.ensures.peers))
     (record {
-      fits = ∣ record { story = _; tells = c.in-Ok.ensures.tells; opener = λ responds. absurd (cc) } ∣₁;
+      story = ∣ has_story _ _ c.in-Ok.ensures.tells ∣₁;
       known = subst (λ (i : ℕ). 0 < i) id c.in-Some-next.ensures.known;
       own = named.own;
-      opener = λ o opened. absurd (cc);
+      opener = λ o opened. let some = sym none ∙ opened in absurd (cc);
     })
 
 pub returns-in_default-place-clause-room : goal.returns-in_default-place-clause-room
@@ -67,7 +74,6 @@ returns-clause-connects c = record {
       connection = c.in-Ok.connection;
       via = c.args.via;
       peer = c.args.peer;
-      opener = None;
       confirmed = false;
       heard_of = false;
       opening_untold = c.args.self.now.settings.tells_opened;
@@ -88,7 +94,7 @@ returns-clause-connects c = record {
         (made_on c.args.self.now.settings c.terms-terms.result c.terms-terms.ensures c.tell-now.result true c.in-Ok.connection c.in-Ok.ensures.made);
     via = refl;
     peer = refl;
-    opener = refl;
+    opener = end_opener c.in-Ok.connection _ c.in-Ok.ensures.tells.stands;
     confirmed = refl;
     heard_of = refl;
     opening = refl;

@@ -15,13 +15,13 @@ pub note-requires-clause-others : goal.note-requires-clause-others
 note-requires-clause-others c =
     rw c.pass_event.ensures.passed (passed_but c.args.self.now.agenda c.as_slice.result.now c.args.number
     (stays_noted c.args.self.now.agenda c.args.self.now.guests.items c.as_slice.result.now c.args.number c.index_mut.result.now c.in-Some.guest c.tell.new.self
-    c.args.self.now.noted c.in-Some.is (told_stays c.a_message_is_handed_as_by_a_step.ensures c.latest-now.result _ _ (c.tell.ensures.tells (search rules)))
+    c.args.self.now.noted c.in-Some.is (told_stays c.a_message_is_handed_as_by_a_step.ensures c.a_connection_keeps_its_end.ensures c.latest-now.result _ _ (c.tell.ensures.tells (search rules)))
     c.requires (search rules) (search rules)))
 
 pub settle_in-requires-clause-registered : goal.settle_in-requires-clause-registered
 settle_in-requires-clause-registered c =
     stays_registered c.args.self.now.register c.args.self.now.guests.items c.args.number c.index_mut.result.now c.in-Some.guest c.tell.new.self
-    c.args.self.now.registered c.in-Some.is (told_stays c.a_message_is_handed_as_by_a_step.ensures c.latest-now.result _ _ (c.tell.ensures.tells (search rules)))
+    c.args.self.now.registered c.in-Some.is (told_stays c.a_message_is_handed_as_by_a_step.ensures c.a_connection_keeps_its_end.ensures c.latest-now.result _ _ (c.tell.ensures.tells (search rules)))
     c.requires (search rules)
 
 pub invariant_of-self-2-clause-not_done : goal.invariant_of-self-2-clause-not_done

@@ -12,13 +12,13 @@ pub note-requires-clause-others : goal.note-requires-clause-others
 note-requires-clause-others c =
     let heard = c.receive.ensures.hears (search rules) (spp_packet_spelling c.args.packet.now ++ []) (c.written_packet_is_read_again.ensures.again c.args.packet.now [] c.requires) in
     stays_noted c.args.self.now.agenda c.args.self.now.guests.items c.as_slice.result.now c.args.number c.index_mut.result.now c.in-Some.guest c.receive.new.self
-    c.args.self.now.noted c.in-Some.is (heard_stays c.a_step_keeps_its_promises.ensures c.args.now _ c.args.confirms _ _ heard) (omega arith) (search rules) (search rules)
+    c.args.self.now.noted c.in-Some.is (heard_stays c.a_step_keeps_its_promises.ensures c.a_connection_keeps_its_end.ensures c.args.now _ c.args.confirms _ _ heard) (omega arith) (search rules) (search rules)
 
 pub invariant_of-self-2-clause-registered : goal.invariant_of-self-2-clause-registered
 invariant_of-self-2-clause-registered c =
     let heard = c.receive.ensures.hears (search rules) (spp_packet_spelling c.args.packet.now ++ []) (c.written_packet_is_read_again.ensures.again c.args.packet.now [] c.requires) in
     stays_registered c.args.self.now.register c.args.self.now.guests.items c.args.number c.index_mut.result.now c.in-Some.guest c.receive.new.self
-    c.args.self.now.registered c.in-Some.is (heard_stays c.a_step_keeps_its_promises.ensures c.args.now _ c.args.confirms _ _ heard) (omega arith) (search rules)
+    c.args.self.now.registered c.in-Some.is (heard_stays c.a_step_keeps_its_promises.ensures c.a_connection_keeps_its_end.ensures c.args.now _ c.args.confirms _ _ heard) (omega arith) (search rules)
 
 pub invariant_of-self-2-clause-not_done : goal.invariant_of-self-2-clause-not_done
 invariant_of-self-2-clause-not_done c =

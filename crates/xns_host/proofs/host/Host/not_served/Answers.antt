@@ -11,12 +11,12 @@ use Rattle.xns_host.proofs.host.Host.not_served.Goals as goal
 pub note-requires-clause-others : goal.note-requires-clause-others
 note-requires-clause-others c =
     stays_noted c.args.self.now.agenda c.args.self.now.guests.items c.as_slice.result.now c.args.number c.index_mut.result.now c.in-Some.guest c.not_served.new.self
-    c.args.self.now.noted c.in-Some.is (unserved_stays c.args.now c.args.quote.now.error _ _ c.not_served.ensures.unserved c.not_served.ensures.goes) (omega arith) (search rules) (search rules)
+    c.args.self.now.noted c.in-Some.is (unserved_stays c.a_connection_keeps_its_end.ensures c.args.now c.args.quote.now.error _ _ c.not_served.ensures.unserved c.not_served.ensures.goes) (omega arith) (search rules) (search rules)
 
 pub invariant_of-self-2-clause-registered : goal.invariant_of-self-2-clause-registered
 invariant_of-self-2-clause-registered c =
     stays_registered c.args.self.now.register c.args.self.now.guests.items c.args.number c.index_mut.result.now c.in-Some.guest c.not_served.new.self
-    c.args.self.now.registered c.in-Some.is (unserved_stays c.args.now c.args.quote.now.error _ _ c.not_served.ensures.unserved c.not_served.ensures.goes) (omega arith) (search rules)
+    c.args.self.now.registered c.in-Some.is (unserved_stays c.a_connection_keeps_its_end.ensures c.args.now c.args.quote.now.error _ _ c.not_served.ensures.unserved c.not_served.ensures.goes) (omega arith) (search rules)
 
 pub invariant_of-self-2-clause-not_done : goal.invariant_of-self-2-clause-not_done
 invariant_of-self-2-clause-not_done c =

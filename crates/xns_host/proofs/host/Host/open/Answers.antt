@@ -1,5 +1,6 @@
 use Rattle.xns_host.proofs.Placed.{taken_apart, taken_there}
-use Rattle.std.proofs.Common.{◌≡◌, ◌<◌, ◌∙◌, ap, arith, inl, inr, refl, rules, subst, sym, ℕ, None, Some, false}
+use Rattle.std.proofs.Common.{◌≡◌, ◌<◌, ◌∙◌, ap, arith, inl, inr, refl, rules, subst, sym, ℕ, Option, None, Some, false}
+use Rattle.std.proofs.lemmas.Option.{same_Some}
 use Rattle.std.specs.BTreeMap.{BTreeMap, IsUnchanged, Updates, get}
 use Rattle.xns_idp.specs.declared.address.Address.{Address}
 use Rattle.xns_spp.specs.State.{responder_state}
@@ -14,9 +15,11 @@ use Rattle.xns_host.specs.Coming.{Seats}
 use Rattle.xns_host.specs.Places.{places_with}
 use Rattle.xns_host.specs.Turn.{whole_of}
 use Rattle.xns_host.proofs.Waking.{all_in_use, gets_place, no_room}
-use Rattle.xns_host.proofs.Ends.{told_id}
-use Rattle.xns_host.proofs.Registered.{all_joined, joined_as, joined_opened, opened_by, turned_over, unentered}
+use Rattle.xns_host.proofs.Ends.{end_opened, has_story, told_id}
+use Rattle.xns_host.proofs.Joining.{OpenedBy, all_joined, joined_as, joined_opened, opened_by, turned_over, unentered}
 use Rattle.xns_host.proofs.Undone.{came_not_done, not_done_new}
+use Rattle.xns_connection.specs.Ends.{opener_of}
+use Rattle.xns_host.specs.Knowing.{opener_to}
 use Rattle.xns_host.specs.Identifiers.{Ids, IsNext, TurnsOver}
 use Rattle.xns_host.proofs.host.Host.open.Goals as goal
 
@@ -42,20 +45,19 @@ put_in-requires-clause-registered c =
     c.take.ensures.peers in
     let id = told_id c.in-Ok.connection.conversation _ c.in-Ok.ensures.tells in
     let named = joined_as id has in
+    let is : opener_to c.in-Ok.connection.conversation.endpoint.ends.own.socket (opener_of c.in-Ok.connection) ≡ Some c.args.opener
+    = end_opened c.in-Ok.connection _ c.in-Ok.ensures.tells.stands
+    ∙ ap Some (sym (c.requires.opener ∙ ap (λ (own : Address). peer_at c.args.peer c.args.peer_id own.socket) (sym c.address-own.ensures))) in
     all_joined c.args.self.now.register c.take.new.self c.args.self.now.guests.items _ _ c.args.self.now.registered named
-    (λ o opened. let same : c.args.opener ≡ o = cc in ap (λ (p : Peer). get peer_cmp c.args.self.now.register.peers p) (sym same) ∙ c.requires.unknown)
-    (opened_by c.args.self.now.register c.enter.new.self c.take.new.self c.in-Some.number c.args.opener entered c.take.ensures.peers)
+    (λ o opened. let same : c.args.opener ≡ o = same_Some c.args.opener o (sym is ∙ opened) in ap (λ (p : Peer). get peer_cmp c.args.self.now.register.peers p) (sym same) ∙ c.requires.unknown)
+    (subst (λ (p : Option Peer). OpenedBy c.args.self.now.register c.take.new.self p) (sym is)
+    (opened_by c.args.self.now.register c.enter.new.self c.take.new.self c.in-Some.number c.args.opener entered c.take.ensures.peers))
     (record {
-      fits = ∣ record {
-        story = _;
-        tells = c.in-Ok.ensures.tells;
-        opener = λ responds. ap Some (c.requires.opener
-            ∙ ap (λ (own : Address). peer_at c.args.peer c.args.peer_id own.socket) (sym c.address-own.ensures));
-      } ∣₁;
+      story = ∣ has_story _ _ c.in-Ok.ensures.tells ∣₁;
       known = subst (λ (i : ℕ). 0 < i) id c.in-Some-next.ensures.known;
       own = named.own;
       opener = λ o opened.
-          let same : c.args.opener ≡ o = cc in
+          let same : c.args.opener ≡ o = same_Some c.args.opener o (sym is ∙ opened) in
           ap (λ (m : BTreeMap Peer ℕ). get peer_cmp m o) c.take.ensures.peers ∙ ap (λ (p : Peer). get peer_cmp c.enter.new.self.peers p) (sym same)
           ∙ entered.1;
     })
@@ -79,7 +81,6 @@ returns-clause-opened c = λ n made.
         connection = c.in-Ok.connection;
         via = c.args.via;
         peer = c.args.peer;
-        opener = Some c.args.opener;
         confirmed = false;
         heard_of = false;
         opening_untold = false;
@@ -103,7 +104,8 @@ returns-clause-opened c = λ n made.
         made = made_on c.args.self.now.settings c.terms-terms.result c.terms-terms.ensures c.args.now false c.in-Ok.connection c.in-Ok.ensures.made;
         via = refl;
         peer = refl;
-        known_by = ap Some c.requires.opener;
+        known_by = end_opened c.in-Ok.connection _ c.in-Ok.ensures.tells.stands
+            ∙ ap (λ (own : Address). Some (peer_at c.args.peer c.args.peer_id own.socket)) c.address-own.ensures;
         confirmed = refl;
         heard_of = refl;
         opening = refl;

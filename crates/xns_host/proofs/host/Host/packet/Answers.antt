@@ -13,13 +13,13 @@ pub note-requires-clause-others : goal.note-requires-clause-others
 note-requires-clause-others c =
     rw c.pass_packet.ensures.passed (rested_but c.args.self.now.agenda c.as_slice.result.now c.args.number
     (stays_noted c.args.self.now.agenda c.args.self.now.guests.items c.as_slice.result.now c.args.number c.index_mut.result.now c.in-Some.guest c.next_packet-made.new.self
-    c.args.self.now.noted c.in-Some.is (gave_stays c.a_connection_gives_what_it_made.ensures c.args.now c.next_packet-made.result _ _ c.next_packet-made.ensures)
+    c.args.self.now.noted c.in-Some.is (gave_stays c.a_connection_gives_what_it_made.ensures c.a_connection_keeps_its_end.ensures c.args.now c.next_packet-made.result _ _ c.next_packet-made.ensures)
     c.requires.within (search rules) (search rules)))
 
 pub invariant_of-self-2-clause-registered : goal.invariant_of-self-2-clause-registered
 invariant_of-self-2-clause-registered c =
     stays_registered c.args.self.now.register c.args.self.now.guests.items c.args.number c.index_mut.result.now c.in-Some.guest c.next_packet-made.new.self
-    c.args.self.now.registered c.in-Some.is (gave_stays c.a_connection_gives_what_it_made.ensures c.args.now c.next_packet-made.result _ _ c.next_packet-made.ensures)
+    c.args.self.now.registered c.in-Some.is (gave_stays c.a_connection_gives_what_it_made.ensures c.a_connection_keeps_its_end.ensures c.args.now c.next_packet-made.result _ _ c.next_packet-made.ensures)
     c.requires.within (search rules)
 
 pub invariant_of-self-2-clause-not_done : goal.invariant_of-self-2-clause-not_done
