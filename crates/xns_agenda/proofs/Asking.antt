@@ -1,5 +1,5 @@
 -- A peer that is asked for a word and says none is borne as long as the patience says.
-use Rattle.std.proofs.Common.{◌≡◌, ◌∙◌, ap, add-one, refl, sym, subst, ℕ, zero, suc, ◌+◌, ◌*◌, ◌<◌, ◌≤◌, Option, Some, None, arith}
+use Rattle.std.proofs.Common.{◌≡◌, ◌∙◌, ap, refl, sym, subst, ℕ, zero, suc, ◌+◌, ◌*◌, ◌<◌, ◌≤◌, Option, Some, None, arith}
 use Rattle.std.specs.Prelude.{nat_le}
 use Rattle.std.proofs.Math.Nat.{min-le_right}
 use Rattle.xns_agenda.specs.Measuring.{borne, first_wait, most_borne, next_length, wait_by, waits_time}
@@ -9,11 +9,10 @@ use Rattle.xns_agenda.specs.declared.act.Act.{Act}
 use Rattle.xns_agenda.specs.declared.act.Act.TheVariants.{Ask, GiveUp}
 use Rattle.xns_agenda.specs.declared.due.Due.{Due}
 use Rattle.xns_agenda.specs.declared.due.Due.TheVariants.{AskAt}
-use Rattle.xns_agenda.specs.declared.measure.Measure.{Measure}
 use Rattle.xns_agenda.specs.declared.pace.Pace.{Pace}
 use Rattle.xns_agenda.specs.declared.smoothed.Smoothed.{Smoothed}
 use Rattle.xns_agenda.proofs.Measures.{patient, tried, waits_grow}
-use Rattle.xns_agenda.proofs.Patience.{given_up, later_by, later_on, length_after, next_after, over, time_after}
+use Rattle.xns_agenda.proofs.Patience.{Goes, all_borne, given_up, goes_on, later_by, length_after, over, time_after}
 
 -- ---- no wait is longer than the longest
 
@@ -28,14 +27,8 @@ longest_after pace length (suc n) most = longest_after pace (next_length pace le
 
 -- ---- from the last word on
 
-record IsAsked (span : ℕ) (w : Waiting) (n : ℕ) (v : Waiting) : Type 0 where
-  pub pace : v.pace ≡ w.pace
-  pub measure : v.measure ≡ w.measure
-  pub misses : v.misses ≡ w.misses + n
-  pub length : v.length ≡ length_after w.pace (first_wait w.measure w.pace) n
-  pub until : ℕ
-  pub due : v.due ≡ AskAt until
-  pub late : later w.heard_at (span + waits_time w.pace (first_wait w.measure w.pace) n) ≤ until
+abbrev IsAsked : (span : ℕ) → Waiting → ℕ → Waiting → Type 0
+IsAsked span w = Goes AskAt w.heard_at span (first_wait w.measure w.pace) w
 
 asked_first : (span : ℕ) (w : Waiting) → IsAsked span w 0 (record (rested w) { due = AskAt (later w.heard_at span) })
 unfolding length_after waits_time
@@ -53,22 +46,7 @@ asked_again : (span : ℕ) (w v : Waiting) (n now : ℕ) → IsAsked span w n v 
 asked_again span w v n now before is =
     let test : act_by v (AskAt before.until) now ≡ Ask = ap (λ (d : Due). act_by v d now) (sym before.due) ∙ is in
     let more = over Ask (λ e. absurd (cc)) (nat_le before.until now) v before.until now refl test in
-    let length = before.length in
-    let first : ℕ = first_wait w.measure w.pace in
-    let one : waits_time w.pace first (suc n) ≡ waits_time w.pace first n + v.length
-    = time_after w.pace first n ∙ ap (λ (l : ℕ). waits_time w.pace first n + l) (sym length) in
-    let sum : span + waits_time w.pace first (suc n) ≡ span + waits_time w.pace first n + v.length = omega (arith, one) in
-    let misses = before.misses in
-    subst (λ (k : ℕ). IsAsked span w k (after_by v Ask now)) (sym (add-one n)) (record {
-      pace = before.pace;
-      measure = before.measure;
-      misses = omega (arith, misses);
-      length = ap (λ (p : Pace). next_length p v.length) before.pace ∙ ap (next_length w.pace) length ∙ sym (next_after w.pace first n);
-      until = later now v.length;
-      due = refl;
-      late = subst (λ (t : ℕ). later w.heard_at t ≤ later now v.length) (sym sum)
-          (later_on w.heard_at (span + waits_time w.pace first n) before.until now v.length before.late more);
-    })
+    goes_on AskAt w.heard_at span _ w v (after_by v Ask now) n now before more refl refl refl refl refl
 
 is_asked : {span : ℕ} {w : Waiting} {n : ℕ} {v : Waiting} → Asked span w n v → IsAsked span w n v
 is_asked {span = span} {w = w} begins = asked_first span w
@@ -91,11 +69,7 @@ not_early w v span n now none asked is =
     let b = is_asked asked in
     let test : act_by v (AskAt b.until) now ≡ GiveUp = ap (λ (d : Due). act_by v d now) (sym b.due) ∙ is in
     let g = given_up Ask (λ e. absurd (cc)) (nat_le b.until now) v b.until now refl test in
-    let same : borne v.measure v.pace ≡ borne w.measure w.pace
-    = ap (λ (p : Pace). borne v.measure p) b.pace ∙ ap (λ (m : Measure). borne m w.pace) b.measure in
-    let misses = b.misses in
-    let many = g.many in
-    let all : borne w.measure w.pace ≤ n = omega (arith, none, same, misses, many) in
+    let all = all_borne AskAt w.heard_at span _ w v n none b g.many in
     let tries = tried w.measure w.pace in
     record {
       tries = omega (arith, tries, all);

@@ -9,6 +9,7 @@ use Rattle.xns_agenda.specs.declared.act.Act.{Act}
 use Rattle.xns_agenda.specs.declared.act.Act.TheVariants.{Nothing, Again, GiveUp}
 use Rattle.xns_agenda.specs.declared.due.Due.{Due}
 use Rattle.xns_agenda.specs.declared.due.Due.TheVariants.{AgainAt}
+use Rattle.xns_agenda.specs.declared.measure.Measure.{Measure}
 use Rattle.xns_agenda.specs.declared.pace.Pace.{Pace}
 use Rattle.xns_agenda.proofs.Measures.{patient, tried, waits_grow}
 
@@ -27,29 +28,6 @@ pub time_after : (pace : Pace) (length n : ℕ) → waits_time pace length (suc 
 unfolding length_after waits_time
 time_after pace length zero = omega arith
 time_after pace length (suc n) = let rest = time_after pace (next_length pace length) n in omega (arith, rest)
-
--- ---- from the first wait on
-
-record Waited (start : ℕ) (w : Waiting) (n : ℕ) (v : Waiting) : Type 0 where
-  pub pace : v.pace ≡ w.pace
-  pub measure : v.measure ≡ w.measure
-  pub misses : v.misses ≡ w.misses + n
-  pub length : v.length ≡ length_after w.pace (first_wait w.measure w.pace) (suc n)
-  pub until : ℕ
-  pub due : v.due ≡ AgainAt until
-  pub late : later start (waits_time w.pace (first_wait w.measure w.pace) (suc n)) ≤ until
-
-begun_at : (start : ℕ) (w : Waiting) (out : ℕ) → Waited start w 0 (timed w out start)
-unfolding length_after waits_time
-begun_at start w out = record {
-  pace = refl;
-  measure = refl;
-  misses = omega arith;
-  length = refl;
-  until = later start (first_wait w.measure w.pace);
-  due = refl;
-  late = omega arith;
-}
 
 -- ---- a packet goes out, or the peer is given up, only when the wait is over
 
@@ -74,28 +52,71 @@ given_up act other true v t now test is = record {
 }
 given_up act other false v t now test is = absurd (cc)
 
-pub later_on : (start time until now length : ℕ) → later start time ≤ until → until ≤ now → later start (time + length) ≤ later now length
+-- ---- from one packet to the next
+
+-- n packets went out: a wait of the length `first` began once `span` had passed since `start`, and each further wait at the end of the one before
+pub record Goes (at : ℕ → Due) (start span first : ℕ) (w : Waiting) (n : ℕ) (v : Waiting) : Type 0 where
+  pub pace : v.pace ≡ w.pace
+  pub measure : v.measure ≡ w.measure
+  pub misses : v.misses ≡ w.misses + n
+  pub length : v.length ≡ length_after w.pace first n
+  pub until : ℕ
+  pub due : v.due ≡ at until
+  pub late : later start (span + waits_time w.pace first n) ≤ until
+
+later_on : (start time until now length : ℕ) → later start time ≤ until → until ≤ now → later start (time + length) ≤ later now length
 later_on start time until now length late more = grind arith
+
+pub goes_on : (at : ℕ → Due) (start span first : ℕ) (w v u : Waiting) (n now : ℕ) (before : Goes at start span first w n v) → before.until ≤ now
+    → u.pace ≡ v.pace → u.measure ≡ v.measure → u.misses ≡ v.misses + 1 → u.length ≡ next_length v.pace v.length → u.due ≡ at (later now v.length)
+    → Goes at start span first w (n + 1) u
+goes_on at start span first w v u n now before more pace measure misses length due =
+    let one : waits_time w.pace first (suc n) ≡ waits_time w.pace first n + v.length
+    = time_after w.pace first n ∙ ap (λ (l : ℕ). waits_time w.pace first n + l) (sym before.length) in
+    let sum : span + waits_time w.pace first (suc n) ≡ span + waits_time w.pace first n + v.length = omega (arith, one) in
+    let missed = before.misses in
+    subst (λ (k : ℕ). Goes at start span first w k u) (sym (add-one n)) (record {
+      pace = pace ∙ before.pace;
+      measure = measure ∙ before.measure;
+      misses = omega (arith, misses, missed);
+      length = length ∙ ap (λ (p : Pace). next_length p v.length) before.pace ∙ ap (next_length w.pace) before.length ∙ sym (next_after w.pace first n);
+      until = later now v.length;
+      due = due;
+      late = subst (λ (t : ℕ). later start t ≤ later now v.length) (sym sum)
+          (later_on start (span + waits_time w.pace first n) before.until now v.length before.late more);
+    })
+
+-- where the peer is given up, as many packets went out as are borne
+pub all_borne : (at : ℕ → Due) (start span first : ℕ) (w v : Waiting) (n : ℕ) → w.misses ≡ 0 → Goes at start span first w n v
+    → borne v.measure v.pace ≤ v.misses → borne w.measure w.pace ≤ n
+all_borne at start span first w v n none b many =
+    let same : borne v.measure v.pace ≡ borne w.measure w.pace
+    = ap (λ (p : Pace). borne v.measure p) b.pace ∙ ap (λ (m : Measure). borne m w.pace) b.measure in
+    let misses = b.misses in
+    omega (arith, none, same, misses, many)
+
+-- ---- from the first wait on
+
+abbrev Waited : (start : ℕ) → Waiting → ℕ → Waiting → Type 0
+Waited start w = Goes AgainAt start (first_wait w.measure w.pace) (next_length w.pace (first_wait w.measure w.pace)) w
+
+begun_at : (start : ℕ) (w : Waiting) (out : ℕ) → Waited start w 0 (timed w out start)
+unfolding length_after waits_time
+begun_at start w out = record {
+  pace = refl;
+  measure = refl;
+  misses = omega arith;
+  length = refl;
+  until = later start (first_wait w.measure w.pace);
+  due = refl;
+  late = omega arith;
+}
 
 sent_again : (start : ℕ) (w v : Waiting) (n now : ℕ) → Waited start w n v → act_at v now ≡ Again → Waited start w (n + 1) (after_by v Again now)
 sent_again start w v n now before is =
     let test : act_by v (AgainAt before.until) now ≡ Again = ap (λ (d : Due). act_by v d now) (sym before.due) ∙ is in
     let more = over Again (λ e. absurd (cc)) (nat_le before.until now) v before.until now refl test in
-    let length = before.length in
-    let first : ℕ = first_wait w.measure w.pace in
-    let sum : waits_time w.pace first (suc (suc n)) ≡ waits_time w.pace first (suc n) + v.length
-    = time_after w.pace first (suc n) ∙ ap (λ (l : ℕ). waits_time w.pace first (suc n) + l) (sym length) in
-    let misses = before.misses in
-    subst (λ (k : ℕ). Waited start w k (after_by v Again now)) (sym (add-one n)) (record {
-      pace = before.pace;
-      measure = before.measure;
-      misses = omega (arith, misses);
-      length = ap (λ (p : Pace). next_length p v.length) before.pace ∙ ap (next_length w.pace) length ∙ sym (next_after w.pace first (suc n));
-      until = later now v.length;
-      due = refl;
-      late = subst (λ (t : ℕ). later start t ≤ later now v.length) (sym sum)
-          (later_on start (waits_time w.pace first (suc n)) before.until now v.length before.late more);
-    })
+    goes_on AgainAt start _ _ w v (after_by v Again now) n now before more refl refl refl refl refl
 
 -- what is timed may begin while something waits
 waits_on : (start : ℕ) (w v : Waiting) (n out now : ℕ) (b : Waited start w n v) → Waited start w n (waiting_on v (AgainAt b.until) out now)
@@ -129,15 +150,12 @@ pub later_by : (start a b until now : ℕ) → a ≤ b → later start b ≤ unt
 later_by start a b until now less late over = grind arith
 
 pub not_early : (w v : Waiting) (start n now : ℕ) → w.misses ≡ 0 → Vain start w n v → act_at v now ≡ GiveUp → Early start w n now
+unfolding waits_time
 not_early w v start n now none vain is =
     let b = waited vain in
     let test : act_by v (AgainAt b.until) now ≡ GiveUp = ap (λ (d : Due). act_by v d now) (sym b.due) ∙ is in
     let g = given_up Again (λ e. absurd (cc)) (nat_le b.until now) v b.until now refl test in
-    let same : borne v.measure v.pace ≡ borne w.measure w.pace
-    = ap (λ (p : Pace). borne v.measure p) b.pace ∙ ap (λ m. borne m w.pace) b.measure in
-    let misses = b.misses in
-    let many = g.many in
-    let all : borne w.measure w.pace ≤ n = omega (arith, none, same, misses, many) in
+    let all = all_borne AgainAt start _ _ w v n none b g.many in
     let tries = tried w.measure w.pace in
     record {
       tries = omega (arith, tries, all);
