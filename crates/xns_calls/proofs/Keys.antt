@@ -1,5 +1,7 @@
 -- One key serves both directions of a connection.
-use Rattle.std.proofs.Common.{◌≡◌, ◌∙◌, ap, sym, refl, rules, ℕ, ◌*◌, ◌^◌, Bool, true, false, cond, ◌||◌}
+use Rattle.std.proofs.Common.{◌≡◌, ◌∙◌, ap, sym, refl, rules, ℕ, ◌*◌, ◌^◌, Bool, true, false, cond, ◌==◌, ◌&&◌, ◌||◌}
+use Rattle.std.proofs.Math.Bool.{and-true}
+use Rattle.std.proofs.lemmas.Bool.{eq-eqb, eqb-true}
 use Rattle.std.proofs.lemmas.Map.Lookups.{exact_unsigned}
 use Rattle.std.specs.Cmp.{Equal-is, IsTotalOrder, both_ways, tied_itself}
 use Rattle.std.specs.Cmp.Rules.{comparing}
@@ -7,9 +9,9 @@ use Rattle.std.specs.Int.Bits.{bit_xor, xor_assoc, xor_self, xor_zero_l, xor_zer
 use Rattle.std.specs.Ordering.{is_eq, is_gt, nat_cmp, ordering_reverse, ordering_then}
 use Rattle.std.specs.declared.cmp.Ordering.{Ordering}
 use Rattle.std.specs.declared.cmp.Ordering.TheVariants.{Less, Equal, Greater}
-use Rattle.xns_dump.specs.Flows.{is_flow}
+use Rattle.xns_dump.specs.Flows.{is_flow, is_place}
 use Rattle.xns_dump.specs.Flows.Numbers.{flow_cmp}
-use Rattle.xns_dump.specs.Flows.Places.{host_and_socket, place_cmp}
+use Rattle.xns_dump.specs.Flows.Places.{IsPlace, host_and_socket, place_cmp}
 use Rattle.xns_dump.specs.Laws.{FlowsAreToldApart, PlacesAreOrderedByNumbers}
 use Rattle.xns_dump.specs.declared.flows.flow.Flow.{Flow}
 use Rattle.xns_dump.specs.declared.flows.place.Place.{Place}
@@ -198,3 +200,42 @@ one_key law order a b formed formed_too =
     ∙ keys_told law order (ordered a) (ordered b)
     (turned_formed (is_gt (place_cmp a.source a.target)) a formed) (turned_formed (is_gt (place_cmp b.source b.target)) b formed_too)
     ∙ ordered_told law a b
+
+-- ---- an end is told by its numbers
+
+then_equal : (r : Ordering) → ordering_then r Equal ≡ r
+then_equal Less = refl
+then_equal Equal = refl
+then_equal Greater = refl
+
+both_equal : (r s : Ordering) → is_eq (ordering_then r s) ≡ (is_eq r && is_eq s)
+both_equal Less s = refl
+both_equal Equal s = refl
+both_equal Greater s = refl
+
+and_itself : (p : Bool) → (p && p) ≡ true → p ≡ true
+and_itself true e = refl
+and_itself false e = e
+
+number_told : (x y : ℕ) → is_eq (nat_cmp x y) ≡ (x == y)
+number_told x y = both_ways (is_eq (nat_cmp x y)) (x == y)
+    (λ e. eq-eqb x y (exact_unsigned x y ((Equal-is (nat_cmp x y)).0 e)))
+    (λ e. ap is_eq (same_number x y (eqb-true x y e)))
+
+place_told : FlowsAreToldApart → (a b : Place) → is_eq (place_cmp a b) ≡ is_place a b
+place_told law a b =
+    let from_a : Flow = record { source = a; target = a } in
+    let from_b : Flow = record { source = b; target = a } in
+    let itself : is_place a a ≡ true = and_itself (is_place a a) (same_flow law from_a from_a refl) in
+    sym (ap (λ r. is_eq (ordering_then (place_cmp a b) r)) (tied_itself places_total a) ∙ ap is_eq (then_equal (place_cmp a b)))
+    ∙ law.order from_a from_b
+    ∙ ap (λ p. is_place a b && p) itself ∙ and-true (is_place a b)
+
+-- two ends are one where their numbers are equal
+pub end_told : FlowsAreToldApart → PlacesAreOrderedByNumbers → (a b : Place) → IsPlace a → IsPlace b
+    → ((host_and_socket a == host_and_socket b) && (a.identifier == b.identifier)) ≡ is_place a b
+end_told law order a b formed formed_too =
+    sym (both_equal (nat_cmp (host_and_socket a) (host_and_socket b)) (nat_cmp a.identifier b.identifier)
+    ∙ ap (λ p. p && is_eq (nat_cmp a.identifier b.identifier)) (number_told (host_and_socket a) (host_and_socket b))
+    ∙ ap (λ p. (host_and_socket a == host_and_socket b) && p) (number_told a.identifier b.identifier))
+    ∙ ap is_eq (order a b formed formed_too) ∙ place_told law a b

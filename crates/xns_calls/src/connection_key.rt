@@ -60,7 +60,7 @@ fn mixed(a: EndKey, b: EndKey) -> u64
 }
 
 /// The key of an end.
-fn end_key_of(place: Place) -> EndKey
+pub fn end_key_of(place: Place) -> EndKey
     ensures key { result ≡ end_key place }
     ensures formed { IsPlace place }
 {
