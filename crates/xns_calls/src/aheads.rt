@@ -88,6 +88,7 @@ impl Aheads {
     }
 
     /// Counts a packet of the connection. The answer is the number that takes effect with it, which is kept no longer.
+    #[inline(always)]
     pub fn count_packet(&mut self) -> Option<u64>
         ensures number { result ≡ effective (nearer self.old) }
         ensures rest { self.new ≡ waiting (nearer self.old) }

@@ -73,6 +73,7 @@ impl EarlyItems {
     }
 
     /// What decides when the first item is read, or none where none is kept.
+    #[inline(always)]
     pub fn first(&self) -> Option<FirstKept>
         ensures { result ≡ first_kept self.now }
     {

@@ -84,6 +84,7 @@ fn begun(alloc: Global, field: u16) -> Track
 
 /// Begins a flow that has not begun, with its line.
 #[tactic(auto, unfolding(crate::specs::Exchange::begun))]
+#[inline(always)]
 pub fn begin(
     alloc: Global,
     page: &mut Page,
@@ -105,6 +106,7 @@ pub fn begin(
 }
 
 /// The number of an item of a flow that has begun, where it is no repeat.
+#[inline(always)]
 pub fn new_number_in(track: &Track, field: u16) -> Option<u64>
     ensures value { result ≡ new_number_of (Some track.now) field }
     ensures bound { IfSome result (λ number. number < most_numbers) }
@@ -165,6 +167,7 @@ fn take_new(
 
 /// Brings the flow behind to what takes effect of it. Memory is refused only where that flow keeps items.
 #[tactic(auto, unfolding(crate::specs::Exchange::other_reached))]
+#[inline(always)]
 pub fn reach_other(
     scratch: &mut Scratch,
     page: &mut Page,

@@ -34,6 +34,7 @@ pub fn is_free(behind: &Side, given: u64, acknowledged: Option<u64>) -> bool
 }
 
 /// The line of the first item that a flow keeps, where it comes next and waits for nothing of the flow behind.
+#[inline(always)]
 fn readable(own: &Side, behind: &Side, given: u64) -> Option<usize>
     ensures { result ≡ readable_of own.now.track behind.now.track given }
 {
@@ -59,6 +60,7 @@ pub fn first_line(own: Option<usize>, other: Option<usize>) -> Option<bool>
 }
 
 /// The flow of which an item is read next, if there is one: whether it is the one behind.
+#[inline(always)]
 fn next_turn(own: &Side, other: &Side, given: Given) -> Option<bool>
     ensures { result ≡ next_turn_of given own.now.track other.now.track }
 {
