@@ -1,12 +1,11 @@
 -- An item that comes next, waits for nothing and finds nothing kept is read where it lies.
 use Rattle.std.proofs.Common.{◌≡◌, ◌∙◌, ap, sym, refl, subst, arith, ℕ, ◌+◌, ◌-◌, ◌==◌, Bool, true, false, cond, List, [], ◌∷◌, length, Option, Some, None, Result, Ok, Err}
-use Rattle.std.specs.Prelude.{nat_lt, not, OnOk, ◌&&◌, ◌||◌}
+use Rattle.std.specs.Prelude.{not, OnOk, ◌&&◌, ◌||◌}
 use Rattle.std.specs.Option.{is_some}
 use Rattle.std.specs.List.{list_any}
 use Rattle.std.proofs.lemmas.Bool.Decides.{nat_tests}
 use Rattle.xns_idp.specs.Packet.{PacketModel}
 use Rattle.xns_spp.specs.Header.{is_system}
-use Rattle.xns_spp.specs.Item.{item_with}
 use Rattle.xns_spp.specs.declared.header.Header.{Header}
 use Rattle.xns_calls.specs.Exchange.{Scene, advance_other, advance_own, after_content, after_data, after_packet, after_told, begin_track, begun, brings_new, carried, is_repeat, other_reached, own_reached, reached, scene, take_number, told_of, unless_repeat, up_to, wants_memory}
 use Rattle.xns_calls.specs.Events.{after_events, captured_event}

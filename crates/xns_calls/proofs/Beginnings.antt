@@ -13,7 +13,7 @@ use Rattle.xns_calls.specs.Anew.{begins_anew}
 use Rattle.xns_calls.specs.Capture.{Known, after_at, after_in, after_new_flow, after_place, after_sequenced, after_there, forgotten, heading_at, is_behind_in, new_connection, place_of, renewed, renewed_there, repeats_told, scene_in, settled_at, settled_there, taken_in, with_new, with_scene}
 use Rattle.xns_calls.specs.Events.{Event, acknowledged_event, after_events, captured_event}
 use Rattle.xns_calls.specs.Exchange.{Scene, behind_last, carried, first_track, seen_from_other}
-use Rattle.xns_calls.specs.Input.{Part, connection_at, connection_of, ending_events, events_between, events_there, field_between, field_there, is_same, name_in, next_name, part_text, parts_text, text_in, texts_in, told}
+use Rattle.xns_calls.specs.Input.{Part, connection_at, connection_of, ending_events, events_between, events_there, field_between, field_there, is_same, name_in, next_name, part_text, parts_text, text_in, texts_in}
 use Rattle.xns_calls.specs.Numbers.{near}
 use Rattle.xns_calls.specs.Over.{side_in}
 use Rattle.xns_calls.specs.Repeats.{tells_repeats}

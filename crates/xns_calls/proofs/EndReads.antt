@@ -5,7 +5,7 @@ use Rattle.std.proofs.lemmas.Grind.{flat_map-append}
 use Rattle.std.proofs.Common.{append_assoc}
 use Rattle.xns_calls.specs.AtEnd.{both_ended, earliest, end_turn, ended_of, ended_times, first_at_end, first_in, one_ended, own_ended, read_behind}
 use Rattle.xns_calls.specs.Capture.{Known, heading_at, scene_in}
-use Rattle.xns_calls.specs.Events.{Event, acknowledged, acknowledged_event, after_events, brought_if, meanwhile}
+use Rattle.xns_calls.specs.Events.{Event, acknowledged_event, after_events, brought_if, meanwhile}
 use Rattle.xns_calls.specs.Exchange.{Scene, advance_other, advance_own, after_told, of_other, other_reached, reached, seen_from_other, told_of, up_to}
 use Rattle.xns_calls.specs.Input.{Said, part_text, parts_text, said_texts, text_in, texts_in, told}
 use Rattle.xns_calls.specs.Input.{Part}

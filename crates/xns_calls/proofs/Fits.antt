@@ -1,5 +1,5 @@
 -- Events in the place of others, of which a flow is as whole.
-use Rattle.std.proofs.Common.{◌≡◌, ◌∙◌, ap, sym, refl, subst, arith, ℕ, ◌<◌, ◌≤◌, List, [], ◌∷◌, ◌++◌, Option, Some, None}
+use Rattle.std.proofs.Common.{◌≡◌, ◌∙◌, ap, sym, refl, subst, arith, ℕ, ◌<◌, List, [], ◌∷◌, ◌++◌, Option, Some, None}
 use Rattle.std.proofs.lemmas.Grind.{flat_map-append}
 use Rattle.xns_spp.specs.declared.item.Item.{Item}
 use Rattle.xns_calls.specs.Events.{AreWithinReach, Event, IsAmong, acknowledged, acknowledged_event, captured, captured_in, meanwhile, read, with_captured}

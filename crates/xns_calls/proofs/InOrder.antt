@@ -5,7 +5,7 @@ use Rattle.xns_spp.specs.Ends.{most_pending}
 use Rattle.xns_calls.specs.AtEnd.{both_ended}
 use Rattle.xns_calls.specs.Exchange.{Scene}
 use Rattle.xns_calls.specs.InOrder.{CanBeRead, IsFree, KeptItemsAreReadInTurn}
-use Rattle.xns_calls.specs.Read.{kept_count, one_read, read_of, read_times, settled}
+use Rattle.xns_calls.specs.Read.{one_read, read_of, read_times, settled}
 use Rattle.xns_calls.specs.Turns.{first_kept, first_line, is_behind, is_free, next_turn, readable, readable_first}
 use Rattle.xns_calls.specs.declared.early.Early.{Early}
 use Rattle.xns_calls.specs.declared.given.Given.{Given}

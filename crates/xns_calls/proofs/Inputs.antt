@@ -23,7 +23,7 @@ use Rattle.xns_calls.proofs.Numbered.{IsNumbered, numbered_sequenced}
 use Rattle.xns_calls.specs.declared.origin.Origin.{Origin}
 use Rattle.xns_calls.specs.Origins.{line_origin}
 use Rattle.xns_calls.proofs.Whole.{after_append}
-use Rattle.xns_calls.proofs.Parts.{flow_append, flow_at, plain, plain_one}
+use Rattle.xns_calls.proofs.Parts.{flow_append, flow_at, plain}
 use Rattle.xns_calls.proofs.Fits.{Fits, fits, fits_on}
 use Rattle.xns_calls.proofs.Begun.{IsOn, Stepped, nothing_step, stays_gone, still, unchanged}
 use Rattle.xns_calls.proofs.Renewals.{IsPlain, sequenced_step}

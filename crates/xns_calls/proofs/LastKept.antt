@@ -1,16 +1,14 @@
 -- The last item that a flow keeps, and acknowledgements of no more than that.
-use Rattle.std.proofs.Common.{◌≡◌, ◌∙◌, ap, sym, refl, subst, arith, ℕ, suc, ◌+◌, ◌-◌, ◌<◌, ◌≤◌, Bool, true, false, cond, List, [], ◌∷◌, ◌++◌, length, Option, Some, None}
+use Rattle.std.proofs.Common.{◌≡◌, ◌∙◌, ap, sym, refl, subst, arith, ℕ, suc, ◌+◌, ◌-◌, ◌<◌, ◌≤◌, cond, List, [], ◌∷◌, ◌++◌, length, Option, Some, None}
 use Rattle.std.specs.Prelude.{min, nat_lt, option_map, slice_get}
 use Rattle.xns_calls.specs.Events.{Event, acknowledged, acknowledged_event, after_events, brought_if, captured, meanwhile, read}
-use Rattle.xns_calls.specs.Exchange.{behind_last, reached, up_to}
+use Rattle.xns_calls.specs.Exchange.{behind_last, up_to}
 use Rattle.xns_calls.specs.Queue.{last_number}
 use Rattle.xns_calls.specs.Reading.{Told, brought, brought_over, item_read, passed}
 use Rattle.xns_calls.specs.declared.early.Early.{Early}
 use Rattle.xns_calls.specs.declared.heading.Heading.{Heading}
-use Rattle.xns_calls.specs.declared.track.Track.{Track}
 use Rattle.xns_calls.proofs.Comparing.{by_test, lt_true}
 use Rattle.xns_calls.proofs.Ordered.{AreFrom, IsOrdered, next_of}
-use Rattle.xns_calls.proofs.Packets.{up_to_none}
 use Rattle.xns_calls.proofs.Steps.{early_of, passed_early, read_early, with_early}
 
 abbrev pub AreBelow : ℕ → List Early → Type 0

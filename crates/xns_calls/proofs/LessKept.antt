@@ -1,15 +1,13 @@
 -- How what two flows keep is read, item by item.
-use Rattle.std.proofs.Common.{◌≡◌, ◌∙◌, ap, sym, refl, subst, arith, ℕ, zero, suc, ◌+◌, ◌<◌, ◌≤◌, Bool, true, false, cond, List, [], ◌∷◌, length, Option, Some, None, Result, Ok, Err}
-use Rattle.std.specs.Prelude.{nat_lt, not, OnOk, ◌&&◌}
-use Rattle.xns_lines.specs.declared.page.Page.{Page}
-use Rattle.xns_calls.specs.Exchange.{Scene, of_other, scene, seen_from_other, told_of}
+use Rattle.std.proofs.Common.{◌≡◌, ◌∙◌, ap, sym, refl, arith, ℕ, zero, suc, ◌+◌, ◌<◌, ◌≤◌, Bool, true, false, cond, List, [], ◌∷◌, length, Option, Some, None}
+use Rattle.std.specs.Prelude.{nat_lt, not, ◌&&◌}
+use Rattle.xns_calls.specs.Exchange.{Scene, of_other, seen_from_other, told_of}
 use Rattle.xns_calls.specs.Read.{kept_count, one_read, own_read, read_in_track, read_of, read_times, settled}
 use Rattle.xns_calls.specs.Reading.{Told, first_read}
 use Rattle.xns_calls.specs.Turns.{first_kept, first_line, is_free, next_turn, readable, readable_first}
 use Rattle.xns_calls.specs.declared.early.Early.{Early}
 use Rattle.xns_calls.specs.declared.given.Given.{Given}
 use Rattle.xns_calls.specs.declared.heading.Heading.{Heading}
-use Rattle.xns_calls.specs.declared.side.Side.{Side}
 use Rattle.xns_calls.specs.declared.track.Track.{Track}
 use Rattle.xns_calls.proofs.Comparing.{le_tells}
 use Rattle.xns_calls.proofs.Packets.{read_other}

@@ -30,14 +30,14 @@ kept_from n k item (e ∷ rest) ordered le =
 pub kept_ordered : (k : ℕ) (item : Carried) (es : List Early) → AreOrdered 0 es → AreOrdered 0 (kept k item es)
 kept_ordered k item es ordered = kept_from 0 k item es ordered (omega arith)
 
--- where none has a number below it, it comes first
+-- an item comes first where none that is kept has a number below its own
 pub kept_before : (k : ℕ) (item : Carried) (es : List Early) → 0 ≡ below k es → record { number = k; item = item } ∷ es ≡ kept k item es
 kept_before k item es none = ap (λ (i : ℕ). insert es i (record { number = k; item = item })) none
 
 first_ordered : (k : ℕ) (item : Carried) (es : List Early) → AreOrdered 0 es → 0 ≡ below k es → AreOrdered 0 (record { number = k; item = item } ∷ es)
 first_ordered k item es ordered none = subst (AreOrdered 0) (sym (kept_before k item es none)) (kept_ordered k item es ordered)
 
--- it comes first, or nothing changes
+-- what is kept is ordered where such an item was put first, and where nothing changed
 pub kept_or_same : (p : Bool) (k : ℕ) (item : Carried) (es seen now : List Early) → AreOrdered 0 es → es ≡ seen → 0 ≡ below k seen
     → now ≡ cond p (record { number = k; item = item } ∷ es) es → AreOrdered 0 now
 kept_or_same true k item es seen now ordered same none is =

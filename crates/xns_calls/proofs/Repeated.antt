@@ -1,9 +1,8 @@
 -- The line that tells of repeats is printed once.
-use Rattle.std.proofs.Common.{◌≡◌, ◌∙◌, ap, sym, refl, arith, inl, inr, ℕ, ◌+◌, ◌<◌, ◌⊎◌, ◌&&◌, ◌||◌, Bool, true, false, cond, List, [], ◌∷◌}
+use Rattle.std.proofs.Common.{◌≡◌, ◌∙◌, ap, refl, arith, inl, inr, ℕ, ◌+◌, ◌<◌, ◌⊎◌, ◌&&◌, ◌||◌, Bool, true, false, cond, List, [], ◌∷◌}
 use Rattle.std.specs.Prelude.{nat_lt, not}
 use Rattle.std.proofs.lemmas.Bool.Decides.{nat_tests}
 use Rattle.xns_calls.specs.Repeats.{has_row, in_a_row, one_more, repeats_of, row_ended, tells_next}
-use Rattle.xns_calls.specs.declared.repeats.Repeats.{Repeats}
 use Rattle.xns_calls.specs.declared.repeats.Repeats.TheVariants.{InARow, Told}
 
 -- a flow was told of, or so many repeats are its last items

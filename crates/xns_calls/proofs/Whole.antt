@@ -1,6 +1,6 @@
 -- A flow of which each item is captured is read whole.
 use Rattle.std.proofs.Common.{◌≡◌, ◌∙◌, ap, sym, refl, subst, arith, ℕ, zero, suc, ◌+◌, ◌<◌, ◌≤◌, ◌==◌, true, false, cond, List, [], ◌∷◌, ◌++◌, length, take, drop, append_assoc, append-nil, inl, inr, ◌-◌, Option, Some, None, Ok, Err}
-use Rattle.std.specs.Prelude.{IfOk, IfSome, Result, map, min, nat_lt, option_map, slice_get}
+use Rattle.std.specs.Prelude.{IfOk, Result, map, min, nat_lt, slice_get}
 use Rattle.std.proofs.lemmas.Bool.Decides.{nat_tests}
 use Rattle.std.specs.List.{flat_map}
 use Rattle.std.proofs.lemmas.Grind.{flat_map-append}
@@ -14,11 +14,11 @@ use Rattle.courier_messages.specs.Phases.{onwards, run, said, ◌then◌}
 use Rattle.courier_messages.specs.Text.{signs, written}
 use Rattle.courier_messages.specs.declared.fault.SessionFault.{SessionFault}
 use Rattle.courier_messages.specs.declared.message.Message.{Message}
-use Rattle.xns_calls.specs.Events.{AreWithinReach, Event, IsAmong, IsLate, acknowledged, acknowledged_event, after_event, after_events, brought_if, captured, captured_in, meanwhile, read, read_below, read_below_if, read_below_over, read_first_over, with_captured}
-use Rattle.xns_calls.specs.Exchange.{behind_last, first_track, is_repeat, up_to}
+use Rattle.xns_calls.specs.Events.{AreWithinReach, Event, IsAmong, IsLate, acknowledged, after_event, after_events, captured, meanwhile, read, read_below, read_below_if, read_below_over, read_first_over, with_captured}
+use Rattle.xns_calls.specs.Exchange.{first_track, is_repeat, up_to}
 use Rattle.xns_calls.specs.Numbers.{most_early}
 use Rattle.xns_calls.specs.Queue.{kept, last_number}
-use Rattle.xns_calls.specs.Reading.{Told, after_heard, brought, brought_over, item_read, passed, read_next, said_item, with_kept_item}
+use Rattle.xns_calls.specs.Reading.{Told, after_heard, read_next, said_item, with_kept_item}
 use Rattle.xns_calls.specs.Speech.{after_item, heard_at, heard_of, speech_at}
 use Rattle.xns_calls.specs.Telling.{heard_text}
 use Rattle.xns_calls.specs.Whole.{AreOf, IsOf, IsWhole, SaysConversation, ToldMessage, flow_text, new_text, of_courier, told_lines}
@@ -31,11 +31,11 @@ use Rattle.xns_calls.specs.declared.speech.Speech.{Speech}
 use Rattle.xns_calls.specs.declared.speech.Speech.TheVariants.{Hearing, Waiting}
 use Rattle.xns_calls.specs.declared.track.Track.{Track}
 use Rattle.xns_calls.specs.Unanswered.{Calls}
-use Rattle.xns_calls.proofs.Comparing.{by_test, le_tells, lt_tells, lt_true, not_less}
+use Rattle.xns_calls.proofs.Comparing.{by_test, le_tells, lt_tells, not_less}
 use Rattle.xns_calls.proofs.Gaps.{AreKept, event_whole, kept_next, late_kept, rest_kept}
-use Rattle.xns_calls.proofs.Known.{captured_in_known, event_ordered, events_ordered, kept_cases, known_step, event_known, new_ordered}
+use Rattle.xns_calls.proofs.Known.{captured_in_known, event_ordered, kept_cases, known_step, event_known, new_ordered}
 use Rattle.xns_calls.proofs.Ordered.{AreFrom, IsKnown, IsOrdered, Kept, next_of, read_next_of}
-use Rattle.xns_calls.proofs.Steps.{early_of, next_early, passed_early, read_early, with_early}
+use Rattle.xns_calls.proofs.Steps.{early_of, next_early, with_early}
 
 -- ---- what is heard of items
 

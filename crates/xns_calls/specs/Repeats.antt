@@ -1,5 +1,5 @@
 -- Repeats of a flow that come in a row, and where the line is printed that tells of them.
-use Rattle.std.specs.Prelude.{ℕ, ◌+◌, ◌&&◌, ◌||◌, nat_lt, not, Bool, true, false, if◌then◌else◌, List, [], ◌∷◌, ◌++◌}
+use Rattle.std.specs.Prelude.{ℕ, ◌+◌, ◌&&◌, ◌||◌, nat_lt, not, Bool, true, false, if◌then◌else◌, List, [], ◌∷◌}
 use Rattle.xns_spp.specs.Ends.{most_pending}
 use Rattle.xns_spp.specs.Header.{is_system}
 use Rattle.xns_spp.specs.declared.header.Header.{Header}

@@ -1,4 +1,4 @@
-use Rattle.std.proofs.Common.{◌∙◌, ap, sym}
+use Rattle.std.proofs.Common.{◌∙◌, ap}
 use Rattle.xns_calls.specs.Calls.{after_line}
 use Rattle.xns_calls.specs.Origins.{line_origin}
 use Rattle.xns_calls.proofs.Printed.{known_by, printed}
