@@ -127,23 +127,16 @@ impl KeptSide {
         }
     }
 
-    /// What a field acknowledges of it, where that is more than its next item and more than the last number that is kept.
-    pub fn ahead(&self, kept: &Aheads, field: u16) -> Option<u64>
-        ensures { result ≡ new_ahead self.now.track kept.now field }
+    /// The number that a field acknowledges of it. Beside it stands that number once more where it is ahead: more than its next item
+    /// and more than the last number that is kept.
+    #[inline(always)]
+    pub fn acknowledged(&self, kept: &Aheads, field: u16) -> (Option<u64>, Option<u64>)
+        ensures number { result.0 ≡ acknowledged_of self.now.track field }
+        ensures ahead { result.1 ≡ new_ahead self.now.track kept.now field }
     {
         match &self.side {
-            None => None,
-            Some(side) => side.as_ref().ahead(kept, field),
-        }
-    }
-
-    /// The number that a field acknowledges of it.
-    pub fn acknowledged(&self, field: u16) -> Option<u64>
-        ensures { result ≡ acknowledged_of self.now.track field }
-    {
-        match &self.side {
-            None => None,
-            Some(side) => side.as_ref().acknowledged(field),
+            None => (None, None),
+            Some(side) => side.as_ref().acknowledged(kept, field),
         }
     }
 
