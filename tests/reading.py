@@ -26,8 +26,8 @@ ENDS = frozenset("""initiator_state responder_state after_send send_answer after
 # and what its sessions make of items: the contracts of `Caller` and `Server` cite them
 STEPS = ENDS | frozenset("caller_items server_items server_state answers decided_calls decision after_decision Serving Service IsFitting".split())
 
-# and what the functions of a host do: the contracts of `Host` cite them
-TURNS = frozenset("IsNewHost ConnectsTo Turn TellsNext TakesIn GivesOut ServesAt MovesTo Tags Abandons Host Guest".split())
+# and what the functions of a host do, which the contracts of `Host` cite, and what a host is
+TURNS = frozenset("IsNewHost ConnectsTo Turn TellsNext TakesIn GivesOut ServesAt MovesTo Tags Abandons Host Guest Connection".split())
 
 NOTHING = frozenset()
 
