@@ -1,6 +1,6 @@
 #!/usr/bin/env python3
-"""Times a proved program beside a plain Rust peer, five runs of each in turn, or fifteen of `exchange` and `calls`, which scatter, and
-prints the medians and their ratio.
+"""Times a proved program beside a plain Rust peer: five runs of each in turn, or fifteen of `exchange` and `calls`, which scatter, or so
+many that they take a second. It prints the least of each and their ratio.
 
     python3 bench/compare.py readme       README's table, in some ten minutes once all is built; with --write behind it stands in README
     python3 bench/compare.py all          all of those below, and then the table of their ratios, with the peer of each, the processor and the compilers
@@ -80,8 +80,8 @@ def compare_values(ours, peer):
 
 def time_checksum(folder, given):
     given.touch()
-    medians = compare([built_program("bench"), "checksum"], [built_peer("checksum_peer", folder)], given)
-    yield "the checksum of a million packets", "checksum_peer", ratio_of(medians)
+    least = compare([built_program("bench"), "checksum"], [built_peer("checksum_peer", folder)], given)
+    yield "the checksum of a million packets", "checksum_peer", ratio_of(least)
 
 
 def time_values(folder, _given):
@@ -91,10 +91,10 @@ def time_values(folder, _given):
 def time_c(folder, given):
     given.touch()
     library = built_c("c_codec", folder, True)
-    medians = compare([library], [built_c("c_codec_peer", folder, False)], given)
-    yield "a million packets written and read by the library for C", "c_codec_peer.c, by gcc -O2", ratio_of(medians)
-    medians = compare([library], [built_program("bench"), "codec"], given)
-    print(f"through C each packet takes {(medians['ours'] - medians['peer']) * 1000:.0f} ns more than in Rattle, for its two calls")
+    least = compare([library], [built_c("c_codec_peer", folder, False)], given)
+    yield "a million packets written and read by the library for C", "c_codec_peer.c, by gcc -O2", ratio_of(least)
+    least = compare([library], [built_program("bench"), "codec"], given)
+    print(f"through C each packet takes {(least['ours'] - least['peer']) * 1000:.0f} ns more than in Rattle, for its two calls")
 
 
 def time_exchange(folder, given):
@@ -104,8 +104,8 @@ def time_exchange(folder, given):
     for order in ("ordered", "late", "lossy"):
         for name, peer in (("loop", loop), ("lanes", lanes)):
             print(f"{order}, {name}:", end=" ", flush=True)
-            medians = compare([*ours, order, "5"], [peer, order, "5"], given, runs=MANY_RUNS)
-            yield f"65,535 items each way between two ends, {order}", f"exchange_peer, sums in {'a ' if name == 'loop' else ''}{name}", ratio_of(medians)
+            least = compare([*ours, order, "5"], [peer, order, "5"], given, runs=MANY_RUNS)
+            yield f"65,535 items each way between two ends, {order}", f"exchange_peer, sums in {'a ' if name == 'loop' else ''}{name}", ratio_of(least)
 
 
 def time_calls(folder, given):
@@ -115,17 +115,17 @@ def time_calls(folder, given):
     for name, what, counts in (("adds", "100,000 calls Add in memory", ["100000", "0"]), ("lists", "200 calls of 60,000 cardinals each way", ["0", "200"])):
         for kind, peer in (("plain", plain), ("tuned", tuned)):
             print(f"{name}, {kind}:", end=" ", flush=True)
-            medians = compare([*ours, *counts], [peer, *counts], given, runs=MANY_RUNS)
+            least = compare([*ours, *counts], [peer, *counts], given, runs=MANY_RUNS)
             print(f"{name}, {kind}: ours holds {held_by([*ours, *counts], given)} KiB at most, the peer {held_by([peer, *counts], given)}")
-            yield what, f"calls_peer, {kind}", ratio_of(medians)
+            yield what, f"calls_peer, {kind}", ratio_of(least)
 
 
 def time_hosts(folder, given):
     given.touch()
     program = built_program("test_hosts")
     print("beside ends made by hand:", end=" ", flush=True)
-    medians = compare([program, "hosts", "1", "100000"], [program, "parts", "1", "100000"], given, runs=MANY_RUNS)
-    yield "100,000 calls between two hosts in memory", "the same ends made by hand", ratio_of(medians)
+    least = compare([program, "hosts", "1", "100000"], [program, "parts", "1", "100000"], given, runs=MANY_RUNS)
+    yield "100,000 calls between two hosts in memory", "the same ends made by hand", ratio_of(least)
     # What opening takes is left out: it is that of a run without calls.
     def calls_among(connections):
         run = [program, "hosts", connections]
@@ -134,9 +134,9 @@ def time_hosts(folder, given):
     held = held_by([program, "hosts", "10000", "0"], given) - held_by([program, "hosts", "1", "0"], given)
     print(f"an idle connection holds {held * 1024 / 20_000:.0f} bytes at each of both hosts")
     ours, peer = ([built_c(name, folder, True), "100000"] for name in ("c_calls", "c_calls_peer"))
-    medians = compare(ours, peer, given, runs=MANY_RUNS)
-    print(f"between two hosts {100_000 / medians['ours']:.0f} calls a second of one processor, both sides together")
-    yield "100,000 calls Add between two hosts of the library for C", "c_calls_peer.c, two endpoints", ratio_of(medians)
+    least = compare(ours, peer, given, runs=MANY_RUNS)
+    print(f"between two hosts {100_000 / least['ours']:.0f} calls a second of one processor, both sides together")
+    yield "100,000 calls Add between two hosts of the library for C", "c_calls_peer.c, two endpoints", ratio_of(least)
 
 
 def time_sim(folder, given):
@@ -176,10 +176,10 @@ def time_captures(folder, given):
     for which in ("short", "reversed", "long", "flows", "endless", "endless-flows"):
         given.write_bytes(made_by("captures.py", which))
         print(f"{which}:", end=" ", flush=True)
-        medians = compare([ours, "calls"], [peer], given)
+        least = compare([ours, "calls"], [peer], given)
         dump = statistics.median(seconds_of([ours, "dump"], given) for _ in range(RUNS))
-        print(f"    {medians['ours'] / dump:.2f} of the time of dump; ours holds {held_by([ours, 'calls'], given)} KiB at most, the peer {held_by([peer], given)}")
-        yield f"`xns calls` of 65,536 packets, {which}", "captures_peer", ratio_of(medians)
+        print(f"    {least['ours'] / dump:.2f} of the time of dump; ours holds {held_by([ours, 'calls'], given)} KiB at most, the peer {held_by([peer], given)}")
+        yield f"`xns calls` of 65,536 packets, {which}", "captures_peer", ratio_of(least)
     given.write_bytes(b"")
     capture = pathlib.Path(folder) / "capture.pcap"
     for which in ("short", "reversed", "long", "flows"):

@@ -1,6 +1,6 @@
 """Servers and clients on this machine, over loopback: what both sides take of the processor, and by callgrind the instructions of a call. No program runs longer
 than LONGEST seconds."""
-import contextlib, os, pathlib, re, signal, socket, statistics, subprocess, sys, tempfile, time
+import contextlib, os, pathlib, re, signal, socket, subprocess, sys, tempfile, time
 from typing import Callable, NamedTuple
 
 from building import has_valgrind
@@ -106,18 +106,18 @@ def measured_kinds(kinds, runs, calls, counted, clients=1, environment=None):
         for kind in kinds:
             times[kind].append(run(kind, calls, clients, environment) / calls / clients)
     counts = {kind: instructions(kind, counted, clients, environment) for kind in kinds if kind.is_counted and has_valgrind()}
-    return {kind: statistics.median(spent) for kind, spent in times.items()}, counts
+    return {kind: min(spent) for kind, spent in times.items()}, counts
 
 
 def compare_kinds(what, kinds, runs, calls, counted, clients=1, environment=None):
     """Each kind of server and client, ours first. Rows of processor time of both sides, and of instructions."""
-    medians, counts = measured_kinds(kinds, runs, calls, counted, clients, environment)
+    least, counts = measured_kinds(kinds, runs, calls, counted, clients, environment)
     for kind in kinds:
         told = f", {counts[kind]:.0f} instructions" if kind in counts else ""
-        print(f"{what}, {kind.name}: {medians[kind] * 1e6:.1f} us of processor a call{told}")
+        print(f"{what}, {kind.name}: {least[kind] * 1e6:.1f} us of processor a call{told}")
     ours = kinds[0]
     for peer in kinds[1:]:
-        yield what, peer.name, medians[ours] / medians[peer]
+        yield what, peer.name, least[ours] / least[peer]
         if peer in counts:
             yield f"{what}: instructions", peer.name, counts[ours] / counts[peer]
 

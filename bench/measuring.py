@@ -1,10 +1,12 @@
 """Runs of programs side by side: what each prints, its processor time, its memory and its instructions."""
-import os, pathlib, re, statistics, subprocess, sys, tempfile, time
+import os, pathlib, re, subprocess, sys, tempfile, time
 
 from building import BENCH
 
 RUNS = 5
 MANY_RUNS = 15
+MOST_RUNS = 99
+LEAST_SECONDS = 1.0  # of all runs of one program together
 
 
 def output_of(words, given):
@@ -44,16 +46,19 @@ def instructions_of(words, given):
 
 
 def compare(ours, peer, given, to=os.devnull, runs=RUNS):
+    """The least processor seconds of each, run in turns: what else the machine does only adds to them."""
     if output_of(ours, given) != output_of(peer, given):
         sys.exit("the two programs print different things")
     times = {"ours": [], "peer": []}
-    for _ in range(runs):
+    # A short run tells little by itself.
+    wanted = int(LEAST_SECONDS / max(seconds_of(ours, given, to), 0.001))
+    for _ in range(max(runs, min(wanted, MOST_RUNS))):
         for name, words in (("ours", ours), ("peer", peer)):
             times[name].append(seconds_of(words, given, to))
-    medians = {name: statistics.median(spent) for name, spent in times.items()}
-    print(f"ours {medians['ours']:.3f} s, peer {medians['peer']:.3f} s: the peer takes {medians['peer'] / medians['ours']:.1f} times as long, ours {medians['ours'] / medians['peer']:.2f} of its time")
-    return medians
+    least = {name: min(spent) for name, spent in times.items()}
+    print(f"ours {least['ours']:.3f} s, peer {least['peer']:.3f} s: the peer takes {least['peer'] / least['ours']:.1f} times as long, ours {least['ours'] / least['peer']:.2f} of its time")
+    return least
 
 
-def ratio_of(medians):
-    return medians["ours"] / medians["peer"]
+def ratio_of(least):
+    return least["ours"] / least["peer"]

@@ -1,12 +1,12 @@
 """README's table of speed, with its wording: processor time and instructions of ours divided by those of a peer. Instructions of items each way, and of long messages in
 captures, are counted over fewer of them."""
-import functools, itertools, pathlib, statistics
+import functools, itertools, pathlib
 from typing import NamedTuple
 
 from building import BENCH, built_c, built_peer, built_program, has_gcc, has_tirpc, has_valgrind
 from kinds import RUNS_OF, WINDOWS, add_kinds, bare_adds, large_kinds, python_kinds
 from loopback import measured_kinds
-from measuring import RUNS, compare, held_by, instructions_of, made_by, ratio_of, seconds_of
+from measuring import MANY_RUNS, RUNS, compare, held_by, instructions_of, made_by, ratio_of, seconds_of
 
 README = BENCH.parent / "README.md"
 HEAD = "| What | Time | Instructions |\n|---|---|---|\n"
@@ -110,12 +110,14 @@ def hosts_rows(folder, given):
 
     # What opening takes is left out: it is that of a run without calls.
     def of_calls(taken, words, calls):
-        return taken([*words, calls], given) - taken([*words, "0"], given)
+        return taken([*words, calls]) - taken([*words, "0"])
+
+    def least_seconds(words):
+        return min(seconds_of(words, given) for _ in range(MANY_RUNS))
 
     def beside_calls(*both):
-        turns = [[of_calls(seconds_of, words, "100000") for words in both] for _ in range(9)]
-        seconds = [statistics.median(spent) for spent in zip(*turns)]
-        counts = [of_calls(instructions_of, words, "5000") for words in both] if has_valgrind() else None
+        seconds = [of_calls(least_seconds, words, "100000") for words in both]
+        counts = [of_calls(lambda words: instructions_of(words, given), words, "5000") for words in both] if has_valgrind() else None
         return Ratio(seconds[0] / seconds[1], counts[0] / counts[1] if counts else None)
 
     by_hand = beside_calls([program, "hosts", "1"], [program, "parts", "1"])
