@@ -14,16 +14,16 @@ use Rattle.courier_notation.specs.Reading.{Fault, ◌>>=◌, Reader, over, behin
 use Rattle.courier_notation.specs.Reading.{member_at, designator_behind, designator_at, field_at, fields_behind, fields_at, candidate_at, tag_at, maximum_at, enumeration_behind, array_behind, sequence_behind, choice_behind, record_behind, type_behind, type_at}
 use Rattle.courier_notation.specs.Spelling.{name_spelling, numeric_spelling, maximum_spelling, tag_spelling, member_spelling, designator_spelling, more_spelling, parts_spelling}
 use Rattle.courier_notation.specs.Spelling.{type_spelling, fields_spelling, more_fields_spelling, candidates_spelling, more_candidates_spelling, IsNumeric, IsNumberIfAny, AreParts, field_count, candidate_count, IsType, AreFields, AreCandidates, is_apart}
+use Rattle.courier_notation.proofs.Takes.{Any, GoodDesignator, GoodMember}
 
 abbrev pub got : {A : Type 0} → A → List Token → Result (A × List Token) Fault
 got x rest = Ok (x, rest)
 
 -- ---- references and numbers
 
-own_read : (n : ℕ) (ts : List Token) → is_apart ts ≡ true → reference_behind n ts ≡ got (references.Own n) ts
-own_read n [] h = refl
+pub own_read : (n : ℕ) (ts : List Token) → is_apart ts ≡ true → reference_behind n ts ≡ got (references.Own n) ts
 own_read n (tokens.Dot ∷ ts) h = absurd cc
-own_read n (t ∷ ts) h = refl
+own_read n ts h = refl
 
 word_read : (n : ℕ) (ts : List Token) → n < 65536 → word_of n ts ≡ got (numerics.Number n) ts
 word_read n ts lt = ap (λ (b : Bool). cond b (got (numerics.Number n) ts) (Err (length ts + 1, Reason.LargeNumber))) (lt-ltb n 65536 lt)
@@ -84,10 +84,7 @@ some_read spell Good one complete (x ∷ xs) rest parts good apart comma = liste
 
 -- ---- parts of types
 
-abbrev Any : {A : Type 0} → A → Type 0
-Any x = Unit {0}
-
-any_all : {A : Type 0} (xs : List A) → AllByRecursion Any xs
+pub any_all : {A : Type 0} (xs : List A) → AllByRecursion Any xs
 any_all [] = tt
 any_all (x ∷ xs) = (tt, any_all xs)
 
@@ -97,21 +94,14 @@ name_read x rest good apart = refl
 names_read : (names : List ℕ) (rest : List Token) → AreParts names → listed name_at most_parts (parts_spelling name_spelling names ++ tokens.Colon ∷ rest) ≡ got names (tokens.Colon ∷ rest)
 names_read names rest parts = some_read name_spelling Any name_at name_read names (tokens.Colon ∷ rest) parts (any_all names) refl refl
 
-abbrev GoodMember : ℕ × Numeric → Type 0
-GoodMember m = IsNumeric m.1
-
 member_read : IsComplete member_spelling GoodMember member_at
 unfolding member_at
 member_read x rest good apart = rw (inside_read x.1 rest good) refl
 
-abbrev GoodDesignator : Designator → Type 0
-GoodDesignator d = IsNumberIfAny d.1
-
 bare_read : (n : ℕ) (ts : List Token) → is_apart ts ≡ true → designator_behind n ts ≡ got (n, None) ts
 unfolding designator_behind
-bare_read n [] h = refl
 bare_read n (tokens.OpenParenthesis ∷ ts) h = absurd cc
-bare_read n (t ∷ ts) h = refl
+bare_read n ts h = refl
 
 designator_read : (n : ℕ) (number : Option Numeric) (rest : List Token) → IsNumberIfAny number → is_apart rest ≡ true → designator_at (designator_spelling (n, number) ++ rest) ≡ got (n, number) rest
 unfolding designator_at designator_behind

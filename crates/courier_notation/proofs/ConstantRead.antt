@@ -47,7 +47,7 @@ component_found depth find ts c text (u ∷ after) x t s e = subst (λ (p : Cons
 element_found : (depth : ℕ) → Finds depth → (ts : List Token) (x : Constant × List Token) → element_at (constant_at depth) ts ≡ Ok x → IsElementFound depth ts x.1
 unfolding element_at
 element_found depth find ts x e =
-    let a = bind_ok (constant_at depth ts) (λ first. component_behind (constant_at depth) first.0 first.1) x e in
+    let a = bind_ok (constant_at depth ts) _ x e in
     let f = find ts a.0 a.1 in
     component_found depth find ts a.0.0 f.text a.0.1 x f.takes f.spells a.2
 
@@ -56,7 +56,7 @@ unfolding listed
 elements_found depth find zero ts x e = absurd cc
 elements_found depth find (suc most) ts x e =
     let one = element_at (constant_at depth) in
-    let b = bind_ok (one ts) (λ first. over (λ others. first.0 ∷ others) (others_at (listed one most) first.1 (behind_comma first.1))) x e in
+    let b = bind_ok (one ts) _ x e in
     let first = element_found depth find ts b.0 b.1 in
     let o = over_ok (λ others. b.0.0 ∷ others) (others_at (listed one most) b.0.1 (behind_comma b.0.1)) x b.2 in
     let found : AreElementsFound depth (suc most) ts o.0.1 =
@@ -79,8 +79,8 @@ brackets depth ts = do
 
 some_found : (depth : ℕ) → Finds depth → (ts : List Token) (x : Constant × List Token) → brackets depth ts ≡ Ok x → IsFound (suc depth) (tokens.OpenBracket ∷ ts) x
 some_found depth find ts x e =
-    let a = bind_ok (listed (element_at (constant_at depth)) most_parts ts) (λ elements. close_bracket_at elements.1 >>= λ rest. Ok (constants.Other, rest)) x e in
-    let b = bind_ok (close_bracket_at a.0.1) (λ rest. Ok (constants.Other, rest)) x a.2 in
+    let a = bind_ok (listed (element_at (constant_at depth)) most_parts ts) _ x e in
+    let b = bind_ok (close_bracket_at a.0.1) _ x a.2 in
     let l = elements_found depth find most_parts ts a.0 a.1 in
     let inside = Takes-then ts l.text a.0.1 (tokens.CloseBracket ∷ []) b.0 l.takes (Takes-one tokens.CloseBracket a.0.1 b.0 (close_bracket_is a.0.1 b.0 b.1)) in
     let whole = Takes-behind tokens.OpenBracket (tokens.OpenBracket ∷ ts) ts (l.text ++ tokens.CloseBracket ∷ []) b.0 refl inside in
@@ -109,7 +109,7 @@ choice_found depth find ts r after false x t e =
 chosen_found : (depth : ℕ) → Finds depth → (n : ℕ) (ts : List Token) (x : Constant × List Token) → chosen_behind (constant_at depth) n ts ≡ Ok x → IsFound (suc depth) (tokens.Name n ∷ ts) x
 unfolding chosen_behind
 chosen_found depth find n ts x e =
-    let a = bind_ok (reference_behind n ts) (λ name. cond {A = Result (Constant × List Token) Fault} (begins_constant name.1) (over (λ c. constants.Other) (constant_at depth name.1)) (Ok (constants.Named name.0, name.1))) x e in
+    let a = bind_ok (reference_behind n ts) _ x e in
     choice_found depth find (tokens.Name n ∷ ts) a.0.0 a.0.1 (begins_constant a.0.1) x (reference_takes n ts a.0.0 a.0.1 a.1) a.2
 
 negative_found : (depth : ℕ) (ts : List Token) (x : Constant × List Token) → over (λ n. constants.Other) (long_at ts) ≡ Ok x → IsFound (suc depth) (tokens.Minus ∷ ts) x

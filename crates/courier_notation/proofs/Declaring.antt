@@ -1,5 +1,5 @@
 -- Declarations that are read one after the other, as a loop does.
-use Rattle.std.proofs.Common.{◌≡◌, ℕ, zero, suc, ◌-◌, ◌+◌, ◌≤◌, ◌<◌, Bool, true, false, cond, List, [], ◌∷◌, ◌++◌, length, Result, Ok, Err, refl, sym, ap, ◌∙◌, append_assoc, arith}
+use Rattle.std.proofs.Common.{◌≡◌, ℕ, zero, suc, ◌-◌, ◌+◌, ◌≤◌, ◌<◌, Bool, true, false, cond, List, [], ◌∷◌, ◌++◌, length, Result, Ok, Err, refl, sym, ap, ◌∙◌, arith}
 use Rattle.std.proofs.lemmas.List.{append-nil}
 use Rattle.courier_notation.specs.declared.reason.Reason.TheVariants.{TooManyDeclarations}
 use Rattle.courier_notation.specs.declared.stop.Stop.{Stop}
@@ -8,7 +8,7 @@ use Rattle.courier_notation.specs.declared.token.Token.{Token}
 use Rattle.courier_notation.specs.ProgramModels.{DeclaredModel}
 use Rattle.courier_notation.specs.Reading.{Fault, ◌>>=◌, Fails, over}
 use Rattle.courier_notation.specs.Programs.{declaration_at, declarations_at, is_end}
-use Rattle.courier_notation.proofs.Listing.{with_front}
+use Rattle.courier_notation.proofs.Listing.{regroup, with_front}
 
 abbrev Declarations : Type 0
 Declarations = List (ℕ × DeclaredModel)
@@ -17,10 +17,6 @@ Declarations = List (ℕ × DeclaredModel)
 step : (n : ℕ) (ts : List Token) → is_end ts ≡ false → declarations_at (suc n) ts ≡ (declaration_at ts >>= λ first. over (λ others. first.0 ∷ others) (declarations_at n first.1))
 unfolding declarations_at
 step n ts h = ap (λ (b : Bool). cond b (Ok ([], ts)) (declaration_at ts >>= λ first. over (λ others. first.0 ∷ others) (declarations_at n first.1))) h
-
-regroup : (front : Declarations) (x : ℕ × DeclaredModel) (read : Result (Declarations × List Token) Fault) → with_front front (over (λ others. x ∷ others) read) ≡ with_front (front ++ x ∷ []) read
-regroup front x (Ok r) = ap (λ xs. Ok (xs, r.1)) (sym (append_assoc front (x ∷ []) r.0))
-regroup front x (Err f) = refl
 
 pub one_more : (front : Declarations) (most i : ℕ) (ts : List Token) (x : ℕ × DeclaredModel) (after : List Token) (total : Result (Declarations × List Token) Fault) → i < most → is_end ts ≡ false → declaration_at ts ≡ Ok (x, after)
     → with_front front (declarations_at (most - i) ts) ≡ total → with_front (front ++ x ∷ []) (declarations_at (most - (i + 1)) after) ≡ total

@@ -1,5 +1,6 @@
 -- Parts that are read one after the other, as a loop does.
-use Rattle.std.proofs.Common.{◌≡◌, ℕ, zero, suc, ◌-◌, ◌+◌, ◌≤◌, ◌<◌, ◌⊎◌, inl, inr, IsOk, List, [], ◌∷◌, ◌++◌, length, Some, None, Result, Ok, Err, refl, sym, ap, ◌∙◌, append_assoc, arith}
+use Rattle.std.proofs.Common.{◌≡◌, ℕ, zero, suc, ◌-◌, ◌+◌, ◌≤◌, ◌<◌, ◌⊎◌, inl, inr, IsOk, List, [], ◌∷◌, ◌++◌, length, map, Some, None, Result, Ok, Err, refl, sym, ap, ◌∙◌, append_assoc, arith}
+use Rattle.std.proofs.lemmas.List.{map_push}
 use Rattle.courier_notation.specs.declared.reason.Reason.TheVariants.{TooManyParts}
 use Rattle.courier_notation.specs.declared.stop.Stop.{Stop}
 use Rattle.courier_notation.specs.declared.stop.Stop.TheVariants as stops
@@ -11,51 +12,78 @@ use Rattle.courier_notation.specs.Written.{Designator, TypeModel}
 abbrev pub with_front : {A : Type 0} → List A → Result (List A × List Token) Fault → Result (List A × List Token) Fault
 with_front front read = over (λ xs. front ++ xs) read
 
-regroup : {A : Type 0} (front : List A) (x : A) (read : Result (List A × List Token) Fault) → with_front front (over (λ others. x ∷ others) read) ≡ with_front (front ++ x ∷ []) read
+pub regroup : {A : Type 0} (front : List A) (x : A) (read : Result (List A × List Token) Fault) → with_front front (over (λ others. x ∷ others) read) ≡ with_front (front ++ x ∷ []) read
 regroup front x (Ok r) = ap (λ xs. Ok (xs, r.1)) (sym (append_assoc front (x ∷ []) r.0))
 regroup front x (Err f) = refl
 
+-- memory is wanted here, and so it was where the first part stands
+pub first_is_wanted : (Wants : List Token → Type 0) (tokens rest : List Token) → (rest ≡ tokens) ⊎ Wants tokens → Wants rest → Wants tokens
+first_is_wanted Wants tokens rest (inl same) wants = rw (sym same) wants
+first_is_wanted Wants tokens rest (inr first) wants = first
+
+-- a list that is read up to here: the parts in front, their number, the tokens that are left, and all tokens;
+-- each part begins with what start reads
+pub record IsReadTo {A B : Type 0} (one : Reader A) (start : Reader B) (most : ℕ) (front : List A) (i : ℕ) (rest tokens : List Token) : Type 0 where
+  pub so_far : with_front front (listed one (most - i) rest) ≡ listed one most tokens
+  pub first : (rest ≡ tokens) ⊎ IsOk (start tokens)
+
+whole : {A : Type 0} (read : Result (List A × List Token) Fault) → with_front [] read ≡ read
+whole (Ok r) = refl
+whole (Err f) = refl
+
+-- nothing is read yet
+pub begun : {A B : Type 0} (one : Reader A) (start : Reader B) (most : ℕ) (tokens : List Token) {front : List A} → front ≡ [] → IsReadTo one start most front 0 tokens tokens
+begun one start most tokens e =
+    let k : most - 0 ≡ most = omega arith in
+    record { so_far = rw e (ap (λ n. with_front [] (listed one n tokens)) k ∙ whole (listed one most tokens)); first = inl refl }
+
+-- a part begins here, and so one began where the first part stands
+pub first_begins : {A B : Type 0} {one : Reader A} {start : Reader B} {most i : ℕ} {front : List A} {rest tokens : List Token} → IsReadTo one start most front i rest tokens → IsOk (start rest) → IsOk (start tokens)
+first_begins {start} {rest} {tokens} r begins = first_is_wanted (λ ts. IsOk (start ts)) tokens rest r.first begins
+
 -- a part, and a comma behind it
-pub goes_on : {A : Type 0} (one : Reader A) (front : List A) (most i : ℕ) (ts : List Token) (x : A) (after next : List Token) (total : Result (List A × List Token) Fault) → i < most → one ts ≡ Ok (x, after) → behind_comma after ≡ Some next
-    → with_front front (listed one (most - i) ts) ≡ total → with_front (front ++ x ∷ []) (listed one (most - (i + 1)) next) ≡ total
+pub goes_on : {A B : Type 0} {one : Reader A} {start : Reader B} {most i : ℕ} {front longer : List A} {ts tokens after next : List Token} {x : A} → IsReadTo one start most front i ts tokens → i < most → one ts ≡ Ok (x, after) → behind_comma after ≡ Some next → longer ≡ front ++ x ∷ [] → IsOk (start ts)
+    → IsReadTo one start most longer (i + 1) next tokens
 unfolding listed
-goes_on one front most i ts x after next total lt h comma so_far =
+goes_on {one} {most} {i} {front} {longer} {ts} {next} {x} r lt h comma more begins =
     let k : most - i ≡ suc (most - (i + 1)) = omega arith in
-    let step : with_front front (listed one (most - i) ts) ≡ with_front (front ++ x ∷ []) (listed one (most - (i + 1)) next) = rw (k, h, comma) (regroup front x (listed one (most - (i + 1)) next)) in
-    sym step ∙ so_far
+    let step : with_front front (listed one (most - i) ts) ≡ with_front longer (listed one (most - (i + 1)) next) = rw (k, h, comma, more) (regroup front x (listed one (most - (i + 1)) next)) in
+    record { so_far = sym step ∙ r.so_far; first = inr (first_begins r begins) }
 
 -- a part that is none
-pub ends : {A : Type 0} (e : Stop) (one : Reader A) (front : List A) (most i : ℕ) (ts : List Token) (total : Result (List A × List Token) Fault) → i < most → Fails e (one ts)
-    → with_front front (listed one (most - i) ts) ≡ total → Fails e total
+pub ends : {A B : Type 0} {one : Reader A} {start : Reader B} {most i : ℕ} {front : List A} {ts tokens : List Token} → IsReadTo one start most front i ts tokens → i < most → (e : Stop) → Fails e (one ts) → Fails e (listed one most tokens)
 unfolding listed
-ends stops.NoMemory one front most i ts total lt h so_far = tt
-ends (stops.Wrong left reason) one front most i ts total lt h so_far =
+ends r lt stops.NoMemory h = tt
+ends {one} {most} {i} {front} {ts} r lt (stops.Wrong left reason) h =
     let k : most - i ≡ suc (most - (i + 1)) = omega arith in
     let step : with_front front (listed one (most - i) ts) ≡ Err (left, reason) = rw (k, h) refl in
-    sym so_far ∙ step
+    sym r.so_far ∙ step
 
 -- a part, and no comma behind it
-pub is_done : {A : Type 0} (one : Reader A) (front : List A) (most i : ℕ) (ts : List Token) (x : A) (after : List Token) (total : Result (List A × List Token) Fault) → i < most → one ts ≡ Ok (x, after) → behind_comma after ≡ None
-    → with_front front (listed one (most - i) ts) ≡ total → total ≡ Ok (front ++ x ∷ [], after)
+pub is_done : {A B : Type 0} {one : Reader A} {start : Reader B} {most i : ℕ} {front longer : List A} {ts tokens after : List Token} {x : A} → IsReadTo one start most front i ts tokens → i < most → one ts ≡ Ok (x, after) → behind_comma after ≡ None → longer ≡ front ++ x ∷ []
+    → listed one most tokens ≡ Ok (longer, after)
 unfolding listed
-is_done one front most i ts x after total lt h comma so_far =
+is_done {one} {most} {i} {front} {longer} {ts} {after} r lt h comma more =
     let k : most - i ≡ suc (most - (i + 1)) = omega arith in
-    let step : with_front front (listed one (most - i) ts) ≡ Ok (front ++ x ∷ [], after) = rw (k, h, comma) refl in
-    sym so_far ∙ step
+    let step : with_front front (listed one (most - i) ts) ≡ Ok (longer, after) = rw (k, h, comma, more) refl in
+    sym r.so_far ∙ step
 
 -- as many parts as there may be, and a comma behind them
-pub is_full : {A : Type 0} (one : Reader A) (front : List A) (most i : ℕ) (ts : List Token) (total : Result (List A × List Token) Fault) → most ≤ i
-    → with_front front (listed one (most - i) ts) ≡ total → total ≡ Err (length ts, TooManyParts)
+pub is_full : {A B : Type 0} {one : Reader A} {start : Reader B} {most i : ℕ} {front : List A} {ts tokens : List Token} → IsReadTo one start most front i ts tokens → most ≤ i → listed one most tokens ≡ Err (length ts, TooManyParts)
 unfolding listed
-is_full one front most i ts total le so_far =
+is_full {one} {most} {i} {front} {ts} r le =
     let k : most - i ≡ 0 = omega arith in
     let step : with_front front (listed one (most - i) ts) ≡ Err (length ts, TooManyParts) = rw k refl in
-    sym so_far ∙ step
+    sym r.so_far ∙ step
 
 -- a reader that wants no memory stops there
 pub stops_fails : {Y : Type 0} (e : Stop) (reading : Result Y Fault) → Stops e reading → Fails e reading
 stops_fails (stops.Wrong left reason) reading h = h
 stops_fails stops.NoMemory reading h = tt
+
+-- parts that are seen otherwise, and one more of them
+pub seen_push : {P A : Type 0} (view : P → A) (parts : List P) (x : P) {longer : List P} → longer ≡ parts ++ x ∷ [] → map view longer ≡ map view parts ++ view x ∷ []
+seen_push view parts x h = ap (map view) h ∙ map_push view parts x
 
 -- ---- the first part, behind which a list grows
 
@@ -68,24 +96,10 @@ pub wanted : (e : Stop) (P : Type 0) → P → IsWanted e P
 wanted (stops.Wrong left reason) P h = tt
 wanted stops.NoMemory P h = h
 
--- a part is right here, and so the first one is
-pub first_is_right : {A : Type 0} (one : Reader A) (tokens rest : List Token) → (rest ≡ tokens) ⊎ IsOk (one tokens) → IsOk (one rest) → IsOk (one tokens)
-first_is_right one tokens rest (inl same) right = rw (sym same) right
-first_is_right one tokens rest (inr first) right = first
+pub is_right : {A : Type 0} {read : Result A Fault} {x : A} → read ≡ Ok x → IsOk read
+is_right h = rw h refl
 
--- memory is wanted here, and so it was where the first part stands
-pub first_is_wanted : (Wants : List Token → Type 0) (tokens rest : List Token) → (rest ≡ tokens) ⊎ Wants tokens → Wants rest → Wants tokens
-first_is_wanted Wants tokens rest (inl same) wants = rw (sym same) wants
-first_is_wanted Wants tokens rest (inr first) wants = first
-
-pub is_right : {A : Type 0} (one : Reader A) (ts : List Token) (x : A × List Token) → one ts ≡ Ok x → IsOk (one ts)
-is_right one ts x is = rw is refl
-
--- what was answered behind a step was so behind a right one
-pub step_was_right : {A B : Type 0} (read : Result A Fault) (f : A → Result B Fault) (x : B) → (read >>= f) ≡ Ok x → IsOk read
-step_was_right (Ok y) f x is = refl
-step_was_right (Err e) f x is = absurd (cc)
-
+-- a step was right, behind which something was answered
 first_of_step : {A B : Type 0} (read : Result A Fault) (f : A → Result B Fault) → IsOk (read >>= f) → IsOk read
 first_of_step (Ok y) f right = refl
 first_of_step (Err e) f right = absurd (cc)
@@ -96,60 +110,21 @@ unfolding listed
 first_of_list one zero ts right = absurd (cc)
 first_of_list one (suc n) ts right = first_of_step (one ts) _ right
 
--- components begin with a name, and candidates with a designator
-pub first_name : (one : Reader TypeModel) (ts : List Token) (x : (List ℕ × TypeModel) × List Token) → field_at one ts ≡ Ok x → IsOk (name_at ts)
-unfolding field_at
-first_name one ts x is = first_of_list name_at most_parts ts (step_was_right (listed name_at most_parts ts) _ x is)
+-- the first part is right of a list behind which something was answered
+first_of_parts : {A B : Type 0} (one : Reader A) (ts : List Token) (f : List A × List Token → Result B Fault) {x : B} → (listed one most_parts ts >>= f) ≡ Ok x → IsOk (one ts)
+first_of_parts one ts f is = first_of_list one most_parts ts (first_of_step (listed one most_parts ts) f (is_right is))
 
-pub first_designator : (one : Reader TypeModel) (ts : List Token) (x : (List Designator × TypeModel) × List Token) → candidate_at one ts ≡ Ok x → IsOk (designator_at ts)
+-- components begin with a name, and candidates with a designator
+pub first_name : (one : Reader TypeModel) (ts : List Token) {x : (List ℕ × TypeModel) × List Token} → field_at one ts ≡ Ok x → IsOk (name_at ts)
+unfolding field_at
+first_name one ts is = first_of_parts name_at ts _ is
+
+pub first_designator : (one : Reader TypeModel) (ts : List Token) {x : (List Designator × TypeModel) × List Token} → candidate_at one ts ≡ Ok x → IsOk (designator_at ts)
 unfolding candidate_at
-first_designator one ts x is = first_of_list designator_at most_parts ts (step_was_right (listed designator_at most_parts ts) _ x is)
+first_designator one ts is = first_of_parts designator_at ts _ is
 
 -- ---- parts that are passed over
 
-passed_over : {A B : Type 0} (f : A → B) (read : Result (A × List Token) Fault) → passed (over f read) ≡ passed read
-passed_over f (Ok r) = refl
-passed_over f (Err e) = refl
-
-pub goes_past : {A : Type 0} (one : Reader A) (most i : ℕ) (ts : List Token) (x : A) (after next : List Token) (total : Result (List Token) Fault) → i < most → one ts ≡ Ok (x, after) → behind_comma after ≡ Some next
-    → passed (listed one (most - i) ts) ≡ total → passed (listed one (most - (i + 1)) next) ≡ total
-unfolding listed
-goes_past one most i ts x after next total lt h comma so_far =
-    let k : most - i ≡ suc (most - (i + 1)) = omega arith in
-    let step : passed (listed one (most - i) ts) ≡ passed (listed one (most - (i + 1)) next) = rw (k, h, comma) (passed_over _ (listed one (most - (i + 1)) next)) in
-    sym step ∙ so_far
-
-pub stops_past : {A : Type 0} (e : Stop) (one : Reader A) (most i : ℕ) (ts : List Token) (total : Result (List Token) Fault) → i < most → Stops e (one ts)
-    → passed (listed one (most - i) ts) ≡ total → Stops e total
-unfolding listed
-stops_past stops.NoMemory one most i ts total lt h so_far = absurd h
-stops_past (stops.Wrong left reason) one most i ts total lt h so_far =
-    let k : most - i ≡ suc (most - (i + 1)) = omega arith in
-    let step : passed (listed one (most - i) ts) ≡ Err (left, reason) = rw (k, h) refl in
-    sym so_far ∙ step
-
-pub done_past : {A : Type 0} (one : Reader A) (most i : ℕ) (ts : List Token) (x : A) (after : List Token) (total : Result (List Token) Fault) → i < most → one ts ≡ Ok (x, after) → behind_comma after ≡ None
-    → passed (listed one (most - i) ts) ≡ total → total ≡ Ok after
-unfolding listed
-done_past one most i ts x after total lt h comma so_far =
-    let k : most - i ≡ suc (most - (i + 1)) = omega arith in
-    let step : passed (listed one (most - i) ts) ≡ Ok after = rw (k, h, comma) refl in
-    sym so_far ∙ step
-
-pub full_past : {A : Type 0} (one : Reader A) (most i : ℕ) (ts : List Token) (total : Result (List Token) Fault) → most ≤ i
-    → passed (listed one (most - i) ts) ≡ total → total ≡ Err (length ts, TooManyParts)
-unfolding listed
-full_past one most i ts total le so_far =
-    let k : most - i ≡ 0 = omega arith in
-    let step : passed (listed one (most - i) ts) ≡ Err (length ts, TooManyParts) = rw k refl in
-    sym so_far ∙ step
-
--- what stands behind the parts
-pub behind_passed : {A B : Type 0} (read : Result (A × List Token) Fault) (rest : List Token) (f : List Token → Result B Fault) → passed read ≡ Ok rest → (read >>= λ x. f x.1) ≡ f rest
-behind_passed (Ok x) rest f is = ap f (cc)
-behind_passed (Err e) rest f is = absurd (cc)
-
-pub passed_stops : {A B : Type 0} (e : Stop) (read : Result (A × List Token) Fault) (f : List Token → Result B Fault) → Stops e (passed read) → Stops e (read >>= λ x. f x.1)
-passed_stops stops.NoMemory read f h = absurd h
-passed_stops (stops.Wrong left reason) (Ok x) f h = absurd (cc)
-passed_stops (stops.Wrong left reason) (Err e) f h = cc
+pub stops_past : {A B : Type 0} {one : Reader A} {start : Reader B} {most i : ℕ} {front : List A} {ts tokens : List Token} → IsReadTo one start most front i ts tokens → i < most → (e : Stop) → Stops e (one ts) → Stops e (passed (listed one most tokens))
+stops_past r lt stops.NoMemory h = absurd h
+stops_past r lt (stops.Wrong left reason) h = ap passed (ends r lt (stops.Wrong left reason) h)

@@ -11,13 +11,13 @@ use Rattle.courier_notation.specs.declared.written.Reference.{Reference}
 use Rattle.courier_notation.specs.declared.written.Reference.TheVariants as references
 use Rattle.courier_notation.specs.Written.{TypeModel, fields_from}
 use Rattle.courier_notation.specs.ProgramModels.{DeclaredModel, FieldList, ProgramModel}
-use Rattle.courier_notation.specs.Reading.{most_parts, reference_behind, fields_at, type_at, record_behind, type_behind}
+use Rattle.courier_notation.specs.Reading.{Reader, most_parts, fields_at, type_at, record_behind, type_behind}
 use Rattle.courier_notation.specs.Programs.{most_depth, small_or_fault, small_at, constant_at, arguments_at, results_at, reference_at, reports_at}
 use Rattle.courier_notation.specs.Programs.{procedure_behind, error_behind, type_declared, constant_declared, declared_at, declaration_at, is_end, most_declarations, declarations_at, dependency_at, dependencies_at, header_at, body_at, program_with, program_of}
 use Rattle.courier_notation.specs.Spelling.{reference_spelling, parts_spelling, type_spelling, fields_spelling, AreFields, AreParts, field_count, is_apart}
-use Rattle.courier_notation.specs.ProgramSpelling.{SpellsFields, SpellsArguments, SpellsResults, SpellsReports, numbered, SpellsDeclared, SpellsDeclaration, SpellsDeclarations, dependency_spelling, IsDependency, SpellsDependencies, SpellsProgram}
+use Rattle.courier_notation.specs.ProgramSpelling.{SpellsFields, SaysNothing, SpellsArguments, SpellsResults, SpellsReports, numbered, SpellsDeclared, SpellsDeclaration, SpellsDeclarations, dependency_spelling, IsDependency, SpellsDependencies, SpellsProgram}
 use Rattle.courier_notation.proofs.Takes.{over_ok, Any}
-use Rattle.courier_notation.proofs.Complete.{got, IsComplete, some_read, type_read}
+use Rattle.courier_notation.proofs.Complete.{any_all, got, own_read, IsComplete, some_read, type_read}
 use Rattle.courier_notation.proofs.ConstantRead.{constant_read}
 
 small_word : (n : ℕ) (ts : List Token) → n < 65536 → small_or_fault n ts ≡ got n ts
@@ -60,6 +60,10 @@ fields_read fs text rest s apart = record_of most_depth (text ++ rest) fs rest (
 
 -- ---- what stands first
 
+-- nothing is read where nothing is said
+nothing_read : {A : Type 0} (one : Reader (List A)) (xs : List A) (text rest : List Token) → SaysNothing xs text → one rest ≡ got [] rest → one (text ++ rest) ≡ got xs rest
+nothing_read {A} one xs text rest s none = ap (λ (t : List Token). one (t ++ rest)) s.1 ∙ none ∙ ap (λ (found : List A). got found rest) (sym s.0)
+
 abbrev is_no_bracket : List Token → Bool
 is_no_bracket (tokens.OpenBracket ∷ ts) = false
 is_no_bracket ts = true
@@ -74,21 +78,16 @@ results_pass test p fs text rest (inr s) h = ap (λ (t : List Token). test (t ++
 
 no_arguments : (ts : List Token) → is_no_bracket ts ≡ true → arguments_at ts ≡ got [] ts
 unfolding arguments_at
-no_arguments [] h = refl
 no_arguments (tokens.OpenBracket ∷ ts) h = absurd cc
-no_arguments (t ∷ ts) h = refl
-
-some_arguments : (ts : List Token) (x : FieldList) (rest : List Token) → fields_at (type_at most_depth) (tokens.OpenBracket ∷ ts) ≡ got x rest → arguments_at (tokens.OpenBracket ∷ ts) ≡ got x rest
-unfolding arguments_at
-some_arguments ts x rest e = e
+no_arguments ts h = refl
 
 arguments_read : (fs : FieldList) (text rest : List Token) → SpellsArguments fs text → is_no_bracket rest ≡ true → is_apart rest ≡ true → arguments_at (text ++ rest) ≡ got fs rest
-arguments_read fs text rest (inl s) none apart =
-    ap (λ (t : List Token). arguments_at (t ++ rest)) s.1 ∙ no_arguments rest none ∙ ap (λ (f : FieldList). got f rest) (sym s.0)
+unfolding arguments_at
+arguments_read fs text rest (inl s) none apart = nothing_read arguments_at fs text rest s (no_arguments rest none)
 arguments_read fs text rest (inr s) none apart =
     let inside = fields_spelling (fields_from fs) ++ tokens.CloseBracket ∷ [] in
     let read : fields_at (type_at most_depth) ((tokens.OpenBracket ∷ inside) ++ rest) ≡ got fs rest = ap (λ (t : List Token). fields_at (type_at most_depth) (t ++ rest)) (sym s.2) ∙ fields_read fs text rest s apart in
-    ap (λ (t : List Token). arguments_at (t ++ rest)) s.2 ∙ some_arguments (inside ++ rest) fs rest read
+    ap (λ (t : List Token). arguments_at (t ++ rest)) s.2 ∙ read
 
 abbrev is_no_returns : List Token → Bool
 is_no_returns (tokens.Returns ∷ ts) = false
@@ -96,19 +95,14 @@ is_no_returns ts = true
 
 no_results : (ts : List Token) → is_no_returns ts ≡ true → results_at ts ≡ got [] ts
 unfolding results_at
-no_results [] h = refl
 no_results (tokens.Returns ∷ ts) h = absurd cc
-no_results (t ∷ ts) h = refl
-
-some_results : (ts : List Token) (x : FieldList) (rest : List Token) → fields_at (type_at most_depth) ts ≡ got x rest → results_at (tokens.Returns ∷ ts) ≡ got x rest
-unfolding results_at
-some_results ts x rest e = e
+no_results ts h = refl
 
 results_read : (fs : FieldList) (text rest : List Token) → SpellsResults fs text → is_no_returns rest ≡ true → is_apart rest ≡ true → results_at (text ++ rest) ≡ got fs rest
-results_read fs text rest (inl s) none apart =
-    ap (λ (t : List Token). results_at (t ++ rest)) s.1 ∙ no_results rest none ∙ ap (λ (f : FieldList). got f rest) (sym s.0)
+unfolding results_at
+results_read fs text rest (inl s) none apart = nothing_read results_at fs text rest s (no_results rest none)
 results_read fs text rest (inr s) none apart =
-    ap (λ (t : List Token). results_at (t ++ rest)) s.1 ∙ some_results (s.0 ++ rest) fs rest (fields_read fs s.0 rest s.2 apart)
+    ap (λ (t : List Token). results_at (t ++ rest)) s.1 ∙ fields_read fs s.0 rest s.2 apart
 
 abbrev is_no_reports : List Token → Bool
 is_no_reports (tokens.Reports ∷ ts) = false
@@ -116,31 +110,20 @@ is_no_reports ts = true
 
 no_reports : (ts : List Token) → is_no_reports ts ≡ true → reports_at ts ≡ got [] ts
 unfolding reports_at
-no_reports [] h = refl
 no_reports (tokens.Reports ∷ ts) h = absurd cc
-no_reports (t ∷ ts) h = refl
-
-own_whole : (n : ℕ) (ts : List Token) → is_apart ts ≡ true → reference_behind n ts ≡ got (references.Own n) ts
-own_whole n [] h = refl
-own_whole n (tokens.Dot ∷ ts) h = absurd cc
-own_whole n (t ∷ ts) h = refl
+no_reports ts h = refl
 
 whole_read : IsComplete reference_spelling Any reference_at
 unfolding reference_at
-whole_read (references.Own n) rest good apart = own_whole n rest apart
+whole_read (references.Own n) rest good apart = own_read n rest apart
 whole_read (references.Other p n) rest good apart = refl
-
-any_all : {A : Type 0} (xs : List A) → AllByRecursion Any xs
-any_all [] = tt
-any_all (x ∷ xs) = (tt, any_all xs)
 
 some_reports : (errors : List Reference) (rest : List Token) → AreParts errors → reports_at (tokens.Reports ∷ tokens.OpenBracket ∷ (parts_spelling reference_spelling errors ++ tokens.CloseBracket ∷ rest)) ≡ got errors rest
 unfolding reports_at
 some_reports errors rest parts = rw (some_read reference_spelling Any reference_at whole_read errors (tokens.CloseBracket ∷ rest) parts (any_all errors) refl refl) refl
 
 reports_read : (errors : List Reference) (text rest : List Token) → SpellsReports errors text → is_no_reports rest ≡ true → reports_at (text ++ rest) ≡ got errors rest
-reports_read errors text rest (inl s) none =
-    ap (λ (t : List Token). reports_at (t ++ rest)) s.1 ∙ no_reports rest none ∙ ap (λ (f : List Reference). got f rest) (sym s.0)
+reports_read errors text rest (inl s) none = nothing_read reports_at errors text rest s (no_reports rest none)
 reports_read errors text rest (inr s) none =
     ap (λ (t : List Token). reports_at (t ++ rest)) s.1
     ∙ ap (λ (t : List Token). reports_at (tokens.Reports ∷ tokens.OpenBracket ∷ t)) (append_assoc (parts_spelling reference_spelling errors) (tokens.CloseBracket ∷ []) rest)
@@ -200,26 +183,15 @@ procedure_read arguments results errors n x y z rest a r e lt =
     (results_read results y t2 r (ending n z rest errors is_no_returns (λ ts. refl) (λ ts. refl) e) apart2)
     (reports_read errors z (numbered n ++ rest) e refl)
 
-declared_type : (ts : List Token) (d : DeclaredModel) (rest : List Token) → type_declared ts ≡ got d rest → declared_at (tokens.Type ∷ ts) ≡ got d rest
-unfolding declared_at
-declared_type ts d rest e = e
-
-declared_procedure : (ts : List Token) (d : DeclaredModel) (rest : List Token) → procedure_behind ts ≡ got d rest → declared_at (tokens.Procedure ∷ ts) ≡ got d rest
-unfolding declared_at
-declared_procedure ts d rest e = e
-
-declared_error : (ts : List Token) (d : DeclaredModel) (rest : List Token) → error_behind ts ≡ got d rest → declared_at (tokens.Error ∷ ts) ≡ got d rest
-unfolding declared_at
-declared_error ts d rest e = e
-
 -- what ends a declaration
 abbrev ended : List Token → List Token
 ended rest = tokens.Semicolon ∷ rest
 
 declared_read : (d : DeclaredModel) (text rest : List Token) → SpellsDeclared d text → declared_at (text ++ ended rest) ≡ got d (ended rest)
+unfolding declared_at
 declared_read (DeclaredModel.is_type type) text rest s =
     ap (λ (t : List Token). declared_at (t ++ ended rest)) s.1
-    ∙ declared_type (tokens.Equal ∷ (type_spelling type ++ ended rest)) (DeclaredModel.is_type type) (ended rest) (type_step type (type_spelling type ++ ended rest) (ended rest) (type_read most_depth type (ended rest) s.0 refl))
+    ∙ type_step type (type_spelling type ++ ended rest) (ended rest) (type_read most_depth type (ended rest) s.0 refl)
 declared_read (DeclaredModel.is_constant type c) text rest s =
     let value = s.0 ++ ended rest in
     let regrouped : text ++ ended rest ≡ type_spelling type ++ tokens.Equal ∷ value = ap (λ (t : List Token). t ++ ended rest) s.3 ∙ append_assoc (type_spelling type) (tokens.Equal ∷ s.0) (ended rest) in
@@ -230,13 +202,13 @@ declared_read (DeclaredModel.is_procedure arguments results errors n) text rest 
     let inside : (s.0 ++ (s.1 ++ (s.2 ++ numbered n))) ++ ended rest ≡ whole = simp append_assoc in
     let regrouped : text ++ ended rest ≡ tokens.Procedure ∷ whole = ap (λ (t : List Token). t ++ ended rest) s.7 ∙ ap (λ (t : List Token). tokens.Procedure ∷ t) inside in
     ap declared_at regrouped
-    ∙ declared_procedure whole (DeclaredModel.is_procedure arguments results errors n) (ended rest) (procedure_read arguments results errors n s.0 s.1 s.2 (ended rest) s.3 s.4 s.5 s.6)
+    ∙ procedure_read arguments results errors n s.0 s.1 s.2 (ended rest) s.3 s.4 s.5 s.6
 declared_read (DeclaredModel.is_error arguments n) text rest s =
     let whole = s.0 ++ (numbered n ++ ended rest) in
     let inside : (s.0 ++ numbered n) ++ ended rest ≡ whole = append_assoc s.0 (numbered n) (ended rest) in
     let regrouped : text ++ ended rest ≡ tokens.Error ∷ whole = ap (λ (t : List Token). t ++ ended rest) s.3 ∙ ap (λ (t : List Token). tokens.Error ∷ t) inside in
     ap declared_at regrouped
-    ∙ declared_error whole (DeclaredModel.is_error arguments n) (ended rest) (error_step whole arguments n (ended rest) s.2 (arguments_read arguments s.0 (numbered n ++ ended rest) s.1 refl refl))
+    ∙ error_step whole arguments n (ended rest) s.2 (arguments_read arguments s.0 (numbered n ++ ended rest) s.1 refl refl)
 
 abbrev Named : Type 0
 Named = ℕ × DeclaredModel
@@ -285,17 +257,15 @@ is_no_depends ts = true
 
 no_dependencies : (ts : List Token) → is_no_depends ts ≡ true → dependencies_at ts ≡ got [] ts
 unfolding dependencies_at
-no_dependencies [] h = refl
 no_dependencies (tokens.Depends ∷ ts) h = absurd cc
-no_dependencies (t ∷ ts) h = refl
+no_dependencies ts h = refl
 
 some_dependencies : (ds : List Dependency) (rest : List Token) → AreParts ds → AllByRecursion IsDependency ds → dependencies_at (tokens.Depends ∷ tokens.Upon ∷ (parts_spelling dependency_spelling ds ++ ended rest)) ≡ got ds rest
 unfolding dependencies_at
 some_dependencies ds rest parts good = rw (some_read dependency_spelling IsDependency dependency_at dependency_read ds (ended rest) parts good refl refl) refl
 
 dependencies_read : (ds : List Dependency) (text rest : List Token) → SpellsDependencies ds text → is_no_depends rest ≡ true → dependencies_at (text ++ rest) ≡ got ds rest
-dependencies_read ds text rest (inl s) none =
-    ap (λ (t : List Token). dependencies_at (t ++ rest)) s.1 ∙ no_dependencies rest none ∙ ap (λ (f : List Dependency). got f rest) (sym s.0)
+dependencies_read ds text rest (inl s) none = nothing_read dependencies_at ds text rest s (no_dependencies rest none)
 dependencies_read ds text rest (inr s) none =
     ap (λ (t : List Token). dependencies_at (t ++ rest)) s.2
     ∙ ap (λ (t : List Token). dependencies_at (tokens.Depends ∷ tokens.Upon ∷ t)) (append_assoc (parts_spelling dependency_spelling ds) (tokens.Semicolon ∷ []) rest)

@@ -9,56 +9,40 @@ use Rattle.courier_notation.specs.declared.token.Token.TheVariants as tokens
 use Rattle.courier_notation.specs.declared.written.Reference.{Reference}
 use Rattle.courier_notation.specs.Written.{fields_from}
 use Rattle.courier_notation.specs.ProgramModels.{DeclaredModel, FieldList, ProgramModel}
-use Rattle.courier_notation.specs.Reading.{Fault, ◌>>=◌, over, listed, most_parts, name_at, reference_behind, colon_at, open_bracket_at, close_bracket_at, open_parenthesis_at, close_parenthesis_at, fields_behind, fields_at, type_at}
-use Rattle.courier_notation.specs.Programs.{most_depth, begin_at, end_at, program_at, version_at, upon_at, equal_at, semicolon_at, dot_at, long_at, small_or_fault, small_at, constant_at, arguments_at, results_at, reference_at, reports_at}
+use Rattle.courier_notation.specs.Reading.{Fault, ◌>>=◌, over, listed, most_parts, name_at, colon_at, open_bracket_at, close_bracket_at, open_parenthesis_at, close_parenthesis_at, fields_behind, fields_at, type_at}
+use Rattle.courier_notation.specs.Programs.{most_depth, begin_at, end_at, program_at, version_at, upon_at, equal_at, semicolon_at, dot_at, long_at, small_at, constant_at, arguments_at, results_at, reference_at, reports_at}
 use Rattle.courier_notation.specs.Programs.{procedure_behind, error_behind, type_declared, constant_declared, declared_at, declaration_at, is_end, most_declarations, declarations_at, dependency_at, dependencies_at, nothing_at, Header, header_at, body_at, program_with, program_of}
 use Rattle.courier_notation.specs.Spelling.{reference_spelling, parts_spelling, type_spelling, fields_spelling, AreParts}
 use Rattle.courier_notation.specs.ProgramSpelling.{SpellsFields, SaysNothing, SpellsArguments, SpellsResults, SpellsReports, numbered, SpellsDeclared, SpellsDeclaration, SpellsDeclarations, dependency_spelling, IsDependency, SpellsDependencies, SpellsProgram}
-use Rattle.courier_notation.proofs.Takes.{done, ok_is, bind_ok, over_ok, Takes, Takes-then, Takes-behind, Takes-one, IsSound, Any, listed_takes, name_takes, reference_takes, colon_is, open_bracket_is, close_bracket_is, open_parenthesis_is, close_parenthesis_is}
+use Rattle.courier_notation.proofs.Takes.{done, ok_is, bind_ok, over_ok, Takes, Takes-then, Takes-behind, Takes-one, TakesOnly, IsSound, Any, listed_takes, name_takes, reference_takes, colon_is, open_bracket_is, close_bracket_is, open_parenthesis_is, close_parenthesis_is}
 use Rattle.courier_notation.proofs.Sound.{type_takes, fields_behind_take}
 use Rattle.courier_notation.proofs.ConstantRead.{constant_takes}
 
 -- ---- single tokens
 
-begin_is : (ts rest : List Token) → begin_at ts ≡ Ok rest → ts ≡ tokens.Begin ∷ rest
-begin_is [] rest e = absurd cc
-begin_is (tokens.Begin ∷ ts) rest e = ap (λ (r : List Token). tokens.Begin ∷ r) (ok_is ts rest e)
-begin_is (t ∷ ts) rest e = absurd cc
+begin_is : TakesOnly tokens.Begin begin_at
+begin_is = elim [ tokens.Begin ∷ ts ↦ λ rest e. cc | _ ↦ λ rest e. absurd cc ]
 
-end_is : (ts rest : List Token) → end_at ts ≡ Ok rest → ts ≡ tokens.End ∷ rest
-end_is [] rest e = absurd cc
-end_is (tokens.End ∷ ts) rest e = ap (λ (r : List Token). tokens.End ∷ r) (ok_is ts rest e)
-end_is (t ∷ ts) rest e = absurd cc
+end_is : TakesOnly tokens.End end_at
+end_is = elim [ tokens.End ∷ ts ↦ λ rest e. cc | _ ↦ λ rest e. absurd cc ]
 
-program_is : (ts rest : List Token) → program_at ts ≡ Ok rest → ts ≡ tokens.Program ∷ rest
-program_is [] rest e = absurd cc
-program_is (tokens.Program ∷ ts) rest e = ap (λ (r : List Token). tokens.Program ∷ r) (ok_is ts rest e)
-program_is (t ∷ ts) rest e = absurd cc
+program_is : TakesOnly tokens.Program program_at
+program_is = elim [ tokens.Program ∷ ts ↦ λ rest e. cc | _ ↦ λ rest e. absurd cc ]
 
-version_is : (ts rest : List Token) → version_at ts ≡ Ok rest → ts ≡ tokens.Version ∷ rest
-version_is [] rest e = absurd cc
-version_is (tokens.Version ∷ ts) rest e = ap (λ (r : List Token). tokens.Version ∷ r) (ok_is ts rest e)
-version_is (t ∷ ts) rest e = absurd cc
+version_is : TakesOnly tokens.Version version_at
+version_is = elim [ tokens.Version ∷ ts ↦ λ rest e. cc | _ ↦ λ rest e. absurd cc ]
 
-upon_is : (ts rest : List Token) → upon_at ts ≡ Ok rest → ts ≡ tokens.Upon ∷ rest
-upon_is [] rest e = absurd cc
-upon_is (tokens.Upon ∷ ts) rest e = ap (λ (r : List Token). tokens.Upon ∷ r) (ok_is ts rest e)
-upon_is (t ∷ ts) rest e = absurd cc
+upon_is : TakesOnly tokens.Upon upon_at
+upon_is = elim [ tokens.Upon ∷ ts ↦ λ rest e. cc | _ ↦ λ rest e. absurd cc ]
 
-equal_is : (ts rest : List Token) → equal_at ts ≡ Ok rest → ts ≡ tokens.Equal ∷ rest
-equal_is [] rest e = absurd cc
-equal_is (tokens.Equal ∷ ts) rest e = ap (λ (r : List Token). tokens.Equal ∷ r) (ok_is ts rest e)
-equal_is (t ∷ ts) rest e = absurd cc
+equal_is : TakesOnly tokens.Equal equal_at
+equal_is = elim [ tokens.Equal ∷ ts ↦ λ rest e. cc | _ ↦ λ rest e. absurd cc ]
 
-semicolon_is : (ts rest : List Token) → semicolon_at ts ≡ Ok rest → ts ≡ tokens.Semicolon ∷ rest
-semicolon_is [] rest e = absurd cc
-semicolon_is (tokens.Semicolon ∷ ts) rest e = ap (λ (r : List Token). tokens.Semicolon ∷ r) (ok_is ts rest e)
-semicolon_is (t ∷ ts) rest e = absurd cc
+semicolon_is : TakesOnly tokens.Semicolon semicolon_at
+semicolon_is = elim [ tokens.Semicolon ∷ ts ↦ λ rest e. cc | _ ↦ λ rest e. absurd cc ]
 
-dot_is : (ts rest : List Token) → dot_at ts ≡ Ok rest → ts ≡ tokens.Dot ∷ rest
-dot_is [] rest e = absurd cc
-dot_is (tokens.Dot ∷ ts) rest e = ap (λ (r : List Token). tokens.Dot ∷ r) (ok_is ts rest e)
-dot_is (t ∷ ts) rest e = absurd cc
+dot_is : TakesOnly tokens.Dot dot_at
+dot_is = elim [ tokens.Dot ∷ ts ↦ λ rest e. cc | _ ↦ λ rest e. absurd cc ]
 
 abbrev number_spelling : ℕ → List Token
 number_spelling n = tokens.Number n ∷ []
@@ -78,7 +62,7 @@ IsSmall n = n < 65536
 small_takes : IsSound number_spelling IsSmall small_at
 unfolding small_at
 small_takes ts n rest e =
-    let a = bind_ok (long_at ts) (λ n. small_or_fault n.0 n.1) (n, rest) e in
+    let a = bind_ok (long_at ts) _ (n, rest) e in
     let t = long_takes ts a.0.0 a.0.1 a.1 in
     let s = small_is a.0.0 (ltb a.0.0 65536) a.0.1 _ (n, rest) refl a.2 in
     subst (λ (p : ℕ × List Token). Takes ts (number_spelling p.0) p.1 × IsSmall p.0) s.0 (t.0, s.1)
@@ -125,7 +109,7 @@ results_found (t ∷ ts) x e = nothing_found SaysResults (t ∷ ts) x e
 whole_takes : IsSound reference_spelling Any reference_at
 unfolding reference_at
 whole_takes ts x rest e =
-    let a = bind_ok (name_at ts) (λ name. reference_behind name.0 name.1) (x, rest) e in
+    let a = bind_ok (name_at ts) _ (x, rest) e in
     let t0 = name_takes ts a.0.0 a.0.1 a.1 in
     let t1 = reference_takes a.0.0 a.0.1 x rest a.2 in
     (subst (λ (t : List Token). Takes t (reference_spelling x) rest) (sym t0.0.parts) t1, tt)
@@ -137,9 +121,9 @@ reports_found : (ts : List Token) (x : List Reference × List Token) → reports
 unfolding reports_at
 reports_found [] x e = nothing_found SaysReports [] x e
 reports_found (tokens.Reports ∷ ts) x e =
-    let a = bind_ok (open_bracket_at ts) (λ inside. listed reference_at most_parts inside >>= λ errors. close_bracket_at errors.1 >>= λ rest. Ok (errors.0, rest)) x e in
-    let b = bind_ok (listed reference_at most_parts a.0) (λ errors. close_bracket_at errors.1 >>= λ rest. Ok (errors.0, rest)) x a.2 in
-    let c = bind_ok (close_bracket_at b.0.1) (λ rest. Ok (b.0.0, rest)) x b.2 in
+    let a = bind_ok (open_bracket_at ts) _ x e in
+    let b = bind_ok (listed reference_at most_parts a.0) _ x a.2 in
+    let c = bind_ok (close_bracket_at b.0.1) _ x b.2 in
     let l = listed_takes reference_spelling Any reference_at whole_takes most_parts a.0 b.0.0 b.0.1 b.1 in
     let text = parts_spelling reference_spelling b.0.0 ++ tokens.CloseBracket ∷ [] in
     let inside = Takes-then a.0 (parts_spelling reference_spelling b.0.0) b.0.1 (tokens.CloseBracket ∷ []) c.0 l.takes (Takes-one tokens.CloseBracket b.0.1 c.0 (close_bracket_is b.0.1 c.0 c.1)) in
@@ -160,11 +144,11 @@ numbered_takes ts rest n e f =
 procedure_found : (ts : List Token) (x : DeclaredModel × List Token) → procedure_behind ts ≡ Ok x → Found SpellsDeclared (tokens.Procedure ∷ ts) x
 unfolding procedure_behind
 procedure_found ts x e =
-    let a = bind_ok (arguments_at ts) (λ arguments. results_at arguments.1 >>= λ results. reports_at results.1 >>= λ errors. equal_at errors.1 >>= λ rest. small_at rest >>= λ number. Ok (DeclaredModel.is_procedure arguments.0 results.0 errors.0 number.0, number.1)) x e in
-    let b = bind_ok (results_at a.0.1) (λ results. reports_at results.1 >>= λ errors. equal_at errors.1 >>= λ rest. small_at rest >>= λ number. Ok (DeclaredModel.is_procedure a.0.0 results.0 errors.0 number.0, number.1)) x a.2 in
-    let c = bind_ok (reports_at b.0.1) (λ errors. equal_at errors.1 >>= λ rest. small_at rest >>= λ number. Ok (DeclaredModel.is_procedure a.0.0 b.0.0 errors.0 number.0, number.1)) x b.2 in
-    let d = bind_ok (equal_at c.0.1) (λ rest. small_at rest >>= λ number. Ok (DeclaredModel.is_procedure a.0.0 b.0.0 c.0.0 number.0, number.1)) x c.2 in
-    let f = bind_ok (small_at d.0) (λ number. Ok (DeclaredModel.is_procedure a.0.0 b.0.0 c.0.0 number.0, number.1)) x d.2 in
+    let a = bind_ok (arguments_at ts) _ x e in
+    let b = bind_ok (results_at a.0.1) _ x a.2 in
+    let c = bind_ok (reports_at b.0.1) _ x b.2 in
+    let d = bind_ok (equal_at c.0.1) _ x c.2 in
+    let f = bind_ok (small_at d.0) _ x d.2 in
     let fa = arguments_found ts a.0 a.1 in
     let fb = results_found a.0.1 b.0 b.1 in
     let fc = reports_found b.0.1 c.0 c.1 in
@@ -179,9 +163,9 @@ procedure_found ts x e =
 error_found : (ts : List Token) (x : DeclaredModel × List Token) → error_behind ts ≡ Ok x → Found SpellsDeclared (tokens.Error ∷ ts) x
 unfolding error_behind
 error_found ts x e =
-    let a = bind_ok (arguments_at ts) (λ arguments. equal_at arguments.1 >>= λ rest. small_at rest >>= λ number. Ok (DeclaredModel.is_error arguments.0 number.0, number.1)) x e in
-    let d = bind_ok (equal_at a.0.1) (λ rest. small_at rest >>= λ number. Ok (DeclaredModel.is_error a.0.0 number.0, number.1)) x a.2 in
-    let f = bind_ok (small_at d.0) (λ number. Ok (DeclaredModel.is_error a.0.0 number.0, number.1)) x d.2 in
+    let a = bind_ok (arguments_at ts) _ x e in
+    let d = bind_ok (equal_at a.0.1) _ x a.2 in
+    let f = bind_ok (small_at d.0) _ x d.2 in
     let fa = arguments_found ts a.0 a.1 in
     let n = numbered_takes a.0.1 d.0 f.0 d.1 f.1 in
     let t0 = Takes-then ts fa.text a.0.1 (numbered f.0.0) f.0.1 fa.takes n.0 in
@@ -192,8 +176,8 @@ error_found ts x e =
 type_found : (ts : List Token) (x : DeclaredModel × List Token) → type_declared ts ≡ Ok x → Found SpellsDeclared (tokens.Type ∷ ts) x
 unfolding type_declared
 type_found ts x e =
-    let a = bind_ok (equal_at ts) (λ rest. type_at most_depth rest >>= λ type. Ok (DeclaredModel.is_type type.0, type.1)) x e in
-    let b = bind_ok (type_at most_depth a.0) (λ type. Ok (DeclaredModel.is_type type.0, type.1)) x a.2 in
+    let a = bind_ok (equal_at ts) _ x e in
+    let b = bind_ok (type_at most_depth a.0) _ x a.2 in
     let t = type_takes most_depth a.0 b.0.0 b.0.1 b.1 in
     let t1 = Takes-behind tokens.Equal ts a.0 (type_spelling b.0.0) b.0.1 (equal_is ts a.0 a.1) t.0 in
     subst (λ (p : DeclaredModel × List Token). Found SpellsDeclared (tokens.Type ∷ ts) p) (ok_is (DeclaredModel.is_type b.0.0, b.0.1) x b.2)
@@ -202,9 +186,9 @@ type_found ts x e =
 constant_declared_found : (ts : List Token) (x : DeclaredModel × List Token) → constant_declared ts ≡ Ok x → Found SpellsDeclared ts x
 unfolding constant_declared
 constant_declared_found ts x e =
-    let a = bind_ok (type_at most_depth ts) (λ type. equal_at type.1 >>= λ rest. constant_at most_depth rest >>= λ constant. Ok (DeclaredModel.is_constant type.0 constant.0, constant.1)) x e in
-    let b = bind_ok (equal_at a.0.1) (λ rest. constant_at most_depth rest >>= λ constant. Ok (DeclaredModel.is_constant a.0.0 constant.0, constant.1)) x a.2 in
-    let c = bind_ok (constant_at most_depth b.0) (λ constant. Ok (DeclaredModel.is_constant a.0.0 constant.0, constant.1)) x b.2 in
+    let a = bind_ok (type_at most_depth ts) _ x e in
+    let b = bind_ok (equal_at a.0.1) _ x a.2 in
+    let c = bind_ok (constant_at most_depth b.0) _ x b.2 in
     let t = type_takes most_depth ts a.0.0 a.0.1 a.1 in
     let f = constant_takes most_depth b.0 c.0.0 c.0.1 c.1 in
     let t1 = Takes-behind tokens.Equal a.0.1 b.0 f.0 c.0.1 (equal_is a.0.1 b.0 b.1) f.1 in
@@ -226,10 +210,10 @@ Named = ℕ × DeclaredModel
 declaration_found : (ts : List Token) (x : Named × List Token) → declaration_at ts ≡ Ok x → Found SpellsDeclaration ts x
 unfolding declaration_at
 declaration_found ts x e =
-    let a = bind_ok (name_at ts) (λ name. colon_at name.1 >>= λ rest. declared_at rest >>= λ declared. semicolon_at declared.1 >>= λ behind. Ok ((name.0, declared.0), behind)) x e in
-    let b = bind_ok (colon_at a.0.1) (λ rest. declared_at rest >>= λ declared. semicolon_at declared.1 >>= λ behind. Ok ((a.0.0, declared.0), behind)) x a.2 in
-    let c = bind_ok (declared_at b.0) (λ declared. semicolon_at declared.1 >>= λ behind. Ok ((a.0.0, declared.0), behind)) x b.2 in
-    let d = bind_ok (semicolon_at c.0.1) (λ behind. Ok ((a.0.0, c.0.0), behind)) x c.2 in
+    let a = bind_ok (name_at ts) _ x e in
+    let b = bind_ok (colon_at a.0.1) _ x a.2 in
+    let c = bind_ok (declared_at b.0) _ x b.2 in
+    let d = bind_ok (semicolon_at c.0.1) _ x c.2 in
     let t0 = name_takes ts a.0.0 a.0.1 a.1 in
     let f = declared_found b.0 c.0 c.1 in
     let t3 = Takes-then b.0 f.text c.0.1 (tokens.Semicolon ∷ []) d.0 f.takes (Takes-one tokens.Semicolon c.0.1 d.0 (semicolon_is c.0.1 d.0 d.1)) in
@@ -264,7 +248,7 @@ declarations_found (suc most) ts x e = by_end (is_end ts) (declarations_found mo
         → cond {A = Result (List Named × List Token) Fault} b (Ok ([], ts)) (declaration_at ts >>= λ first. over (λ others. first.0 ∷ others) (declarations_at most first.1)) ≡ Ok x → AreDeclared (suc most) ts x
     by_end true more e = no_declaration (suc most) ts x e
     by_end false more e =
-        let a = bind_ok (declaration_at ts) (λ first. over (λ others. first.0 ∷ others) (declarations_at most first.1)) x e in
+        let a = bind_ok (declaration_at ts) _ x e in
         let o = over_ok (λ others. a.0.0 ∷ others) (declarations_at most a.0.1) x a.2 in
         let f = declaration_found ts a.0 a.1 in
         let m = more a.0.1 o.0 o.1 in
@@ -276,12 +260,12 @@ declarations_found (suc most) ts x e = by_end (is_end ts) (declarations_found mo
 dependency_takes : IsSound dependency_spelling IsDependency dependency_at
 unfolding dependency_at
 dependency_takes ts x rest e =
-    let a = bind_ok (name_at ts) (λ name. open_parenthesis_at name.1 >>= λ inside. long_at inside >>= λ number. close_parenthesis_at number.1 >>= λ rest. version_at rest >>= λ behind. small_at behind >>= λ version. Ok (made name.0 number.0 version.0, version.1)) (x, rest) e in
-    let b = bind_ok (open_parenthesis_at a.0.1) (λ inside. long_at inside >>= λ number. close_parenthesis_at number.1 >>= λ rest. version_at rest >>= λ behind. small_at behind >>= λ version. Ok (made a.0.0 number.0 version.0, version.1)) (x, rest) a.2 in
-    let c = bind_ok (long_at b.0) (λ number. close_parenthesis_at number.1 >>= λ rest. version_at rest >>= λ behind. small_at behind >>= λ version. Ok (made a.0.0 number.0 version.0, version.1)) (x, rest) b.2 in
-    let d = bind_ok (close_parenthesis_at c.0.1) (λ rest. version_at rest >>= λ behind. small_at behind >>= λ version. Ok (made a.0.0 c.0.0 version.0, version.1)) (x, rest) c.2 in
-    let f = bind_ok (version_at d.0) (λ behind. small_at behind >>= λ version. Ok (made a.0.0 c.0.0 version.0, version.1)) (x, rest) d.2 in
-    let g = bind_ok (small_at f.0) (λ version. Ok (made a.0.0 c.0.0 version.0, version.1)) (x, rest) f.2 in
+    let a = bind_ok (name_at ts) _ (x, rest) e in
+    let b = bind_ok (open_parenthesis_at a.0.1) _ (x, rest) a.2 in
+    let c = bind_ok (long_at b.0) _ (x, rest) b.2 in
+    let d = bind_ok (close_parenthesis_at c.0.1) _ (x, rest) c.2 in
+    let f = bind_ok (version_at d.0) _ (x, rest) d.2 in
+    let g = bind_ok (small_at f.0) _ (x, rest) f.2 in
     let n = name_takes ts a.0.0 a.0.1 a.1 in
     let l = long_takes b.0 c.0.0 c.0.1 c.1 in
     let s = small_takes f.0 g.0.0 g.0.1 g.1 in
@@ -302,9 +286,9 @@ dependencies_found : (ts : List Token) (x : List Dependency × List Token) → d
 unfolding dependencies_at
 dependencies_found [] x e = nothing_found SaysDependencies [] x e
 dependencies_found (tokens.Depends ∷ ts) x e =
-    let a = bind_ok (upon_at ts) (λ inside. listed dependency_at most_parts inside >>= λ dependencies. semicolon_at dependencies.1 >>= λ rest. Ok (dependencies.0, rest)) x e in
-    let b = bind_ok (listed dependency_at most_parts a.0) (λ dependencies. semicolon_at dependencies.1 >>= λ rest. Ok (dependencies.0, rest)) x a.2 in
-    let c = bind_ok (semicolon_at b.0.1) (λ rest. Ok (b.0.0, rest)) x b.2 in
+    let a = bind_ok (upon_at ts) _ x e in
+    let b = bind_ok (listed dependency_at most_parts a.0) _ x a.2 in
+    let c = bind_ok (semicolon_at b.0.1) _ x b.2 in
     let l = listed_takes dependency_spelling IsDependency dependency_at dependency_takes most_parts a.0 b.0.0 b.0.1 b.1 in
     let text = parts_spelling dependency_spelling b.0.0 ++ tokens.Semicolon ∷ [] in
     let inside = Takes-then a.0 (parts_spelling dependency_spelling b.0.0) b.0.1 (tokens.Semicolon ∷ []) c.0 l.takes (Takes-one tokens.Semicolon b.0.1 c.0 (semicolon_is b.0.1 c.0 c.1)) in
@@ -324,14 +308,14 @@ IsHeader h = h.2 < 65536
 header_takes : IsSound header_spelling IsHeader header_at
 unfolding header_at
 header_takes ts x rest e =
-    let a = bind_ok (name_at ts) (λ name. colon_at name.1 >>= λ t1. program_at t1 >>= λ t2. long_at t2 >>= λ number. version_at number.1 >>= λ t3. small_at t3 >>= λ version. equal_at version.1 >>= λ t4. begin_at t4 >>= λ t5. Ok ((name.0, number.0, version.0), t5)) (x, rest) e in
-    let b = bind_ok (colon_at a.0.1) (λ t1. program_at t1 >>= λ t2. long_at t2 >>= λ number. version_at number.1 >>= λ t3. small_at t3 >>= λ version. equal_at version.1 >>= λ t4. begin_at t4 >>= λ t5. Ok ((a.0.0, number.0, version.0), t5)) (x, rest) a.2 in
-    let c = bind_ok (program_at b.0) (λ t2. long_at t2 >>= λ number. version_at number.1 >>= λ t3. small_at t3 >>= λ version. equal_at version.1 >>= λ t4. begin_at t4 >>= λ t5. Ok ((a.0.0, number.0, version.0), t5)) (x, rest) b.2 in
-    let d = bind_ok (long_at c.0) (λ number. version_at number.1 >>= λ t3. small_at t3 >>= λ version. equal_at version.1 >>= λ t4. begin_at t4 >>= λ t5. Ok ((a.0.0, number.0, version.0), t5)) (x, rest) c.2 in
-    let f = bind_ok (version_at d.0.1) (λ t3. small_at t3 >>= λ version. equal_at version.1 >>= λ t4. begin_at t4 >>= λ t5. Ok ((a.0.0, d.0.0, version.0), t5)) (x, rest) d.2 in
-    let g = bind_ok (small_at f.0) (λ version. equal_at version.1 >>= λ t4. begin_at t4 >>= λ t5. Ok ((a.0.0, d.0.0, version.0), t5)) (x, rest) f.2 in
-    let h = bind_ok (equal_at g.0.1) (λ t4. begin_at t4 >>= λ t5. Ok ((a.0.0, d.0.0, g.0.0), t5)) (x, rest) g.2 in
-    let k = bind_ok (begin_at h.0) (λ t5. Ok ((a.0.0, d.0.0, g.0.0), t5)) (x, rest) h.2 in
+    let a = bind_ok (name_at ts) _ (x, rest) e in
+    let b = bind_ok (colon_at a.0.1) _ (x, rest) a.2 in
+    let c = bind_ok (program_at b.0) _ (x, rest) b.2 in
+    let d = bind_ok (long_at c.0) _ (x, rest) c.2 in
+    let f = bind_ok (version_at d.0.1) _ (x, rest) d.2 in
+    let g = bind_ok (small_at f.0) _ (x, rest) f.2 in
+    let h = bind_ok (equal_at g.0.1) _ (x, rest) g.2 in
+    let k = bind_ok (begin_at h.0) _ (x, rest) h.2 in
     let n = name_takes ts a.0.0 a.0.1 a.1 in
     let l = long_takes c.0 d.0.0 d.0.1 d.1 in
     let s = small_takes f.0 g.0.0 g.0.1 g.1 in
@@ -358,10 +342,10 @@ SpellsBody body text =
 body_found : (ts : List Token) (x : Body × List Token) → body_at ts ≡ Ok x → Found SpellsBody ts x
 unfolding body_at
 body_found ts x e =
-    let a = bind_ok (dependencies_at ts) (λ dependencies. declarations_at most_declarations dependencies.1 >>= λ declarations. end_at declarations.1 >>= λ ended. dot_at ended >>= λ rest. Ok ((dependencies.0, declarations.0), rest)) x e in
-    let b = bind_ok (declarations_at most_declarations a.0.1) (λ declarations. end_at declarations.1 >>= λ ended. dot_at ended >>= λ rest. Ok ((a.0.0, declarations.0), rest)) x a.2 in
-    let c = bind_ok (end_at b.0.1) (λ ended. dot_at ended >>= λ rest. Ok ((a.0.0, b.0.0), rest)) x b.2 in
-    let d = bind_ok (dot_at c.0) (λ rest. Ok ((a.0.0, b.0.0), rest)) x c.2 in
+    let a = bind_ok (dependencies_at ts) _ x e in
+    let b = bind_ok (declarations_at most_declarations a.0.1) _ x a.2 in
+    let c = bind_ok (end_at b.0.1) _ x b.2 in
+    let d = bind_ok (dot_at c.0) _ x c.2 in
     let fa = dependencies_found ts a.0 a.1 in
     let fb = declarations_found most_declarations a.0.1 b.0 b.1 in
     let t3 = Takes-behind tokens.End b.0.1 c.0 (tokens.Dot ∷ []) d.0 (end_is b.0.1 c.0 c.1) (Takes-one tokens.Dot c.0 d.0 (dot_is c.0 d.0 d.1)) in
@@ -378,8 +362,8 @@ nothing_is p q (t ∷ ts) e = absurd cc
 pub program_spelled : (ts : List Token) (p : ProgramModel) → program_of ts ≡ Ok p → SpellsProgram p ts
 unfolding program_of
 program_spelled ts p e =
-    let a = bind_ok (header_at ts) (λ header. body_at header.1 >>= λ body. nothing_at (program_with header.0 body.0) body.1) p e in
-    let b = bind_ok (body_at a.0.1) (λ body. nothing_at (program_with a.0.0 body.0) body.1) p a.2 in
+    let a = bind_ok (header_at ts) _ p e in
+    let b = bind_ok (body_at a.0.1) _ p a.2 in
     let h = header_takes ts a.0.0 a.0.1 a.1 in
     let f = body_found a.0.1 b.0 b.1 in
     let n = nothing_is (program_with a.0.0 b.0.0) p b.0.1 b.2 in

@@ -1,16 +1,16 @@
 -- Tokens that are read as a type are its spelling.
-use Rattle.std.proofs.Common.{◌≡◌, ℕ, zero, suc, ◌≤◌, List, [], ◌∷◌, ◌++◌, length, Option, Some, None, Result, Ok, refl, sym, ap, subst, append_assoc, arith}
+use Rattle.std.proofs.Common.{◌≡◌, ℕ, zero, suc, ◌≤◌, List, [], ◌∷◌, ◌++◌, length, Option, Some, None, Result, Ok, refl, sym, ap, subst, ◌∙◌, append_assoc, arith}
 use Rattle.std.specs.List.{AllByRecursion}
 use Rattle.courier_notation.specs.declared.token.Token.{Token}
 use Rattle.courier_notation.specs.declared.token.Token.TheVariants as tokens
 use Rattle.courier_notation.specs.declared.written.Numeric.{Numeric}
 use Rattle.courier_notation.specs.declared.written.Reference.{Reference}
 use Rattle.courier_notation.specs.Written.{TypeModel, Designator, fields_from, candidates_from}
-use Rattle.courier_notation.specs.Reading.{Fault, ◌>>=◌, over, listed, most_parts, name_at, reference_behind, numeric_at, of_at, arrow_at, colon_at, open_brace_at, close_brace_at, open_bracket_at, close_bracket_at, open_parenthesis_at, close_parenthesis_at}
+use Rattle.courier_notation.specs.Reading.{Fault, ◌>>=◌, Reader, over, listed, most_parts, name_at, reference_behind, numeric_at, of_at, arrow_at, colon_at, open_brace_at, close_brace_at, open_bracket_at, close_bracket_at, open_parenthesis_at, close_parenthesis_at}
 use Rattle.courier_notation.specs.Reading.{member_at, designator_behind, designator_at, field_at, fields_behind, fields_at, candidate_at, tag_at, maximum_at, enumeration_behind, long_behind, array_behind, sequence_behind, choice_behind, record_behind, type_behind, type_at}
 use Rattle.courier_notation.specs.Spelling.{name_spelling, numeric_spelling, maximum_spelling, tag_spelling, number_spelling, member_spelling, designator_spelling, more_spelling, parts_spelling}
 use Rattle.courier_notation.specs.Spelling.{type_spelling, fields_spelling, more_fields_spelling, candidates_spelling, more_candidates_spelling, IsNumeric, IsNumberIfAny, AreParts, field_count, candidate_count, IsType, AreFields, AreCandidates}
-use Rattle.courier_notation.proofs.Takes.{ok_is, bind_ok, over_ok, Takes, Takes-then, Takes-behind, Takes-one, IsSound, Any, listed_takes, name_takes, reference_takes, numeric_takes}
+use Rattle.courier_notation.proofs.Takes.{ok_is, bind_ok, over_ok, Takes, Takes-then, Takes-behind, Takes-one, TakesOnly, IsSound, Any, GoodDesignator, GoodMember, listed_takes, name_takes, reference_takes, numeric_takes}
 use Rattle.courier_notation.proofs.Takes.{of_is, arrow_is, colon_is, open_brace_is, close_brace_is, open_bracket_is, close_bracket_is, open_parenthesis_is, close_parenthesis_is}
 
 -- ---- parts of types
@@ -22,31 +22,25 @@ inside_takes ts x after rest e f =
     let whole : Takes ts (numeric_spelling x ++ tokens.CloseParenthesis ∷ []) rest = Takes-then ts (numeric_spelling x) after (tokens.CloseParenthesis ∷ []) rest n.0 (Takes-one tokens.CloseParenthesis after rest (close_parenthesis_is after rest f)) in
     (Takes-behind tokens.OpenParenthesis (tokens.OpenParenthesis ∷ ts) ts (numeric_spelling x ++ tokens.CloseParenthesis ∷ []) rest refl whole, n.1)
 
-abbrev GoodMember : ℕ × Numeric → Type 0
-GoodMember m = IsNumeric m.1
-
 member_takes : IsSound member_spelling GoodMember member_at
 unfolding member_at
 member_takes ts x rest e =
-    let a = bind_ok (name_at ts) (λ name. open_parenthesis_at name.1 >>= λ inside. numeric_at inside >>= λ number. close_parenthesis_at number.1 >>= λ rest. Ok ((name.0, number.0), rest)) (x, rest) e in
-    let b = bind_ok (open_parenthesis_at a.0.1) (λ inside. numeric_at inside >>= λ number. close_parenthesis_at number.1 >>= λ rest. Ok ((a.0.0, number.0), rest)) (x, rest) a.2 in
-    let c = bind_ok (numeric_at b.0) (λ number. close_parenthesis_at number.1 >>= λ rest. Ok ((a.0.0, number.0), rest)) (x, rest) b.2 in
-    let d = bind_ok (close_parenthesis_at c.0.1) (λ rest. Ok ((a.0.0, c.0.0), rest)) (x, rest) c.2 in
+    let a = bind_ok (name_at ts) _ (x, rest) e in
+    let b = bind_ok (open_parenthesis_at a.0.1) _ (x, rest) a.2 in
+    let c = bind_ok (numeric_at b.0) _ (x, rest) b.2 in
+    let d = bind_ok (close_parenthesis_at c.0.1) _ (x, rest) c.2 in
     let t0 = name_takes ts a.0.0 a.0.1 a.1 in
     let t1 = inside_takes b.0 c.0.0 c.0.1 d.0 c.1 d.1 in
     let t2 : Takes a.0.1 (number_spelling (Some c.0.0)) d.0 = subst (λ (t : List Token). Takes t (number_spelling (Some c.0.0)) d.0) (sym (open_parenthesis_is a.0.1 b.0 b.1)) t1.0 in
     let both = Takes-then ts (name_spelling a.0.0) a.0.1 (number_spelling (Some c.0.0)) d.0 t0.0 t2 in
     subst (λ (p : (ℕ × Numeric) × List Token). Takes ts (member_spelling p.0) p.1 × IsNumeric p.0.1) (ok_is ((a.0.0, c.0.0), d.0) (x, rest) d.2) (both, t1.1)
 
-abbrev GoodDesignator : Designator → Type 0
-GoodDesignator d = IsNumberIfAny d.1
-
 designator_number_takes : (n : ℕ) (ts : List Token) (x : Designator) (rest : List Token) → designator_behind n ts ≡ Ok (x, rest) → Takes (tokens.Name n ∷ ts) (designator_spelling x) rest × GoodDesignator x
 unfolding designator_behind
 designator_number_takes n [] x rest e = subst (λ (p : Designator × List Token). Takes (tokens.Name n ∷ []) (designator_spelling p.0) p.1 × GoodDesignator p.0) (ok_is ((n, None), []) (x, rest) e) (record { parts = refl }, tt)
 designator_number_takes n (tokens.OpenParenthesis ∷ ts) x rest e =
-    let a = bind_ok (numeric_at ts) (λ number. close_parenthesis_at number.1 >>= λ rest. Ok ((n, Some number.0), rest)) (x, rest) e in
-    let b = bind_ok (close_parenthesis_at a.0.1) (λ rest. Ok ((n, Some a.0.0), rest)) (x, rest) a.2 in
+    let a = bind_ok (numeric_at ts) _ (x, rest) e in
+    let b = bind_ok (close_parenthesis_at a.0.1) _ (x, rest) a.2 in
     let t = inside_takes ts a.0.0 a.0.1 b.0 a.1 b.1 in
     let made : Designator × List Token = ((n, Some a.0.0), b.0) in
     subst (λ (p : Designator × List Token). Takes (tokens.Name n ∷ tokens.OpenParenthesis ∷ ts) (designator_spelling p.0) p.1 × GoodDesignator p.0) (ok_is made (x, rest) b.2) (record { parts = ap (λ (t : List Token). tokens.Name n ∷ t) t.0.parts }, t.1)
@@ -55,7 +49,7 @@ designator_number_takes n (t ∷ ts) x rest e = subst (λ (p : Designator × Lis
 designator_takes : IsSound designator_spelling GoodDesignator designator_at
 unfolding designator_at
 designator_takes ts x rest e =
-    let a = bind_ok (name_at ts) (λ name. designator_behind name.0 name.1) (x, rest) e in
+    let a = bind_ok (name_at ts) _ (x, rest) e in
     let t0 = name_takes ts a.0.0 a.0.1 a.1 in
     let t1 = designator_number_takes a.0.0 a.0.1 x rest a.2 in
     subst (λ (t : List Token). Takes t (designator_spelling x) rest × GoodDesignator x) (sym t0.0.parts) t1
@@ -85,6 +79,43 @@ tag_takes (t ∷ ts) x rest e = subst (λ (p : Option Reference × List Token). 
 abbrev pub IsTypeSound : ℕ → Type 0
 IsTypeSound depth = IsSound type_spelling (IsType depth) (type_at depth)
 
+-- parts with commas between, at least one and not too many
+abbrev AreGood : {A : Type 0} → (A → Type 0) → List A → Type 0
+AreGood Good xs = AreParts xs × AllByRecursion Good xs
+
+parts_take : {A : Type 0} (spell : A → List Token) (Good : A → Type 0) (one : Reader A) → IsSound spell Good one → IsSound (parts_spelling spell) (AreGood Good) (listed one most_parts)
+parts_take spell Good one sound ts xs rest e =
+    let l = listed_takes spell Good one sound most_parts ts xs rest e in
+    (l.takes, ((l.some, l.few), l.good))
+
+-- something that was made of a front and of the type behind a mark
+record IsTyped {A B : Type 0} (spell : A → List Token) (Good : A → Type 0) (mark : Token) (depth : ℕ) (make : A → TypeModel → B) (ts : List Token) (x : B × List Token) : Type 0 where
+  front : A
+  type : TypeModel
+  made : make front type ≡ x.0
+  takes : Takes ts (spell front ++ mark ∷ type_spelling type) x.1
+  good : Good front
+  typed : IsType depth type
+
+typed_takes : {A B : Type 0} (spell : A → List Token) (Good : A → Type 0) (one : Reader A) → IsSound spell Good one → (mark : Token) (mark_at : List Token → Result (List Token) Fault) → TakesOnly mark mark_at
+    → (depth : ℕ) → IsTypeSound depth → (make : A → TypeModel → B) (ts : List Token) (x : B × List Token) → (one ts >>= λ front. mark_at front.1 >>= λ rest. over (make front.0) (type_at depth rest)) ≡ Ok x → IsTyped spell Good mark depth make ts x
+typed_takes {B} spell Good one sound mark mark_at is_mark depth types make ts x e =
+    let a = bind_ok (one ts) _ x e in
+    let b = bind_ok (mark_at a.0.1) _ x a.2 in
+    let o = over_ok (make a.0.0) (type_at depth b.0) x b.2 in
+    let front = sound ts a.0.0 a.0.1 a.1 in
+    let type = types b.0 o.0.0 o.0.1 o.1 in
+    let behind = Takes-behind mark a.0.1 b.0 (type_spelling o.0.0) o.0.1 (is_mark a.0.1 b.0 b.1) type.0 in
+    let both = Takes-then ts (spell a.0.0) a.0.1 (mark ∷ type_spelling o.0.0) o.0.1 front.0 behind in
+    record {
+      front = a.0.0;
+      type = o.0.0;
+      made = ap (λ (p : B × List Token). p.0) o.2;
+      takes = subst (λ (p : B × List Token). Takes ts (spell a.0.0 ++ mark ∷ type_spelling o.0.0) p.1) o.2 both;
+      good = front.1;
+      typed = type.1;
+    }
+
 abbrev field_spelling : List ℕ × TypeModel → List Token
 field_spelling f = parts_spelling name_spelling f.0 ++ tokens.Colon ∷ type_spelling f.1
 
@@ -94,30 +125,35 @@ GoodField depth f = AreParts f.0 × IsType depth f.1
 field_takes : (depth : ℕ) → IsTypeSound depth → IsSound field_spelling (GoodField depth) (field_at (type_at depth))
 unfolding field_at
 field_takes depth sound ts x rest e =
-    let a = bind_ok (listed name_at most_parts ts) (λ names. colon_at names.1 >>= λ rest. over (λ type. (names.0, type)) (type_at depth rest)) (x, rest) e in
-    let b = bind_ok (colon_at a.0.1) (λ rest. over (λ type. (a.0.0, type)) (type_at depth rest)) (x, rest) a.2 in
-    let o = over_ok (λ type. (a.0.0, type)) (type_at depth b.0) (x, rest) b.2 in
-    let names = listed_takes name_spelling Any name_at name_takes most_parts ts a.0.0 a.0.1 a.1 in
-    let type = sound b.0 o.0.0 o.0.1 o.1 in
-    let behind : Takes a.0.1 (tokens.Colon ∷ type_spelling o.0.0) o.0.1 = Takes-behind tokens.Colon a.0.1 b.0 (type_spelling o.0.0) o.0.1 (colon_is a.0.1 b.0 b.1) type.0 in
-    let both = Takes-then ts (parts_spelling name_spelling a.0.0) a.0.1 (tokens.Colon ∷ type_spelling o.0.0) o.0.1 names.takes behind in
-    subst (λ (p : (List ℕ × TypeModel) × List Token). Takes ts (field_spelling p.0) p.1 × GoodField depth p.0) o.2 (both, ((names.some, names.few), type.1))
+    let Field : Type 0 = List ℕ × TypeModel in
+    let t = typed_takes {B = Field} (parts_spelling name_spelling) (AreGood Any) (listed name_at most_parts) (parts_take name_spelling Any name_at name_takes) tokens.Colon colon_at colon_is depth sound (λ names type. (names, type)) ts (x, rest) e in
+    subst (λ (f : Field). Takes ts (field_spelling f) rest × GoodField depth f) t.made (t.takes, (t.good.0, t.typed))
 
-more_fields_are : (fs : List (List ℕ × TypeModel)) → more_fields_spelling (fields_from fs) ≡ more_spelling field_spelling fs
-more_fields_are [] = refl
-more_fields_are (f ∷ fs) = ap (λ (more : List Token). tokens.Comma ∷ field_spelling f ++ more) (more_fields_are fs)
+-- ---- parts that are kept otherwise than in a list
+
+-- the spelling of such parts, behind a first part and at the front
+more_are : {A M : Type 0} (from : List A → M) (more : M → List Token) (spell : A → List Token) → more (from []) ≡ [] → ((x : A) (xs : List A) → more (from (x ∷ xs)) ≡ tokens.Comma ∷ spell x ++ more (from xs)) → (xs : List A) → more (from xs) ≡ more_spelling spell xs
+more_are from more spell none some [] = none
+more_are from more spell none some (x ∷ xs) = some x xs ∙ ap (λ (t : List Token). tokens.Comma ∷ spell x ++ t) (more_are from more spell none some xs)
+
+parts_are : {A M : Type 0} (from : List A → M) (whole more : M → List Token) (spell : A → List Token) → whole (from []) ≡ [] → ((x : A) (xs : List A) → whole (from (x ∷ xs)) ≡ spell x ++ more (from xs))
+    → ((xs : List A) → more (from xs) ≡ more_spelling spell xs) → (xs : List A) → whole (from xs) ≡ parts_spelling spell xs
+parts_are from whole more spell none some others [] = none
+parts_are from whole more spell none some others (x ∷ xs) = some x xs ∙ ap (λ (t : List Token). spell x ++ t) (others xs)
+
+-- what is good about such parts, and how many they are
+are_good : {A M : Type 0} (from : List A → M) (Are : M → Type 0) (Good : A → Type 0) → Are (from []) → ((x : A) (xs : List A) → Good x → Are (from xs) → Are (from (x ∷ xs))) → (xs : List A) → AllByRecursion Good xs → Are (from xs)
+are_good from Are Good none some [] h = none
+are_good from Are Good none some (x ∷ xs) h = some x xs h.0 (are_good from Are Good none some xs h.1)
+
+count_is : {A M : Type 0} (from : List A → M) (count : M → ℕ) → count (from []) ≡ 0 → ((x : A) (xs : List A) → count (from (x ∷ xs)) ≡ suc (count (from xs))) → (xs : List A) → count (from xs) ≡ length xs
+count_is from count none some [] = none
+count_is from count none some (x ∷ xs) = some x xs ∙ ap suc (count_is from count none some xs)
+
+-- ---- components
 
 fields_are : (fs : List (List ℕ × TypeModel)) → fields_spelling (fields_from fs) ≡ parts_spelling field_spelling fs
-fields_are [] = refl
-fields_are (f ∷ fs) = ap (λ (more : List Token). field_spelling f ++ more) (more_fields_are fs)
-
-fields_good : (depth : ℕ) (fs : List (List ℕ × TypeModel)) → AllByRecursion (GoodField depth) fs → AreFields depth (fields_from fs)
-fields_good depth [] h = tt
-fields_good depth (f ∷ fs) h = (h.0.0, h.0.1, fields_good depth fs h.1)
-
-field_count_is : (fs : List (List ℕ × TypeModel)) → field_count (fields_from fs) ≡ length fs
-field_count_is [] = refl
-field_count_is (f ∷ fs) = ap suc (field_count_is fs)
+fields_are = parts_are fields_from fields_spelling more_fields_spelling field_spelling refl (λ f fs. refl) (more_are fields_from more_fields_spelling field_spelling refl (λ f fs. refl))
 
 -- components that were read
 pub record AreFieldsRead (depth : ℕ) (ts : List Token) (fs : List (List ℕ × TypeModel)) (rest : List Token) : Type 0 where
@@ -134,13 +170,13 @@ fields_inside depth ts = do
 
 some_fields_take : (depth : ℕ) → IsTypeSound depth → (ts : List Token) (fs : List (List ℕ × TypeModel)) (rest : List Token) → fields_inside depth ts ≡ Ok (fs, rest) → AreFieldsRead depth ts fs rest
 some_fields_take depth sound ts fs rest e =
-    let a = bind_ok (listed (field_at (type_at depth)) most_parts ts) (λ fields. close_bracket_at fields.1 >>= λ rest. Ok (fields.0, rest)) (fs, rest) e in
-    let b = bind_ok (close_bracket_at a.0.1) (λ rest. Ok (a.0.0, rest)) (fs, rest) a.2 in
+    let a = bind_ok (listed (field_at (type_at depth)) most_parts ts) _ (fs, rest) e in
+    let b = bind_ok (close_bracket_at a.0.1) _ (fs, rest) a.2 in
     let l = listed_takes field_spelling (GoodField depth) (field_at (type_at depth)) (field_takes depth sound) most_parts ts a.0.0 a.0.1 a.1 in
     let takes : Takes ts (fields_spelling (fields_from a.0.0)) a.0.1 = subst (λ (t : List Token). Takes ts t a.0.1) (sym (fields_are a.0.0)) l.takes in
     let whole = Takes-then ts (fields_spelling (fields_from a.0.0)) a.0.1 (tokens.CloseBracket ∷ []) b.0 takes (Takes-one tokens.CloseBracket a.0.1 b.0 (close_bracket_is a.0.1 b.0 b.1)) in
     subst (λ (p : List (List ℕ × TypeModel) × List Token). AreFieldsRead depth ts p.0 p.1) (ok_is (a.0.0, b.0) (fs, rest) b.2)
-    (record { takes = whole; few = omega (arith, l.few, field_count_is a.0.0); good = fields_good depth a.0.0 l.good })
+    (record { takes = whole; few = omega (arith, l.few, count_is fields_from field_count refl (λ f fs. refl) a.0.0); good = are_good fields_from (AreFields depth) (GoodField depth) tt (λ f fs here others. (here.0, here.1, others)) a.0.0 l.good })
 
 pub fields_behind_take : (depth : ℕ) → IsTypeSound depth → (ts : List Token) (fs : List (List ℕ × TypeModel)) (rest : List Token) → fields_behind (type_at depth) ts ≡ Ok (fs, rest) → AreFieldsRead depth ts fs rest
 unfolding fields_behind
@@ -159,30 +195,12 @@ GoodCandidate depth c = AreParts c.0 × AllByRecursion GoodDesignator c.0 × IsT
 candidate_takes : (depth : ℕ) → IsTypeSound depth → IsSound candidate_spelling (GoodCandidate depth) (candidate_at (type_at depth))
 unfolding candidate_at
 candidate_takes depth sound ts x rest e =
-    let a = bind_ok (listed designator_at most_parts ts) (λ designators. arrow_at designators.1 >>= λ rest. over (λ type. (designators.0, type)) (type_at depth rest)) (x, rest) e in
-    let b = bind_ok (arrow_at a.0.1) (λ rest. over (λ type. (a.0.0, type)) (type_at depth rest)) (x, rest) a.2 in
-    let o = over_ok (λ type. (a.0.0, type)) (type_at depth b.0) (x, rest) b.2 in
-    let names = listed_takes designator_spelling GoodDesignator designator_at designator_takes most_parts ts a.0.0 a.0.1 a.1 in
-    let type = sound b.0 o.0.0 o.0.1 o.1 in
-    let behind : Takes a.0.1 (tokens.Arrow ∷ type_spelling o.0.0) o.0.1 = Takes-behind tokens.Arrow a.0.1 b.0 (type_spelling o.0.0) o.0.1 (arrow_is a.0.1 b.0 b.1) type.0 in
-    let both = Takes-then ts (parts_spelling designator_spelling a.0.0) a.0.1 (tokens.Arrow ∷ type_spelling o.0.0) o.0.1 names.takes behind in
-    subst (λ (p : (List Designator × TypeModel) × List Token). Takes ts (candidate_spelling p.0) p.1 × GoodCandidate depth p.0) o.2 (both, ((names.some, names.few), names.good, type.1))
-
-more_candidates_are : (cs : List (List Designator × TypeModel)) → more_candidates_spelling (candidates_from cs) ≡ more_spelling candidate_spelling cs
-more_candidates_are [] = refl
-more_candidates_are (c ∷ cs) = ap (λ (more : List Token). tokens.Comma ∷ candidate_spelling c ++ more) (more_candidates_are cs)
+    let Candidate : Type 0 = List Designator × TypeModel in
+    let t = typed_takes {B = Candidate} (parts_spelling designator_spelling) (AreGood GoodDesignator) (listed designator_at most_parts) (parts_take designator_spelling GoodDesignator designator_at designator_takes) tokens.Arrow arrow_at arrow_is depth sound (λ designators type. (designators, type)) ts (x, rest) e in
+    subst (λ (c : Candidate). Takes ts (candidate_spelling c) rest × GoodCandidate depth c) t.made (t.takes, (t.good.0, t.good.1, t.typed))
 
 candidates_are : (cs : List (List Designator × TypeModel)) → candidates_spelling (candidates_from cs) ≡ parts_spelling candidate_spelling cs
-candidates_are [] = refl
-candidates_are (c ∷ cs) = ap (λ (more : List Token). candidate_spelling c ++ more) (more_candidates_are cs)
-
-candidates_good : (depth : ℕ) (cs : List (List Designator × TypeModel)) → AllByRecursion (GoodCandidate depth) cs → AreCandidates depth (candidates_from cs)
-candidates_good depth [] h = tt
-candidates_good depth (c ∷ cs) h = (h.0.0, h.0.1, h.0.2, candidates_good depth cs h.1)
-
-candidate_count_is : (cs : List (List Designator × TypeModel)) → candidate_count (candidates_from cs) ≡ length cs
-candidate_count_is [] = refl
-candidate_count_is (c ∷ cs) = ap suc (candidate_count_is cs)
+candidates_are = parts_are candidates_from candidates_spelling more_candidates_spelling candidate_spelling refl (λ c cs. refl) (more_are candidates_from more_candidates_spelling candidate_spelling refl (λ c cs. refl))
 
 -- ---- types
 
@@ -193,8 +211,8 @@ Read depth ts x = Takes ts (type_spelling x.0) x.1 × IsType depth x.0
 enumeration_takes : (depth : ℕ) (ts : List Token) (x : TypeModel × List Token) → enumeration_behind ts ≡ Ok x → Read (suc depth) (tokens.OpenBrace ∷ ts) x
 unfolding enumeration_behind
 enumeration_takes depth ts x e =
-    let a = bind_ok (listed member_at most_parts ts) (λ members. close_brace_at members.1 >>= λ rest. Ok (TypeModel.enumeration members.0, rest)) x e in
-    let b = bind_ok (close_brace_at a.0.1) (λ rest. Ok (TypeModel.enumeration a.0.0, rest)) x a.2 in
+    let a = bind_ok (listed member_at most_parts ts) _ x e in
+    let b = bind_ok (close_brace_at a.0.1) _ x a.2 in
     let l = listed_takes member_spelling GoodMember member_at member_takes most_parts ts a.0.0 a.0.1 a.1 in
     let inner = Takes-then ts (parts_spelling member_spelling a.0.0) a.0.1 (tokens.CloseBrace ∷ []) b.0 l.takes (Takes-one tokens.CloseBrace a.0.1 b.0 (close_brace_is a.0.1 b.0 b.1)) in
     let whole = Takes-behind tokens.OpenBrace (tokens.OpenBrace ∷ ts) ts (parts_spelling member_spelling a.0.0 ++ tokens.CloseBrace ∷ []) b.0 refl inner in
@@ -209,28 +227,14 @@ long_takes depth (t ∷ ts) x e = absurd cc
 array_takes : (depth : ℕ) → IsTypeSound depth → (ts : List Token) (x : TypeModel × List Token) → array_behind (type_at depth) ts ≡ Ok x → Read (suc depth) (tokens.Array ∷ ts) x
 unfolding array_behind
 array_takes depth sound ts x e =
-    let a = bind_ok (numeric_at ts) (λ number. of_at number.1 >>= λ rest. over (TypeModel.array number.0) (type_at depth rest)) x e in
-    let b = bind_ok (of_at a.0.1) (λ rest. over (TypeModel.array a.0.0) (type_at depth rest)) x a.2 in
-    let o = over_ok (TypeModel.array a.0.0) (type_at depth b.0) x b.2 in
-    let n = numeric_takes ts a.0.0 a.0.1 a.1 in
-    let t = sound b.0 o.0.0 o.0.1 o.1 in
-    let behind : Takes a.0.1 (tokens.Of ∷ type_spelling o.0.0) o.0.1 = Takes-behind tokens.Of a.0.1 b.0 (type_spelling o.0.0) o.0.1 (of_is a.0.1 b.0 b.1) t.0 in
-    let inner = Takes-then ts (numeric_spelling a.0.0) a.0.1 (tokens.Of ∷ type_spelling o.0.0) o.0.1 n.0 behind in
-    let whole = Takes-behind tokens.Array (tokens.Array ∷ ts) ts (numeric_spelling a.0.0 ++ tokens.Of ∷ type_spelling o.0.0) o.0.1 refl inner in
-    subst (λ (p : TypeModel × List Token). Read (suc depth) (tokens.Array ∷ ts) p) o.2 (whole, (n.1, t.1))
+    let t = typed_takes numeric_spelling IsNumeric numeric_at numeric_takes tokens.Of of_at of_is depth sound TypeModel.array ts x e in
+    subst (λ (p : TypeModel). Read (suc depth) (tokens.Array ∷ ts) (p, x.1)) t.made (Takes-behind tokens.Array (tokens.Array ∷ ts) ts (numeric_spelling t.front ++ tokens.Of ∷ type_spelling t.type) x.1 refl t.takes, (t.good, t.typed))
 
 sequence_takes : (depth : ℕ) → IsTypeSound depth → (ts : List Token) (x : TypeModel × List Token) → sequence_behind (type_at depth) ts ≡ Ok x → Read (suc depth) (tokens.Sequence ∷ ts) x
 unfolding sequence_behind
 sequence_takes depth sound ts x e =
-    let a = bind_ok (maximum_at ts) (λ most. of_at most.1 >>= λ rest. over (TypeModel.sequence most.0) (type_at depth rest)) x e in
-    let b = bind_ok (of_at a.0.1) (λ rest. over (TypeModel.sequence a.0.0) (type_at depth rest)) x a.2 in
-    let o = over_ok (TypeModel.sequence a.0.0) (type_at depth b.0) x b.2 in
-    let n = maximum_takes ts a.0.0 a.0.1 a.1 in
-    let t = sound b.0 o.0.0 o.0.1 o.1 in
-    let behind : Takes a.0.1 (tokens.Of ∷ type_spelling o.0.0) o.0.1 = Takes-behind tokens.Of a.0.1 b.0 (type_spelling o.0.0) o.0.1 (of_is a.0.1 b.0 b.1) t.0 in
-    let inner = Takes-then ts (maximum_spelling a.0.0) a.0.1 (tokens.Of ∷ type_spelling o.0.0) o.0.1 n.0 behind in
-    let whole = Takes-behind tokens.Sequence (tokens.Sequence ∷ ts) ts (maximum_spelling a.0.0 ++ tokens.Of ∷ type_spelling o.0.0) o.0.1 refl inner in
-    subst (λ (p : TypeModel × List Token). Read (suc depth) (tokens.Sequence ∷ ts) p) o.2 (whole, (n.1, t.1))
+    let t = typed_takes maximum_spelling IsNumberIfAny maximum_at maximum_takes tokens.Of of_at of_is depth sound TypeModel.sequence ts x e in
+    subst (λ (p : TypeModel). Read (suc depth) (tokens.Sequence ∷ ts) (p, x.1)) t.made (Takes-behind tokens.Sequence (tokens.Sequence ∷ ts) ts (maximum_spelling t.front ++ tokens.Of ∷ type_spelling t.type) x.1 refl t.takes, (t.good, t.typed))
 
 record_takes : (depth : ℕ) → IsTypeSound depth → (ts : List Token) (x : TypeModel × List Token) → record_behind (type_at depth) ts ≡ Ok x → Read (suc depth) (tokens.Record ∷ ts) x
 unfolding fields_at
@@ -246,11 +250,11 @@ record_takes depth sound ts x e =
 choice_takes : (depth : ℕ) → IsTypeSound depth → (ts : List Token) (x : TypeModel × List Token) → choice_behind (type_at depth) ts ≡ Ok x → Read (suc depth) (tokens.Choice ∷ ts) x
 unfolding choice_behind
 choice_takes depth sound ts x e =
-    let a = bind_ok (tag_at ts) (λ tag. of_at tag.1 >>= λ rest. open_brace_at rest >>= λ inside. listed (candidate_at (type_at depth)) most_parts inside >>= λ candidates. close_brace_at candidates.1 >>= λ behind. Ok (TypeModel.choice tag.0 (candidates_from candidates.0), behind)) x e in
-    let b = bind_ok (of_at a.0.1) (λ rest. open_brace_at rest >>= λ inside. listed (candidate_at (type_at depth)) most_parts inside >>= λ candidates. close_brace_at candidates.1 >>= λ behind. Ok (TypeModel.choice a.0.0 (candidates_from candidates.0), behind)) x a.2 in
-    let c = bind_ok (open_brace_at b.0) (λ inside. listed (candidate_at (type_at depth)) most_parts inside >>= λ candidates. close_brace_at candidates.1 >>= λ behind. Ok (TypeModel.choice a.0.0 (candidates_from candidates.0), behind)) x b.2 in
-    let d = bind_ok (listed (candidate_at (type_at depth)) most_parts c.0) (λ candidates. close_brace_at candidates.1 >>= λ behind. Ok (TypeModel.choice a.0.0 (candidates_from candidates.0), behind)) x c.2 in
-    let f = bind_ok (close_brace_at d.0.1) (λ behind. Ok (TypeModel.choice a.0.0 (candidates_from d.0.0), behind)) x d.2 in
+    let a = bind_ok (tag_at ts) _ x e in
+    let b = bind_ok (of_at a.0.1) _ x a.2 in
+    let c = bind_ok (open_brace_at b.0) _ x b.2 in
+    let d = bind_ok (listed (candidate_at (type_at depth)) most_parts c.0) _ x c.2 in
+    let f = bind_ok (close_brace_at d.0.1) _ x d.2 in
     let tag = tag_takes ts a.0.0 a.0.1 a.1 in
     let l = listed_takes candidate_spelling (GoodCandidate depth) (candidate_at (type_at depth)) (candidate_takes depth sound) most_parts c.0 d.0.0 d.0.1 d.1 in
     let takes : Takes c.0 (candidates_spelling (candidates_from d.0.0)) d.0.1 = subst (λ (t : List Token). Takes c.0 t d.0.1) (sym (candidates_are d.0.0)) l.takes in
@@ -262,8 +266,8 @@ choice_takes depth sound ts x e =
     let regrouped : tag_spelling a.0.0 ++ (tokens.Of ∷ tokens.OpenBrace ∷ text) ≡ (tag_spelling a.0.0 ++ tokens.Of ∷ tokens.OpenBrace ∷ candidates_spelling (candidates_from d.0.0)) ++ tokens.CloseBrace ∷ [] = sym (append_assoc (tag_spelling a.0.0) (tokens.Of ∷ tokens.OpenBrace ∷ candidates_spelling (candidates_from d.0.0)) (tokens.CloseBrace ∷ [])) in
     let spelled = subst (λ (t : List Token). Takes ts t f.0) regrouped both in
     let whole = Takes-behind tokens.Choice (tokens.Choice ∷ ts) ts ((tag_spelling a.0.0 ++ tokens.Of ∷ tokens.OpenBrace ∷ candidates_spelling (candidates_from d.0.0)) ++ tokens.CloseBrace ∷ []) f.0 refl spelled in
-    let counted = candidate_count_is d.0.0 in
-    subst (λ (p : TypeModel × List Token). Read (suc depth) (tokens.Choice ∷ ts) p) (ok_is (TypeModel.choice a.0.0 (candidates_from d.0.0), f.0) x f.2) (whole, (omega (arith, l.some), omega (arith, l.few), candidates_good depth d.0.0 l.good))
+    let counted = count_is candidates_from candidate_count refl (λ c cs. refl) d.0.0 in
+    subst (λ (p : TypeModel × List Token). Read (suc depth) (tokens.Choice ∷ ts) p) (ok_is (TypeModel.choice a.0.0 (candidates_from d.0.0), f.0) x f.2) (whole, (omega (arith, l.some), omega (arith, l.few), are_good candidates_from (AreCandidates depth) (GoodCandidate depth) tt (λ c cs here others. (here.0, here.1, here.2, others)) d.0.0 l.good))
 
 behind_takes : (depth : ℕ) → IsTypeSound depth → (t : Token) (ts : List Token) (x : TypeModel × List Token) → type_behind (type_at depth) t ts ≡ Ok x → Read (suc depth) (t ∷ ts) x
 unfolding type_behind

@@ -9,9 +9,10 @@ use Rattle.courier_notation.specs.declared.written.Numeric.{Numeric}
 use Rattle.courier_notation.specs.declared.written.Numeric.TheVariants as numerics
 use Rattle.courier_notation.specs.declared.written.Reference.{Reference}
 use Rattle.courier_notation.specs.declared.written.Reference.TheVariants as references
+use Rattle.courier_notation.specs.Written.{Designator}
 use Rattle.courier_notation.specs.Reading.{Fault, ◌>>=◌, Reader, over, behind_comma, others_at, listed, name_at, reference_behind, numeric_at}
 use Rattle.courier_notation.specs.Reading.{of_at, arrow_at, colon_at, open_brace_at, close_brace_at, open_bracket_at, close_bracket_at, open_parenthesis_at, close_parenthesis_at}
-use Rattle.courier_notation.specs.Spelling.{name_spelling, reference_spelling, numeric_spelling, more_spelling, parts_spelling, IsNumeric}
+use Rattle.courier_notation.specs.Spelling.{name_spelling, reference_spelling, numeric_spelling, more_spelling, parts_spelling, IsNumeric, IsNumberIfAny}
 
 -- ---- results
 
@@ -51,58 +52,50 @@ IsSound {A} spell Good one = (ts : List Token) (x : A) (rest : List Token) → o
 
 -- ---- single tokens
 
-pub of_is : (ts rest : List Token) → of_at ts ≡ Ok rest → ts ≡ tokens.Of ∷ rest
-of_is [] rest e = absurd cc
-of_is (tokens.Of ∷ ts) rest e = ap (λ (r : List Token). tokens.Of ∷ r) (ok_is ts rest e)
-of_is (t ∷ ts) rest e = absurd cc
+-- the reader takes this token alone
+abbrev pub TakesOnly : Token → (List Token → Result (List Token) Fault) → Type 0
+TakesOnly t at = (ts rest : List Token) → at ts ≡ Ok rest → ts ≡ t ∷ rest
 
-pub arrow_is : (ts rest : List Token) → arrow_at ts ≡ Ok rest → ts ≡ tokens.Arrow ∷ rest
-arrow_is [] rest e = absurd cc
-arrow_is (tokens.Arrow ∷ ts) rest e = ap (λ (r : List Token). tokens.Arrow ∷ r) (ok_is ts rest e)
-arrow_is (t ∷ ts) rest e = absurd cc
+pub of_is : TakesOnly tokens.Of of_at
+of_is = elim [ tokens.Of ∷ ts ↦ λ rest e. cc | _ ↦ λ rest e. absurd cc ]
 
-pub colon_is : (ts rest : List Token) → colon_at ts ≡ Ok rest → ts ≡ tokens.Colon ∷ rest
-colon_is [] rest e = absurd cc
-colon_is (tokens.Colon ∷ ts) rest e = ap (λ (r : List Token). tokens.Colon ∷ r) (ok_is ts rest e)
-colon_is (t ∷ ts) rest e = absurd cc
+pub arrow_is : TakesOnly tokens.Arrow arrow_at
+arrow_is = elim [ tokens.Arrow ∷ ts ↦ λ rest e. cc | _ ↦ λ rest e. absurd cc ]
 
-pub open_brace_is : (ts rest : List Token) → open_brace_at ts ≡ Ok rest → ts ≡ tokens.OpenBrace ∷ rest
-open_brace_is [] rest e = absurd cc
-open_brace_is (tokens.OpenBrace ∷ ts) rest e = ap (λ (r : List Token). tokens.OpenBrace ∷ r) (ok_is ts rest e)
-open_brace_is (t ∷ ts) rest e = absurd cc
+pub colon_is : TakesOnly tokens.Colon colon_at
+colon_is = elim [ tokens.Colon ∷ ts ↦ λ rest e. cc | _ ↦ λ rest e. absurd cc ]
 
-pub close_brace_is : (ts rest : List Token) → close_brace_at ts ≡ Ok rest → ts ≡ tokens.CloseBrace ∷ rest
-close_brace_is [] rest e = absurd cc
-close_brace_is (tokens.CloseBrace ∷ ts) rest e = ap (λ (r : List Token). tokens.CloseBrace ∷ r) (ok_is ts rest e)
-close_brace_is (t ∷ ts) rest e = absurd cc
+pub open_brace_is : TakesOnly tokens.OpenBrace open_brace_at
+open_brace_is = elim [ tokens.OpenBrace ∷ ts ↦ λ rest e. cc | _ ↦ λ rest e. absurd cc ]
 
-pub open_bracket_is : (ts rest : List Token) → open_bracket_at ts ≡ Ok rest → ts ≡ tokens.OpenBracket ∷ rest
-open_bracket_is [] rest e = absurd cc
-open_bracket_is (tokens.OpenBracket ∷ ts) rest e = ap (λ (r : List Token). tokens.OpenBracket ∷ r) (ok_is ts rest e)
-open_bracket_is (t ∷ ts) rest e = absurd cc
+pub close_brace_is : TakesOnly tokens.CloseBrace close_brace_at
+close_brace_is = elim [ tokens.CloseBrace ∷ ts ↦ λ rest e. cc | _ ↦ λ rest e. absurd cc ]
 
-pub close_bracket_is : (ts rest : List Token) → close_bracket_at ts ≡ Ok rest → ts ≡ tokens.CloseBracket ∷ rest
-close_bracket_is [] rest e = absurd cc
-close_bracket_is (tokens.CloseBracket ∷ ts) rest e = ap (λ (r : List Token). tokens.CloseBracket ∷ r) (ok_is ts rest e)
-close_bracket_is (t ∷ ts) rest e = absurd cc
+pub open_bracket_is : TakesOnly tokens.OpenBracket open_bracket_at
+open_bracket_is = elim [ tokens.OpenBracket ∷ ts ↦ λ rest e. cc | _ ↦ λ rest e. absurd cc ]
 
-pub open_parenthesis_is : (ts rest : List Token) → open_parenthesis_at ts ≡ Ok rest → ts ≡ tokens.OpenParenthesis ∷ rest
-open_parenthesis_is [] rest e = absurd cc
-open_parenthesis_is (tokens.OpenParenthesis ∷ ts) rest e = ap (λ (r : List Token). tokens.OpenParenthesis ∷ r) (ok_is ts rest e)
-open_parenthesis_is (t ∷ ts) rest e = absurd cc
+pub close_bracket_is : TakesOnly tokens.CloseBracket close_bracket_at
+close_bracket_is = elim [ tokens.CloseBracket ∷ ts ↦ λ rest e. cc | _ ↦ λ rest e. absurd cc ]
 
-pub close_parenthesis_is : (ts rest : List Token) → close_parenthesis_at ts ≡ Ok rest → ts ≡ tokens.CloseParenthesis ∷ rest
-close_parenthesis_is [] rest e = absurd cc
-close_parenthesis_is (tokens.CloseParenthesis ∷ ts) rest e = ap (λ (r : List Token). tokens.CloseParenthesis ∷ r) (ok_is ts rest e)
-close_parenthesis_is (t ∷ ts) rest e = absurd cc
+pub open_parenthesis_is : TakesOnly tokens.OpenParenthesis open_parenthesis_at
+open_parenthesis_is = elim [ tokens.OpenParenthesis ∷ ts ↦ λ rest e. cc | _ ↦ λ rest e. absurd cc ]
+
+pub close_parenthesis_is : TakesOnly tokens.CloseParenthesis close_parenthesis_at
+close_parenthesis_is = elim [ tokens.CloseParenthesis ∷ ts ↦ λ rest e. cc | _ ↦ λ rest e. absurd cc ]
 
 pub comma_is : (ts next : List Token) → behind_comma ts ≡ Some next → ts ≡ tokens.Comma ∷ next
-comma_is [] next e = absurd cc
-comma_is (tokens.Comma ∷ ts) next e = let h : ts ≡ next = cc in ap (λ (r : List Token). tokens.Comma ∷ r) h
-comma_is (t ∷ ts) next e = absurd cc
+comma_is = elim [ tokens.Comma ∷ ts ↦ λ next e. cc | _ ↦ λ next e. absurd cc ]
+
+-- ---- what is good about parts
 
 abbrev pub Any : {A : Type 0} → A → Type 0
 Any x = Unit {0}
+
+abbrev pub GoodMember : ℕ × Numeric → Type 0
+GoodMember m = IsNumeric m.1
+
+abbrev pub GoodDesignator : Designator → Type 0
+GoodDesignator d = IsNumberIfAny d.1
 
 pub name_takes : IsSound name_spelling Any name_at
 name_takes [] n rest e = absurd cc

@@ -1,5 +1,5 @@
 //! The first lexeme of a text.
-ghost use Rattle.std.specs.Prelude.{◌≡◌, ◌∷◌, ◌<◌, ◌≤◌, ◌==◌, ◌&&◌, ◌||◌, false, length};
+ghost use Rattle.std.specs.Prelude.{◌≡◌, ◌∷◌, ◌<◌, ◌≤◌, ◌==◌, ◌&&◌, ◌||◌, ℕ, Bool, false, length};
 ghost use Rattle.courier_notation.specs.Lexing.{digits_number, long_of, behind_front, is_blank as is_blank_of};
 ghost use Rattle.courier_notation.specs.Lexing.{equal_at, front_of, is_digit as is_digit_of};
 ghost use Rattle.courier_notation.specs.Lexing.{is_name_byte as is_name_byte_of, is_no_quote, lexeme_at, lexeme_in};
@@ -72,17 +72,26 @@ fn behind_last(is_comment: bool, rest: &[u8]) -> &[u8]
     rest
 }
 
+/// The bytes that stand first and pass the test, and what is behind them.
+fn front_and_rest<F: Fn(u8) -> bool>(bytes: &[u8], passes: F) -> (&[u8], &[u8])
+    requires { F.IsAlwaysCallable passes }
+    ensures front { (test : ℕ → Bool) → ((byte : ℕ) (r : Bool) → F.post passes byte r → test byte ≡ r) → result.0.now ≡ front_of test bytes.now }
+    ensures rest { (test : ℕ → Bool) → ((byte : ℕ) (r : Bool) → F.post passes byte r → test byte ≡ r) → result.1.now ≡ behind_front test bytes.now }
+{
+    for (i, byte) in bytes.iter().enumerate() {
+        if !passes(*byte) {
+            return bytes.split_at(i);
+        }
+    }
+    bytes.split_at(bytes.len())
+}
+
 /// The letters and digits that stand first, and what is behind them.
 fn name_and_rest(bytes: &[u8]) -> (&[u8], &[u8])
     ensures front { result.0.now ≡ front_of is_name_byte_of bytes.now }
     ensures rest { result.1.now ≡ behind_front is_name_byte_of bytes.now }
 {
-    for (i, byte) in bytes.iter().enumerate() {
-        if !is_name_byte(*byte) {
-            return bytes.split_at(i);
-        }
-    }
-    bytes.split_at(bytes.len())
+    front_and_rest(bytes, is_name_byte)
 }
 
 /// The digits that stand first, and what is behind them.
@@ -90,12 +99,7 @@ fn digits_and_rest(bytes: &[u8]) -> (&[u8], &[u8])
     ensures front { result.0.now ≡ front_of is_digit_of bytes.now }
     ensures rest { result.1.now ≡ behind_front is_digit_of bytes.now }
 {
-    for (i, byte) in bytes.iter().enumerate() {
-        if !is_digit(*byte) {
-            return bytes.split_at(i);
-        }
-    }
-    bytes.split_at(bytes.len())
+    front_and_rest(bytes, is_digit)
 }
 
 /// What stands before the first quote, and the rest from it on.
@@ -103,12 +107,7 @@ fn string_and_rest(bytes: &[u8]) -> (&[u8], &[u8])
     ensures front { result.0.now ≡ front_of is_no_quote bytes.now }
     ensures rest { result.1.now ≡ behind_front is_no_quote bytes.now }
 {
-    for (i, byte) in bytes.iter().enumerate() {
-        if *byte == b'"' {
-            return bytes.split_at(i);
-        }
-    }
-    bytes.split_at(bytes.len())
+    front_and_rest(bytes, |byte| byte != b'"')
 }
 
 /// The number that digits make, if it has 32 bits.

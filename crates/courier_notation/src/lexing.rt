@@ -1,6 +1,5 @@
 //! A text read token by token.
 ghost use Rattle.std.specs.Prelude.{◌≡◌, ◌∷◌, [], ◌++◌, ◌+◌, ◌<◌, ◌≤◌, length, map, vec_len, IfOk, OnOk};
-ghost use Rattle.courier_notation.specs.declared.token.Token.TheVariants.{Name as NameToken, Quoted as QuotedToken};
 ghost use Rattle.courier_notation.specs.Lexing.{HasToken, with_lexeme, with_token, lexed_from, lexeme_view, lexing_of, lexing_view, most_text, most_tokens, nothing_read};
 ghost use Rattle.courier_notation.specs.Reading.{Gives, IfNoMemory};
 
@@ -12,28 +11,16 @@ use crate::stop::Stop;
 use crate::token::Token;
 use std::alloc::{AllocError, Global};
 
-/// Adds a name, and answers its token.
-fn add_name(alloc: Global, names: &mut Vec<Vec<u8>>, word: &[u8]) -> Result<Token, AllocError>
-    requires { vec_len names.old < 65536 }
-    ensures names { OnOk result (map (λ v. v.items) names.new.items ≡ map (λ v. v.items) names.old.items ++ word.now ∷ []) }
-    ensures token { IfOk result (λ token. token ≡ NameToken (vec_len names.old)) }
-    ensures len { vec_len names.new ≤ vec_len names.old + 1 }
+/// Adds a name or a string, and answers its number.
+fn add_text(alloc: Global, texts: &mut Vec<Vec<u8>>, text: &[u8]) -> Result<u32, AllocError>
+    requires { vec_len texts.old < 65536 }
+    ensures texts { OnOk result (map (λ v. v.items) texts.new.items ≡ map (λ v. v.items) texts.old.items ++ text.now ∷ []) }
+    ensures number { IfOk result (λ number. number ≡ vec_len texts.old) }
+    ensures len { vec_len texts.new ≤ vec_len texts.old + 1 }
 {
-    let token = Token::Name(names.len() as u32);
-    names.push(Vec::from_slice(alloc, word)?)?;
-    Ok(token)
-}
-
-/// Adds a string, and answers its token.
-fn add_string(alloc: Global, strings: &mut Vec<Vec<u8>>, string: &[u8]) -> Result<Token, AllocError>
-    requires { vec_len strings.old < 65536 }
-    ensures strings { OnOk result (map (λ v. v.items) strings.new.items ≡ map (λ v. v.items) strings.old.items ++ string.now ∷ []) }
-    ensures token { IfOk result (λ token. token ≡ QuotedToken (vec_len strings.old)) }
-    ensures len { vec_len strings.new ≤ vec_len strings.old + 1 }
-{
-    let token = Token::Quoted(strings.len() as u32);
-    strings.push(Vec::from_slice(alloc, string)?)?;
-    Ok(token)
+    let number = texts.len() as u32;
+    texts.push(Vec::from_slice(alloc, text)?)?;
+    Ok(number)
 }
 
 /// Adds a token, and how many bytes were left where it begins.
@@ -57,8 +44,8 @@ fn add(alloc: Global, lexed: &mut Lexed, lexeme: Lexeme, left: usize) -> Result<
 {
     let token = match lexeme {
         Lexeme::Plain(token) => token,
-        Lexeme::Name(word) => add_name(alloc, &mut lexed.names, word)?,
-        Lexeme::Quoted(string) => add_string(alloc, &mut lexed.strings, string)?,
+        Lexeme::Name(word) => Token::Name(add_text(alloc, &mut lexed.names, word)?),
+        Lexeme::Quoted(string) => Token::Quoted(add_text(alloc, &mut lexed.strings, string)?),
     };
     add_token(lexed, token, left)
 }

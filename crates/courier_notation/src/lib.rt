@@ -16,6 +16,7 @@ mod lexemes;
 mod lexing;
 pub mod limits;
 mod marks;
+mod part;
 mod parts;
 mod programs;
 mod reason;

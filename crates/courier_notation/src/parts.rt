@@ -5,8 +5,8 @@ ghost use Rattle.courier_notation.specs.Reading.{member_at, most_parts, name_at,
 ghost use Rattle.courier_notation.specs.Reading.{tag_at, word_of};
 ghost use Rattle.courier_notation.specs.Programs.{long_at, reference_at, small_at, small_or_fault};
 
-use crate::limits::MOST_PARTS;
-use crate::marks::{behind_close_parenthesis, behind_open_parenthesis, next_part, wrong};
+use crate::marks::{behind_close_parenthesis, behind_open_parenthesis, wrong};
+use crate::part::{Part, parts_of};
 use crate::reason::Reason;
 use crate::stop::Stop;
 use crate::token::Token;
@@ -65,34 +65,35 @@ pub fn numeric_of(tokens: &[Token]) -> Result<(Numeric, &[Token]), Stop>
     }
 }
 
+/// A name.
+impl Part for u32 {
+    ghost reads = { name_at };
+
+    fn read(tokens: &[Token]) -> Result<(u32, &[Token]), Stop> {
+        name_of(tokens)
+    }
+}
+
 /// Names with commas between.
 pub fn names_of(alloc: Global, tokens: &[Token]) -> Result<(Vec<u32>, &[Token]), Stop>
     ensures exact { Gives (λ x. (x.0.items, x.1.now)) result (listed name_at most_parts tokens.now) }
     ensures memory { IfNoMemory result (IsOk (name_at tokens.now)) }
 {
-    let mut names = Vec::new(alloc);
-    let mut rest = tokens;
-    for _ in 0..MOST_PARTS {
-        let (name, after) = name_of(rest)?;
-        names.push(name)?;
-        match next_part(after) {
-            Some(next) => rest = next,
-            None => return Ok((names, after)),
-        }
-    }
-    Err(wrong(rest, Reason::TooManyParts))
+    parts_of(alloc, tokens)
 }
 
 /// A member of an enumeration: a name, and its number in parentheses.
-#[tactic(auto, unfolding(crate::specs::Reading::member_at))]
-fn member_of(tokens: &[Token]) -> Result<((u32, Numeric), &[Token]), Stop>
-    ensures { Reads (λ x. (x.0, x.1.now)) result (member_at tokens.now) }
-{
-    let (name, rest) = name_of(tokens)?;
-    let inside = behind_open_parenthesis(rest)?;
-    let (number, rest) = numeric_of(inside)?;
-    let rest = behind_close_parenthesis(rest)?;
-    Ok(((name, number), rest))
+impl Part for (u32, Numeric) {
+    ghost reads = { member_at };
+
+    #[tactic(auto, unfolding(crate::specs::Reading::member_at))]
+    fn read(tokens: &[Token]) -> Result<((u32, Numeric), &[Token]), Stop> {
+        let (name, rest) = name_of(tokens)?;
+        let inside = behind_open_parenthesis(rest)?;
+        let (number, rest) = numeric_of(inside)?;
+        let rest = behind_close_parenthesis(rest)?;
+        Ok(((name, number), rest))
+    }
 }
 
 /// Members with commas between.
@@ -100,17 +101,7 @@ pub fn members_of(alloc: Global, tokens: &[Token]) -> Result<(Vec<(u32, Numeric)
     ensures exact { Gives (λ x. (x.0.items, x.1.now)) result (listed member_at most_parts tokens.now) }
     ensures memory { IfNoMemory result (IsOk (member_at tokens.now)) }
 {
-    let mut members = Vec::new(alloc);
-    let mut rest = tokens;
-    for _ in 0..MOST_PARTS {
-        let (member, after) = member_of(rest)?;
-        members.push(member)?;
-        match next_part(after) {
-            Some(next) => rest = next,
-            None => return Ok((members, after)),
-        }
-    }
-    Err(wrong(rest, Reason::TooManyParts))
+    parts_of(alloc, tokens)
 }
 
 /// The designator that begins with the name: its number in parentheses may be left out.
@@ -132,12 +123,14 @@ fn designator_of_name(
 }
 
 /// A designator.
-#[tactic(auto, unfolding(crate::specs::Reading::designator_at))]
-fn designator_of(tokens: &[Token]) -> Result<((u32, Option<Numeric>), &[Token]), Stop>
-    ensures { Reads (λ x. (x.0, x.1.now)) result (designator_at tokens.now) }
-{
-    let (name, rest) = name_of(tokens)?;
-    designator_of_name(name, rest)
+impl Part for (u32, Option<Numeric>) {
+    ghost reads = { designator_at };
+
+    #[tactic(auto, unfolding(crate::specs::Reading::designator_at))]
+    fn read(tokens: &[Token]) -> Result<((u32, Option<Numeric>), &[Token]), Stop> {
+        let (name, rest) = name_of(tokens)?;
+        designator_of_name(name, rest)
+    }
 }
 
 /// Designators with commas between.
@@ -148,17 +141,7 @@ pub fn designators_of(
     ensures exact { Gives (λ x. (x.0.items, x.1.now)) result (listed designator_at most_parts tokens.now) }
     ensures memory { IfNoMemory result (IsOk (designator_at tokens.now)) }
 {
-    let mut designators = Vec::new(alloc);
-    let mut rest = tokens;
-    for _ in 0..MOST_PARTS {
-        let (designator, after) = designator_of(rest)?;
-        designators.push(designator)?;
-        match next_part(after) {
-            Some(next) => rest = next,
-            None => return Ok((designators, after)),
-        }
-    }
-    Err(wrong(rest, Reason::TooManyParts))
+    parts_of(alloc, tokens)
 }
 
 /// The enumeration that designators are of; `None` where none is named.
@@ -222,12 +205,14 @@ pub fn small_of(tokens: &[Token]) -> Result<(u16, &[Token]), Stop>
 }
 
 /// A name that is referred to.
-#[tactic(auto, unfolding(crate::specs::Programs::reference_at))]
-fn whole_reference(tokens: &[Token]) -> Result<(Reference, &[Token]), Stop>
-    ensures { Reads (λ x. (x.0, x.1.now)) result (reference_at tokens.now) }
-{
-    let (name, rest) = name_of(tokens)?;
-    reference_of(name, rest)
+impl Part for Reference {
+    ghost reads = { reference_at };
+
+    #[tactic(auto, unfolding(crate::specs::Programs::reference_at))]
+    fn read(tokens: &[Token]) -> Result<(Reference, &[Token]), Stop> {
+        let (name, rest) = name_of(tokens)?;
+        reference_of(name, rest)
+    }
 }
 
 /// Names that are referred to, with commas between.
@@ -235,15 +220,5 @@ pub fn references_of(alloc: Global, tokens: &[Token]) -> Result<(Vec<Reference>,
     ensures exact { Gives (λ x. (x.0.items, x.1.now)) result (listed reference_at most_parts tokens.now) }
     ensures memory { IfNoMemory result (IsOk (reference_at tokens.now)) }
 {
-    let mut references = Vec::new(alloc);
-    let mut rest = tokens;
-    for _ in 0..MOST_PARTS {
-        let (reference, after) = whole_reference(rest)?;
-        references.push(reference)?;
-        match next_part(after) {
-            Some(next) => rest = next,
-            None => return Ok((references, after)),
-        }
-    }
-    Err(wrong(rest, Reason::TooManyParts))
+    parts_of(alloc, tokens)
 }

@@ -8,12 +8,11 @@ ghost use Rattle.courier_notation.specs.Programs.{nothing_at, program_of};
 
 use crate::declarations::declarations_of;
 use crate::declared::{Declaration, Dependency, WrittenProgram};
-use crate::limits::MOST_PARTS;
 use crate::marks::{
     behind_begin, behind_close_parenthesis, behind_colon, behind_dot, behind_end, behind_equal,
-    behind_open_parenthesis, behind_program, behind_semicolon, behind_upon, behind_version,
-    next_part, wrong,
+    behind_open_parenthesis, behind_program, behind_semicolon, behind_upon, behind_version, wrong,
 };
+use crate::part::{Part, parts_of};
 use crate::parts::{long_of, name_of, small_of};
 use crate::reason::Reason;
 use crate::stop::Stop;
@@ -21,24 +20,26 @@ use crate::token::Token;
 use std::alloc::Global;
 
 /// A program that is depended upon: its name, number and version.
-#[tactic(auto, unfolding(crate::specs::Programs::dependency_at))]
-fn dependency_of(tokens: &[Token]) -> Result<(Dependency, &[Token]), Stop>
-    ensures { Reads (λ x. (x.0, x.1.now)) result (dependency_at tokens.now) }
-{
-    let (name, rest) = name_of(tokens)?;
-    let inside = behind_open_parenthesis(rest)?;
-    let (number, rest) = long_of(inside)?;
-    let rest = behind_close_parenthesis(rest)?;
-    let rest = behind_version(rest)?;
-    let (version, rest) = small_of(rest)?;
-    Ok((
-        Dependency {
-            name,
-            number,
-            version,
-        },
-        rest,
-    ))
+impl Part for Dependency {
+    ghost reads = { dependency_at };
+
+    #[tactic(auto, unfolding(crate::specs::Programs::dependency_at))]
+    fn read(tokens: &[Token]) -> Result<(Dependency, &[Token]), Stop> {
+        let (name, rest) = name_of(tokens)?;
+        let inside = behind_open_parenthesis(rest)?;
+        let (number, rest) = long_of(inside)?;
+        let rest = behind_close_parenthesis(rest)?;
+        let rest = behind_version(rest)?;
+        let (version, rest) = small_of(rest)?;
+        Ok((
+            Dependency {
+                name,
+                number,
+                version,
+            },
+            rest,
+        ))
+    }
 }
 
 /// Dependencies with commas between.
@@ -46,17 +47,7 @@ fn some_dependencies(alloc: Global, tokens: &[Token]) -> Result<(Vec<Dependency>
     ensures exact { Gives (λ x. (x.0.items, x.1.now)) result (listed dependency_at most_parts tokens.now) }
     ensures memory { IfNoMemory result (IsOk (dependency_at tokens.now)) }
 {
-    let mut dependencies = Vec::new(alloc);
-    let mut rest = tokens;
-    for _ in 0..MOST_PARTS {
-        let (dependency, after) = dependency_of(rest)?;
-        dependencies.push(dependency)?;
-        match next_part(after) {
-            Some(next) => rest = next,
-            None => return Ok((dependencies, after)),
-        }
-    }
-    Err(wrong(rest, Reason::TooManyParts))
+    parts_of(alloc, tokens)
 }
 
 /// The programs that are depended upon; none where `DEPENDS` does not stand first.

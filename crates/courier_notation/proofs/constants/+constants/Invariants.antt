@@ -1,10 +1,13 @@
-use Rattle.std.proofs.Common.{◌≡◌, ◌-◌, ◌*◌, ◌+◌}
+use Rattle.std.proofs.Common.{◌*◌, ◌+◌, List}
+use Rattle.courier_notation.specs.declared.declared.Constant.{Constant}
 use Rattle.courier_notation.specs.Programs.{constant_at, element_at}
-use Rattle.courier_notation.specs.Reading.{listed, most_parts, passed}
+use Rattle.courier_notation.specs.Reading.{most_parts}
+use Rattle.courier_notation.proofs.Listing.{IsReadTo}
 use Rattle.courier_notation.proofs.constants.+constants.Given as goal
 
 abbrev pub invariant-behind_elements-loop : goal.invariant-behind_elements-loop
-invariant-behind_elements-loop l = passed (listed (element_at (constant_at l.depth)) (most_parts - l.counter) l.rest) ≡ passed (listed (element_at (constant_at l.depth)) most_parts l.fn.tokens)
+invariant-behind_elements-loop l =
+    (front : List Constant) × IsReadTo (element_at (constant_at l.depth)) (element_at (constant_at l.depth)) most_parts front l.counter l.rest l.fn.tokens
 
 abbrev pub decreases-constant_of : goal.decreases-constant_of
 decreases-constant_of l = 8 * l.depth

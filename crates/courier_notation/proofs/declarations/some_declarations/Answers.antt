@@ -1,9 +1,8 @@
-use Rattle.std.proofs.Common.{◌≡◌, [], ◌∷◌, ◌++◌, inl, inr, sym}
-use Rattle.std.proofs.lemmas.List.{map_push}
+use Rattle.std.proofs.Common.{inl, inr, sym}
 use Rattle.std.proofs.lemmas.Result.{err_from_is_err_and}
 use Rattle.courier_notation.specs.ProgramModels.{declaration_view, declaration_views}
-use Rattle.courier_notation.specs.Programs.{DeclarationWants, DeclarationsWant, declaration_at, declarations_at, most_declarations}
-use Rattle.courier_notation.proofs.Listing.{first_is_wanted, is_right, wants_more}
+use Rattle.courier_notation.specs.Programs.{DeclarationWants, DeclarationsWant, declarations_at, most_declarations}
+use Rattle.courier_notation.proofs.Listing.{first_is_wanted, is_right, seen_push, wants_more}
 use Rattle.courier_notation.proofs.Declaring.{one_more, one_fails, all_read, most_read, too_many}
 use Rattle.courier_notation.proofs.declarations.some_declarations.Goals as goal
 
@@ -15,10 +14,10 @@ returns-in_err-declaration-clause-exact c =
 pub loop-preserved : goal.loop-preserved
 loop-preserved c =
     let x = c.in_ok-declaration.declaration in
-    let pushed : declaration_views c.push.new.self.items ≡ declaration_views c.loop.declarations.items ++ declaration_view x ∷ [] = rw c.in_ok-push.ensures.items (map_push _ c.loop.declarations.items x) in
+    let pushed = seen_push declaration_view c.loop.declarations.items x c.in_ok-push.ensures.items in
     record {
       so_far = rw pushed (one_more (declaration_views c.loop.declarations.items) most_declarations c.loop.counter c.loop.rest.now (declaration_view x) c.in_ok-declaration.after.now (declarations_at most_declarations c.args.tokens.now) c.loop-test.true (sym c.if-is_end.ensures) c.in_ok-declaration.ensures.exact c.loop.invariant.so_far);
-      first = inr (first_is_wanted DeclarationsWant c.args.tokens.now c.loop.rest.now c.loop.invariant.first (inr (is_right declaration_at c.loop.rest.now (declaration_view x, c.in_ok-declaration.after.now) c.in_ok-declaration.ensures.exact)));
+      first = inr (first_is_wanted DeclarationsWant c.args.tokens.now c.loop.rest.now c.loop.invariant.first (inr (is_right c.in_ok-declaration.ensures.exact)));
     }
 
 pub returns-then-is_end-clause-exact : goal.returns-then-is_end-clause-exact
@@ -41,4 +40,4 @@ pub returns-in_err-push-clause-memory : goal.returns-in_err-push-clause-memory
 returns-in_err-push-clause-memory c =
     let p = err_from_is_err_and c.from_residual-in_err-push.result c.from_residual-in_err-push.ensures.1 in
     let rest = c.loop.rest.now in
-    rw (p.1, p.2) (first_is_wanted DeclarationsWant c.args.tokens.now rest c.loop.invariant.first (inr (is_right declaration_at rest (declaration_view c.in_ok-declaration.declaration, c.in_ok-declaration.after.now) c.in_ok-declaration.ensures.exact)))
+    rw (p.1, p.2) (first_is_wanted DeclarationsWant c.args.tokens.now rest c.loop.invariant.first (inr (is_right c.in_ok-declaration.ensures.exact)))

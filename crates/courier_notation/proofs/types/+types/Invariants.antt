@@ -1,20 +1,14 @@
-use Rattle.std.proofs.Common.{◌≡◌, ◌⊎◌, ◌-◌, ◌*◌, ◌+◌, IsOk}
+use Rattle.std.proofs.Common.{◌*◌, ◌+◌}
 use Rattle.courier_notation.specs.Written.{field_models, candidate_models}
-use Rattle.courier_notation.specs.Reading.{listed, most_parts, field_at, candidate_at, designator_at, name_at, type_at}
-use Rattle.courier_notation.proofs.Listing.{with_front}
+use Rattle.courier_notation.specs.Reading.{most_parts, field_at, candidate_at, designator_at, name_at, type_at}
+use Rattle.courier_notation.proofs.Listing.{IsReadTo}
 use Rattle.courier_notation.proofs.types.+types.Given as goal
 
 abbrev pub invariant-fields_of-loop : goal.invariant-fields_of-loop
-invariant-fields_of-loop l = record {
-  so_far : with_front (field_models l.fields.items) (listed (field_at (type_at l.depth)) (most_parts - l.counter) l.rest) ≡ listed (field_at (type_at l.depth)) most_parts l.fn.tokens;
-  first : (l.rest ≡ l.fn.tokens) ⊎ IsOk (name_at l.fn.tokens);
-}
+invariant-fields_of-loop l = IsReadTo (field_at (type_at l.depth)) name_at most_parts (field_models l.fields.items) l.counter l.rest l.fn.tokens
 
 abbrev pub invariant-candidates_of-loop : goal.invariant-candidates_of-loop
-invariant-candidates_of-loop l = record {
-  so_far : with_front (candidate_models l.candidates.items) (listed (candidate_at (type_at l.depth)) (most_parts - l.counter) l.rest) ≡ listed (candidate_at (type_at l.depth)) most_parts l.fn.tokens;
-  first : (l.rest ≡ l.fn.tokens) ⊎ IsOk (designator_at l.fn.tokens);
-}
+invariant-candidates_of-loop l = IsReadTo (candidate_at (type_at l.depth)) designator_at most_parts (candidate_models l.candidates.items) l.counter l.rest l.fn.tokens
 
 abbrev pub decreases-type_of : goal.decreases-type_of
 decreases-type_of l = 8 * l.depth
