@@ -1,8 +1,7 @@
 use Rattle.std.proofs.lemmas.Grind.{common_steps}
-use Rattle.std.proofs.Common.{◌++◌, length, arith}
+use Rattle.std.proofs.Common.{length, arith}
 use Rattle.courier_types.specs.Value.{value_models}
 use Rattle.courier_types.specs.Spelling.{values_spelling}
-use Rattle.courier_types.proofs.Loops.{item_here}
 use Rattle.courier_types.proofs.Writes.{count_models, puts_behind, one_counted, one_written, others_short, keeps_on}
 use Rattle.courier_types.proofs.writing.+write.Goals as goal
 
@@ -11,26 +10,16 @@ put_sequence-returns-clause-put t c =
     rw (count_models c.args.values.now) (puts_behind c.put_values.result c.args.out.now c.put_word.new.out c.put_values.new.out (length c.args.values.now) (values_spelling (value_models c.args.values.now)) c.in_ok-put_word.ensures.put.0 c.in_ok-put_word.ensures.put.1 c.put_word.ensures.kept.2 c.put_values.ensures.put)
 
 pub put_values-loop-value-preserved : goal.put_values-loop-value-preserved
-put_values-loop-value-preserved t c =
-    let l = c.loop-value in
-    let values = c.args.values.now in
-    let v = c.value-item.result in
-    let here = item_here values l.value-index v (omega arith) c.value-item.is in
-    let counted = one_counted values l.value-index v here in
-    record {
-      written = one_written l.out.items c.put_value.new.out.items (c.args.out.now.items ++ values_spelling (value_models values)) values l.value-index v here c.in_ok-put_value.ensures.put.0 l.invariant.written;
-      len = omega (arith, counted, c.in_ok-put_value.ensures.put.1, l.invariant.len);
-      kept = keeps_on c.args.out.now l.out c.put_value.new.out l.invariant.kept c.put_value.ensures.kept;
-      short = others_short values l.value-index v here l.invariant.short;
-    }
+put_values-loop-value-preserved t c = record {
+  written = one_written _ _ _ _ _ _ c.value-item.is c.loop-value-test.true c.in_ok-put_value.ensures.put.0 c.loop-value.invariant.written;
+  len = omega (arith, one_counted _ _ _ c.value-item.is c.loop-value-test.true, c.in_ok-put_value.ensures.put.1, c.loop-value.invariant.len);
+  kept = keeps_on c.args.out.now c.loop-value.out c.put_value.new.out c.loop-value.invariant.kept c.put_value.ensures.kept;
+  short = others_short _ _ _ c.value-item.is c.loop-value-test.true c.loop-value.invariant.short;
+}
 
 pub put_values-returns-in_err-put_value-clause-put : goal.put_values-returns-in_err-put_value-clause-put
 put_values-returns-in_err-put_value-clause-put t c =
-    let l = c.loop-value in
-    let values = c.args.values.now in
-    let v = c.value-item.result in
-    let counted = one_counted values l.value-index v (item_here values l.value-index v (omega arith) c.value-item.is) in
-    rw c.from_residual.ensures (omega (arith, counted, c.in_err-put_value.ensures.put, l.invariant.len, l.invariant.kept.2))
+    rw c.from_residual.ensures (omega (arith, one_counted _ _ _ c.value-item.is c.loop-value-test.true, c.in_err-put_value.ensures.put, c.loop-value.invariant.len, c.loop-value.invariant.kept.2))
 
 pub put_values-returns-in_err-put_value-clause-kept : goal.put_values-returns-in_err-put_value-clause-kept
 put_values-returns-in_err-put_value-clause-kept t c =
