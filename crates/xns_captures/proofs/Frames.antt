@@ -1,10 +1,10 @@
 -- What was read of a capture, as one more part is taken.
-use Rattle.std.proofs.Common.{◌≡◌, refl, ap, sym, ◌∙◌, subst, arith, ℕ, ◌+◌, ◌-◌, ◌≤◌, add-zero, take, drop, List, [], ◌∷◌, ◌++◌, length, append_assoc, append-nil, Option, Some, None}
+use Rattle.std.proofs.Common.{◌≡◌, refl, ap, sym, ◌∙◌, subst, arith, ℕ, ◌+◌, ◌-◌, ◌≤◌, ◌<◌, add-zero, take, drop, List, [], ◌∷◌, ◌++◌, length, append_assoc, append-nil, Option, Some, None}
 use Rattle.std.proofs.lemmas.List.{drop-drop, take-append-drop, take_rest}
 use Rattle.std.specs.Option.{option_or}
 use Rattle.xns_captures.specs.Captures.{Contents, FrameBytes, NumberedPacket, contents, contents_of, ends_with, frame_in, packets_in, stamp_of, with_frame, with_packet}
 use Rattle.xns_captures.specs.Links.{packet_of_frame}
-use Rattle.xns_captures.specs.Reading.{HasRead, HasStopped, Says, StandsAfter, StandsAfterPacket, StopsAtFrame, behind_frames, first_among}
+use Rattle.xns_captures.specs.Reading.{HasRead, HasStopped, IsOfNoLine, Says, StandsAfter, StandsAfterPacket, StopsAtFrame, behind_frames, first_among, most_frames}
 use Rattle.xns_captures.specs.declared.fault.CaptureFault.{CaptureFault}
 use Rattle.xns_captures.specs.declared.file_fault.FileFault.{FileFault}
 use Rattle.xns_captures.specs.declared.file_fault.FileFault.TheVariants.{Run, Capture, TooManyFrames}
@@ -130,32 +130,38 @@ stops_at_part old read bytes tail stands left why step h is_left = record {
   is_left = is_left;
 }
 
-pub stops_in_run : (old : Reading) (f : RunFault) (read kept : List ℕ) (stands left : Says)
+pub stops_in_run : (old : Reading) (f : RunFault) (read kept : List ℕ) (stands left : Says) → IsOfNoLine f
     → (h : HasRead old read kept stands) → left (packets_in None 1 h.frames) → HasStopped (Run f) read left
-stops_in_run old f read kept stands left h is_left = record {
+stops_in_run old f read kept stands left of_none h is_left = record {
   frames = h.frames;
   more = λ rest. rest_of old (kept ++ rest);
   whole = h.whole;
-  ends = tt;
+  ends = of_none;
   is_left = is_left;
 }
 
-stops_at_limit : (old : Reading) (read kept : List ℕ) (stands left : Says)
-    → (h : HasRead old read kept stands) → left (packets_in None 1 h.frames) → HasStopped TooManyFrames read left
-stops_at_limit old read kept stands left h is_left = record {
+-- a frame is there, as the part says
+a_frame_more : (rest more : Contents) (frame : FrameBytes) → rest ≡ with_frame frame more → 0 < length rest.frames
+a_frame_more rest more frame e = subst (λ (c : Contents). 0 < length c.frames) (sym e) (omega arith)
+
+stops_at_limit : (old : Reading) (read bytes tail : List ℕ) (stands left : Says) (frame : FrameBytes) (more : List ℕ → Contents)
+    → ((rest : List ℕ) → rest_of old (bytes ++ rest) ≡ with_frame frame (more rest))
+    → (h : HasRead old read (bytes ++ tail) stands) → most_frames ≤ old.count → left (packets_in None 1 h.frames)
+    → HasStopped TooManyFrames read left
+stops_at_limit old read bytes tail stands left frame more step h many is_left = record {
   frames = h.frames;
-  more = λ rest. rest_of old (kept ++ rest);
-  whole = h.whole;
-  ends = tt;
+  more = λ rest. rest_of old (bytes ++ (tail ++ rest));
+  whole = behind_part_in old read bytes tail stands h;
+  ends = (omega (arith, many, h.count), λ rest. a_frame_more _ (more (tail ++ rest)) frame (step (tail ++ rest)));
   is_left = is_left;
 }
 
-pub stops_behind_frame : (old : Reading) (f : RunFault) (read bytes tail : List ℕ) (stands left : Says) (frame : FrameBytes)
+pub stops_behind_frame : (old : Reading) (read bytes tail : List ℕ) (stands left : Says) (frame : FrameBytes)
     (more : List ℕ → Contents)
     → ((rest : List ℕ) → rest_of old (bytes ++ rest) ≡ with_frame frame (more rest))
     → (h : HasRead old read (bytes ++ tail) stands) → left (packets_in None 1 (h.frames ++ frame ∷ []))
-    → HasStopped (Run f) read left
-stops_behind_frame old f read bytes tail stands left frame more step h is_left = record {
+    → HasStopped (Run run.Write) read left
+stops_behind_frame old read bytes tail stands left frame more step h is_left = record {
   frames = h.frames ++ frame ∷ [];
   more = λ rest. more (tail ++ rest);
   whole = λ rest. behind_part_in old read bytes tail stands h rest ∙ ap (behind_frames h.frames) (step (tail ++ rest))
@@ -169,31 +175,28 @@ pub stops_at_frame : (fault : FileFault) (old : Reading) (read bytes tail : List
     (more : List ℕ → Contents)
     → ((rest : List ℕ) → rest_of old (bytes ++ rest) ≡ with_frame frame (more rest))
     → (h : HasRead old read (bytes ++ tail) stands)
-    → StopsAtFrame fault stands' fails (packets_in None 1 h.frames) (packets_in None 1 (h.frames ++ frame ∷ []))
+    → StopsAtFrame fault old.count stands' fails (packets_in None 1 h.frames) (packets_in None 1 (h.frames ++ frame ∷ []))
     → HasStopped fault read (StandsAfter fault stands' fails)
 stops_at_frame (Run run.Write) old read bytes tail stands stands' fails frame more step h is_left =
-    stops_behind_frame old run.Write read bytes tail stands fails frame more step h is_left
-stops_at_frame (Run run.Read) old read bytes tail stands stands' fails frame more step h is_left =
-    stops_in_run old run.Read read (bytes ++ tail) stands stands' h is_left
-stops_at_frame (Run run.LineTooLong) old read bytes tail stands stands' fails frame more step h is_left =
-    stops_in_run old run.LineTooLong read (bytes ++ tail) stands stands' h is_left
-stops_at_frame (Run run.TooManyLines) old read bytes tail stands stands' fails frame more step h is_left =
-    stops_in_run old run.TooManyLines read (bytes ++ tail) stands stands' h is_left
+    stops_behind_frame old read bytes tail stands fails frame more step h is_left
+stops_at_frame (Run run.Read) old read bytes tail stands stands' fails frame more step h is_left = absurd is_left
+stops_at_frame (Run run.LineTooLong) old read bytes tail stands stands' fails frame more step h is_left = absurd is_left
+stops_at_frame (Run run.TooManyLines) old read bytes tail stands stands' fails frame more step h is_left = absurd is_left
 stops_at_frame (Run run.NoMemory) old read bytes tail stands stands' fails frame more step h is_left =
-    stops_in_run old run.NoMemory read (bytes ++ tail) stands stands' h is_left
+    stops_in_run old run.NoMemory read (bytes ++ tail) stands stands' tt h is_left
 stops_at_frame (Capture why) old read bytes tail stands stands' fails frame more step h is_left = absurd is_left
 stops_at_frame TooManyFrames old read bytes tail stands stands' fails frame more step h is_left =
-    stops_at_limit old read (bytes ++ tail) stands stands' h is_left
+    stops_at_limit old read bytes tail stands stands' frame more step h is_left.0 is_left.1
 
 -- a taker's fault at the packet of a frame
-pub failed_at : (fault : RunFault) (stands fails : Says) (packets more : List NumberedPacket) (packet : NumberedPacket)
+pub failed_at : (fault : RunFault) (count : ℕ) (stands fails : Says) (packets more : List NumberedPacket) (packet : NumberedPacket)
     → more ≡ packets ++ packet ∷ [] → StandsAfterPacket fault stands fails packets packet
-    → StopsAtFrame (Run fault) stands fails packets more
-failed_at run.Write stands fails packets more packet e h = subst fails (sym e) h
-failed_at run.NoMemory stands fails packets more packet e h = h
-failed_at run.Read stands fails packets more packet e h = absurd h
-failed_at run.LineTooLong stands fails packets more packet e h = absurd h
-failed_at run.TooManyLines stands fails packets more packet e h = absurd h
+    → StopsAtFrame (Run fault) count stands fails packets more
+failed_at run.Write count stands fails packets more packet e h = subst fails (sym e) h
+failed_at run.NoMemory count stands fails packets more packet e h = h
+failed_at run.Read count stands fails packets more packet e h = absurd h
+failed_at run.LineTooLong count stands fails packets more packet e h = absurd h
+failed_at run.TooManyLines count stands fails packets more packet e h = absurd h
 
 -- the bytes of a frame, as a range
 pub same_frame : (frame : Frame) (bytes : List ℕ) (rest : Contents)

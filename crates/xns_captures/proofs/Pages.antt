@@ -23,9 +23,9 @@ pub stops_with : (fault : FileFault) (ends : EndCount NumberedPacket) (file : Li
     → StopsBy fault file (λ packets. left packets 0) → StopsWith fault ends file left
 stops_with (Capture why) ends file left h = h
 stops_with (Run f) ends file left h =
-    (h.0, 0, record { rest = h.1; joined = h.2; few = omega arith; place = inl refl }, h.3)
+    (h.0, h.1, 0, record { rest = h.2; joined = h.3; few = omega arith; place = inl refl }, h.4)
 stops_with TooManyFrames ends file left h =
-    (h.0, 0, record { rest = h.1; joined = h.2; few = omega arith; place = inl refl }, h.3)
+    (h.0, h.1, 0, record { rest = h.2; joined = h.3; few = omega arith; place = inl refl }, h.4)
 
 -- behind all packets
 at_end : (ends : EndCount NumberedPacket) (file : List ℕ) (part : ℕ) → part ≤ ends (packets_of file) → IsFront ends file (packets_of file) part
@@ -38,24 +38,24 @@ pub stops_in_end : (f : RunFault) (ends : EndCount NumberedPacket) (file : List 
 stops_in_end run.Read ends file stands fails h = absurd h.2
 stops_in_end run.LineTooLong ends file stands fails h = absurd h.2
 stops_in_end run.TooManyLines ends file stands fails h = absurd h.2
-stops_in_end run.NoMemory ends file stands fails h = (packets_of file, h.0, at_end ends file h.0 h.1, h.2)
-stops_in_end run.Write ends file stands fails h = (packets_of file, h.0, at_end ends file h.0 h.1, h.2)
+stops_in_end run.NoMemory ends file stands fails h = (tt, packets_of file, h.0, at_end ends file h.0 h.1, h.2)
+stops_in_end run.Write ends file stands fails h = (tt, packets_of file, h.0, at_end ends file h.0 h.1, h.2)
 
 stops_map : (fault : FileFault) (ends : EndCount NumberedPacket) (file : List ℕ) (L M : List NumberedPacket → ℕ → Type 0)
     → ((packets : List NumberedPacket) (part : ℕ) → L packets part → M packets part)
     → StopsWith fault ends file L → StopsWith fault ends file M
 stops_map (Capture why) ends file L M f h = (h.0, f (packets_of file) 0 h.1)
-stops_map (Run r) ends file L M f h = (h.0, h.1, h.2, f h.0 h.1 h.3)
-stops_map TooManyFrames ends file L M f h = (h.0, h.1, h.2, f h.0 h.1 h.3)
+stops_map (Run r) ends file L M f h = (h.0, h.1, h.2, h.3, f h.1 h.2 h.4)
+stops_map TooManyFrames ends file L M f h = (h.0, h.1, h.2, h.3, f h.1 h.2 h.4)
 
 -- after another fault a write fails
 stops_writing : (fault : FileFault) (ends : EndCount NumberedPacket) (file : List ℕ) (L M : List NumberedPacket → ℕ → Type 0)
     → ((packets : List NumberedPacket) (part : ℕ) → L packets part → M packets part)
     → StopsWith fault ends file L → StopsWith (Run run.Write) ends file M
 stops_writing (Capture why) ends file L M f h =
-    (packets_of file, 0, at_end ends file 0 (omega arith), f (packets_of file) 0 h.1)
-stops_writing (Run r) ends file L M f h = (h.0, h.1, h.2, f h.0 h.1 h.3)
-stops_writing TooManyFrames ends file L M f h = (h.0, h.1, h.2, f h.0 h.1 h.3)
+    (tt, packets_of file, 0, at_end ends file 0 (omega arith), f (packets_of file) 0 h.1)
+stops_writing (Run r) ends file L M f h = (tt, h.1, h.2, h.3, f h.1 h.2 h.4)
+stops_writing TooManyFrames ends file L M f h = (tt, h.1, h.2, h.3, f h.1 h.2 h.4)
 
 module _ (has_printed : List NumberedPacket → ℕ → Type 0) (text_of : TextWithEnd NumberedPacket) (has_refused : List NumberedPacket → ℕ → Bool) (ends : EndCount NumberedPacket)
     (p : Page) (is_lost : Bool) (before mid after : Option (List ℕ)) where
@@ -105,6 +105,7 @@ module _ (has_printed : List NumberedPacket → ℕ → Type 0) (text_of : TextW
 
   unflushed_all : (file : List ℕ) → AppendsPart mid after (whole p.text) → All file → StopsIn text_of ends (Run run.Write) file before after
   unflushed_all file part all = (
+    tt,
     packets_of file,
     ends (packets_of file),
     at_end ends file (ends (packets_of file)) (omega arith),
@@ -129,4 +130,4 @@ pub at_first : (text_of : TextWithEnd NumberedPacket) (ends : EndCount NumberedP
     → IfSome left (λ file. StopsIn text_of ends (Run run.NoMemory) file held held)
 at_first text_of ends None held none = tt
 at_first text_of ends (Some file) held none =
-    ([], 0, record { rest = packets_of file; joined = refl; few = omega arith; place = inl refl }, subst (Appends held held) (sym none) (appends_nothing held))
+    (tt, [], 0, record { rest = packets_of file; joined = refl; few = omega arith; place = inl refl }, subst (Appends held held) (sym none) (appends_nothing held))

@@ -1,12 +1,12 @@
 -- What a file holds, where its reading ends.
-use Rattle.std.proofs.Common.{◌≡◌, refl, ap, sym, ◌∙◌, subst, arith, ℕ, ◌+◌, ◌==◌, true, false, add-zero, List, [], ◌∷◌, ◌++◌, length, append_assoc, append-nil, Option, Some, None}
+use Rattle.std.proofs.Common.{◌≡◌, refl, ap, sym, ◌∙◌, subst, arith, ℕ, ◌+◌, ◌≤◌, ◌<◌, ◌==◌, true, false, add-zero, List, [], ◌∷◌, ◌++◌, length, length-append, append_assoc, append-nil, Option, Some, None}
 use Rattle.std.specs.Prelude.{IfSome}
 use Rattle.std.specs.Io.KnownBytes.{Consumes, IsAtEnd}
 use Rattle.std.proofs.lemmas.Bool.{eqb-false, eqb-true}
 use Rattle.std.specs.Option.{option_or}
-use Rattle.xns_captures.specs.Captures.{Contents, FrameBytes, NumberedPacket, contents, contents_of, ends_with, fault_of, packets_in, packets_of, stamp_of, with_packet}
+use Rattle.xns_captures.specs.Captures.{Contents, FrameBytes, NumberedPacket, contents, contents_of, ends_with, fault_of, frames_of, packets_in, packets_of, stamp_of, with_packet}
 use Rattle.xns_captures.specs.Links.{packet_of_frame}
-use Rattle.xns_captures.specs.Reading.{HasRead, HasStopped, Says, StandsAfter, StopsBy, behind_frames, end_in, first_among}
+use Rattle.xns_captures.specs.Reading.{HasRead, HasStopped, Says, StandsAfter, StopsBy, behind_frames, end_in, first_among, most_frames}
 use Rattle.xns_captures.specs.declared.fault.CaptureFault.{CaptureFault}
 use Rattle.xns_captures.specs.declared.fault.CaptureFault.TheVariants.{Cut}
 use Rattle.xns_lines.specs.declared.fault.RunFault.TheVariants as run
@@ -121,14 +121,21 @@ ended_short left after reading read kept why first stands consumed end rest has 
 
 -- ---- it stopped before the end
 
+-- behind as many frames as a capture has at most, there is one more
+too_many : (file : List ℕ) (frames : List FrameBytes) (more : Contents) → contents_of file ≡ behind_frames frames more
+    → most_frames ≤ length frames → 0 < length more.frames → most_frames < length (frames_of file)
+too_many file frames more e many some =
+    let all : frames_of file ≡ frames ++ more.frames = ap (λ c. c.frames) e ∙ frames-behind frames more in
+    omega (arith, ap length all, length-append frames more.frames, many, some)
+
 stopped : (fault : FileFault) (read xs : List ℕ) (left : Says) → HasStopped fault read left → StopsBy fault (read ++ xs) left
 stopped (Capture why) read xs left h =
     let e : contents_of (read ++ xs) ≡ behind_frames h.frames (ends_with (Some why)) = h.whole xs ∙ ap (behind_frames h.frames) (h.ends xs) in
     (fault-of (read ++ xs) h.frames (ends_with (Some why)) e, subst left (sym (packets-end (read ++ xs) h.frames (Some why) e)) h.is_left)
 stopped (Run fault) read xs left h =
-    (packets_in None 1 h.frames, packets_in (first_among None h.frames) (1 + length h.frames) (h.more xs).frames, sym (packets-of (read ++ xs) h.frames (h.more xs) (h.whole xs)), h.is_left)
+    (h.ends, packets_in None 1 h.frames, packets_in (first_among None h.frames) (1 + length h.frames) (h.more xs).frames, sym (packets-of (read ++ xs) h.frames (h.more xs) (h.whole xs)), h.is_left)
 stopped TooManyFrames read xs left h =
-    (packets_in None 1 h.frames, packets_in (first_among None h.frames) (1 + length h.frames) (h.more xs).frames, sym (packets-of (read ++ xs) h.frames (h.more xs) (h.whole xs)), h.is_left)
+    (too_many (read ++ xs) h.frames (h.more xs) (h.whole xs) h.ends.0 (h.ends.1 xs), packets_in None 1 h.frames, packets_in (first_among None h.frames) (1 + length h.frames) (h.more xs).frames, sym (packets-of (read ++ xs) h.frames (h.more xs) (h.whole xs)), h.is_left)
 
 pub stops_by : (fault : FileFault) (left after : Option (List ℕ)) (read : List ℕ) (first leaves : Option (List ℕ) → Says)
     → Consumes left after read

@@ -1,11 +1,12 @@
 -- What is printed of the packets of a capture and of its end, after a fault.
-use Rattle.std.specs.Prelude.{◌≡◌, ℕ, ◌≤◌, ◌⊎◌, ◌++◌, Bool, true, List, [], Option, Some}
+use Rattle.std.specs.Prelude.{◌≡◌, ℕ, ◌≤◌, ◌⊎◌, ◌++◌, Bool, true, List, [], Option}
 use Rattle.std.specs.Io.KnownBytes.{Appends}
 use Rattle.xns_lines.specs.Faults.{HasWritten}
 use Rattle.xns_lines.specs.Printing.{EndCount, TextWithEnd}
 use Rattle.xns_lines.specs.Report.{whole}
 use Rattle.xns_lines.specs.declared.page.Page.{Page}
-use Rattle.xns_captures.specs.Captures.{NumberedPacket, fault_of, packets_of}
+use Rattle.xns_captures.specs.Captures.{NumberedPacket, packets_of}
+use Rattle.xns_captures.specs.Reading.{IsJustified}
 use Rattle.xns_captures.specs.declared.file_fault.FileFault.{FileFault}
 use Rattle.xns_captures.specs.declared.file_fault.FileFault.TheVariants.{Run, Capture}
 
@@ -27,9 +28,9 @@ pub record IsFront (end_count : EndCount NumberedPacket) (file : List ℕ) (fron
 
 -- a fault of the capture comes behind all its packets and before the end, and any other behind a front of them
 abbrev pub StopsWith : FileFault → EndCount NumberedPacket → List ℕ → (List NumberedPacket → ℕ → Type 0) → Type 0
-StopsWith (Capture why) end_count file left = (fault_of file ≡ Some why) × left (packets_of file) 0
-StopsWith _ end_count file left =
-    (front : List NumberedPacket) × (part : ℕ) × IsFront end_count file front part × left front part
+StopsWith (Capture why) end_count file left = IsJustified (Capture why) file × left (packets_of file) 0
+StopsWith fault end_count file left =
+    IsJustified fault file × (front : List NumberedPacket) × (part : ℕ) × IsFront end_count file front part × left front part
 
 -- after a failed write a prefix of the text is written and not all, and else the text
 abbrev pub WritesBy : FileFault → Option (List ℕ) → Option (List ℕ) → List ℕ → Type 0

@@ -1,9 +1,9 @@
 -- What was read of a capture, between two parts and after a fault.
-use Rattle.std.specs.Prelude.{◌≡◌, ◌≤◌, ℕ, List, [], ◌∷◌, ◌++◌, length, take, Option, Some, None, Ok}
+use Rattle.std.specs.Prelude.{◌≡◌, ◌≤◌, ◌<◌, ℕ, List, [], ◌∷◌, ◌++◌, length, take, Option, Some, None, Ok}
 use Rattle.xns_lines.specs.declared.fault.RunFault.{RunFault}
 use Rattle.xns_lines.specs.declared.fault.RunFault.TheVariants as run
 use Rattle.std.specs.Option.{option_or}
-use Rattle.xns_captures.specs.Captures.{Contents, FrameBytes, NumberedPacket, contents, contents_of, end_of, ends_with, packets_in, packets_of, with_frame}
+use Rattle.xns_captures.specs.Captures.{Contents, FrameBytes, NumberedPacket, contents, contents_of, end_of, ends_with, frames_of, packets_in, packets_of, with_frame}
 use Rattle.xns_captures.specs.Captures.{fault_of}
 use Rattle.xns_captures.specs.declared.fault.CaptureFault.{CaptureFault}
 use Rattle.xns_captures.specs.declared.fault.CaptureFault.TheVariants.{Cut}
@@ -33,12 +33,13 @@ abbrev pub IfWants : RunFault → Type 0 → Type 0
 IfWants run.NoMemory wants = wants
 IfWants _ wants = Unit {0}
 
--- a fault at a frame: after a failed write its packet is taken, and else it is not
-abbrev pub StopsAtFrame : FileFault → Says → Says → List NumberedPacket → List NumberedPacket → Type 0
-StopsAtFrame (Run run.Write) stands fails packets more = fails more
-StopsAtFrame (Run _) stands fails packets more = stands packets
-StopsAtFrame TooManyFrames stands fails packets more = stands packets
-StopsAtFrame (Capture fault) stands fails packets more = ⊥
+-- a fault at a frame behind so many: after a failed write its packet is taken, and else it is not
+abbrev pub StopsAtFrame : FileFault → ℕ → Says → Says → List NumberedPacket → List NumberedPacket → Type 0
+StopsAtFrame (Run run.Write) count stands fails packets more = fails more
+StopsAtFrame (Run run.NoMemory) count stands fails packets more = stands packets
+StopsAtFrame (Run _) count stands fails packets more = ⊥
+StopsAtFrame TooManyFrames count stands fails packets more = (most_frames ≤ count) × stands packets
+StopsAtFrame (Capture fault) count stands fails packets more = ⊥
 
 -- what is left of a taker after a fault: after a failed write what `fails` says, else it stands for the packets
 abbrev pub StandsAfter : FileFault → Says → Says → List NumberedPacket → Type 0
@@ -66,8 +67,8 @@ abbrev pub behind_frames : List FrameBytes → Contents → Contents
 behind_frames [] rest = rest
 behind_frames (frame ∷ frames) rest = with_frame frame (behind_frames frames rest)
 
--- these bytes were read, of which the last were not taken yet: whatever comes behind them, the capture holds the frames that came and
--- what the rest holds, and the taker stands for the packets in these frames
+-- a reader has read these bytes, of which the last were not taken yet: whatever comes behind them, the capture holds the frames that came
+-- and what the rest holds, and the taker stands for the packets in these frames
 pub record HasRead (reading : Reading) (read kept : List ℕ) (stands : Says) : Type 0 where
   pub frames : List FrameBytes
   pub count : reading.count ≡ length frames
@@ -76,22 +77,34 @@ pub record HasRead (reading : Reading) (read kept : List ℕ) (stands : Says) : 
       → contents_of (read ++ rest) ≡ behind_frames frames (contents reading.format reading.interfaces.items (kept ++ rest))
   pub taken : stands (packets_in None 1 frames)
 
--- what the rest of a capture holds, where it can't be read on
-abbrev pub EndsBy : FileFault → (List ℕ → Contents) → Type 0
-EndsBy (Capture fault) more = (rest : List ℕ) → more rest ≡ ends_with (Some fault)
-EndsBy (Run fault) more = Unit {0}
-EndsBy TooManyFrames more = Unit {0}
+-- a capture has no lines, and so no limit of lines is passed
+abbrev pub IsOfNoLine : RunFault → Type 0
+IsOfNoLine run.LineTooLong = ⊥
+IsOfNoLine run.TooManyLines = ⊥
+IsOfNoLine _ = Unit {0}
 
--- it stopped by this fault behind some frames of the capture, and of the packets in these this is so
+-- what the rest of a capture holds behind some frames, where it can't be read on; behind as many frames as a capture has at most, there is one more
+abbrev pub EndsBy : FileFault → List FrameBytes → (List ℕ → Contents) → Type 0
+EndsBy (Capture fault) frames more = (rest : List ℕ) → more rest ≡ ends_with (Some fault)
+EndsBy (Run fault) frames more = IsOfNoLine fault
+EndsBy TooManyFrames frames more = (most_frames ≤ length frames) × ((rest : List ℕ) → 0 < length (more rest).frames)
+
+-- a reader has stopped by this fault behind some frames of the capture, and of the packets in these frames this is so
 pub record HasStopped (fault : FileFault) (read : List ℕ) (left : Says) : Type 0 where
   pub frames : List FrameBytes
   pub more : List ℕ → Contents
   pub whole : (rest : List ℕ) → contents_of (read ++ rest) ≡ behind_frames frames (more rest)
-  pub ends : EndsBy fault more
+  pub ends : EndsBy fault frames more
   pub is_left : left (packets_in None 1 frames)
+
+-- why it stopped: the capture can't be read on, or has too many frames
+abbrev pub IsJustified : FileFault → List ℕ → Type 0
+IsJustified (Capture fault) file = fault_of file ≡ Some fault
+IsJustified (Run fault) file = IsOfNoLine fault
+IsJustified TooManyFrames file = most_frames < length (frames_of file)
 
 -- a fault of the capture comes behind all its packets, and any other behind some of them
 abbrev pub StopsBy : FileFault → List ℕ → Says → Type 0
-StopsBy (Capture fault) file left = (fault_of file ≡ Some fault) × left (packets_of file)
-StopsBy _ file left =
-    (front : List NumberedPacket) × (rest : List NumberedPacket) × (front ++ rest ≡ packets_of file) × left front
+StopsBy (Capture fault) file left = IsJustified (Capture fault) file × left (packets_of file)
+StopsBy fault file left =
+    IsJustified fault file × (front : List NumberedPacket) × (rest : List NumberedPacket) × (front ++ rest ≡ packets_of file) × left front

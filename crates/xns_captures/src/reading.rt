@@ -1,5 +1,6 @@
 //! What is known of a capture while it is read.
 ghost use Rattle.std.specs.Prelude.{◌≡◌, ◌≤◌, ◌<◌, ◌+◌, ◌++◌, ◌∷◌, ℕ, List, [], Option, Ok, Some, None, IfErr, IfOk, IfSome, OnOk, length, take, drop};
+ghost use Rattle.std.specs.Option.{option_or};
 ghost use Rattle.xns_captures.specs.Captures.{FrameBytes, contents, ends_with, packets_in};
 ghost use Rattle.xns_captures.specs.Parts.{head_count, part_of, size_of};
 
@@ -31,6 +32,17 @@ pub(crate) struct Reading {
     count: usize,
     /// The first time that one of them has.
     first: Option<FrameTime>,
+}
+
+/// The first time, where there is one, and else the other. It is copied field by field, which is faster than a copy of all its bytes.
+#[inline(always)]
+fn first_of(first: Option<FrameTime>, time: Option<FrameTime>) -> Option<FrameTime>
+    ensures { result ≡ option_or first time }
+{
+    match first {
+        Some(FrameTime { count, resolution }) => Some(FrameTime { count, resolution }),
+        None => time,
+    }
 }
 
 impl Reading {
@@ -225,7 +237,7 @@ impl Reading {
             × T.stands taker.new before (W.contents writer.new) (packets_in None 1 (frames ++ (link, frame.now, time) ∷ []))) }
         ensures err { IfErr result (λ fault. (frames : List FrameBytes) (before : Option (List ℕ)) → self.old.count ≡ length frames
             → self.old.first ≡ first_among None frames → T.stands taker.old before (W.contents writer.old) (packets_in None 1 frames)
-            → StopsAtFrame fault (T.stands taker.new before (W.contents writer.new)) (T.fails taker.new before (W.contents writer.new))
+            → StopsAtFrame fault self.old.count (T.stands taker.new before (W.contents writer.new)) (T.fails taker.new before (W.contents writer.new))
             (packets_in None 1 frames) (packets_in None 1 (frames ++ (link, frame.now, time) ∷ []))) }
     {
         if self.count >= MOST_FRAMES {
@@ -234,7 +246,7 @@ impl Reading {
         let stamp = Stamp {
             number: self.count + 1,
             time,
-            first: self.first.or(time),
+            first: first_of(self.first, time),
         };
         let Some(packet) = packet_in(link, frame) else {
             self.note(stamp);

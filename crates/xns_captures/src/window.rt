@@ -52,7 +52,8 @@ impl Window {
     pub(crate) fn read_piece<R: Read>(&mut self, reader: &mut R) -> Result<usize, RunFault>
         ensures ok { IfOk result (λ count. (piece : List ℕ) × (self.new ≡ self.old ++ piece)
             × Consumes (R.remaining reader.old) (R.remaining reader.new) piece
-            × (count ≡ 0 → (piece ≡ []) × IsAtEnd (R.remaining reader.new))) }
+            × (count ≡ length piece)
+            × (count ≡ 0 → IsAtEnd (R.remaining reader.new))) }
         ensures err { IfErr result (λ fault. ((fault ≡ RunFault.NoMemory) ⊎ (fault ≡ RunFault.Read))
             × Keeps (R.remaining reader.old) (R.remaining reader.new)) }
     {

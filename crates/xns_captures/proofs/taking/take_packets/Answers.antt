@@ -1,7 +1,8 @@
 use Rattle.std.proofs.Common.{◌≡◌, ◌∙◌, ◌⊎◌, inl, inr, ap, sym, subst, append-nil, ◌++◌, drop, List, ℕ, [], None}
+use Rattle.std.proofs.lemmas.List.{nil_from_length}
 use Rattle.std.proofs.lemmas.Result.{err_from_is_err_and}
 use Rattle.xns_captures.specs.Captures.{ends_with, packets_in}
-use Rattle.xns_captures.specs.Reading.{HasRead, HasStopped, Says, StandsAfter}
+use Rattle.xns_captures.specs.Reading.{HasRead, HasStopped, IsOfNoLine, Says, StandsAfter}
 use Rattle.xns_captures.specs.declared.file_fault.FileFault.TheVariants.{Run}
 use Rattle.xns_captures.specs.declared.reading.Reading.{Reading}
 use Rattle.xns_lines.specs.declared.fault.RunFault.{RunFault}
@@ -26,9 +27,9 @@ file-init g c = (
 unread : (fault : RunFault) (reading : Reading) (read kept : List ℕ) (stands fails : Says) → (fault ≡ run.NoMemory) ⊎ (fault ≡ run.Read)
     → HasRead reading read kept stands → HasStopped (Run fault) read (StandsAfter (Run fault) stands fails)
 unread fault reading read kept stands fails (inl e) h =
-    subst (λ f. HasStopped (Run f) read (StandsAfter (Run f) stands fails)) (sym e) (stops_in_run reading run.NoMemory read kept _ _ h h.taken)
+    subst (λ f. HasStopped (Run f) read (StandsAfter (Run f) stands fails)) (sym e) (stops_in_run reading run.NoMemory read kept _ _ tt h h.taken)
 unread fault reading read kept stands fails (inr e) h =
-    subst (λ f. HasStopped (Run f) read (StandsAfter (Run f) stands fails)) (sym e) (stops_in_run reading run.Read read kept _ _ h h.taken)
+    subst (λ f. HasStopped (Run f) read (StandsAfter (Run f) stands fails)) (sym e) (stops_in_run reading run.Read read kept _ _ tt h h.taken)
 
 pub returns-in-Err-clause-err : goal.returns-in-Err-clause-err
 returns-in-Err-clause-err g c =
@@ -44,14 +45,14 @@ pub returns-then-count-eq0-clause-ok : goal.returns-then-count-eq0-clause-ok
 returns-then-count-eq0-clause-ok g c =
     let so_far = c.file.invariant in
     let more = c.in-Ok.ensures.ok in
-    let none = (more.3 c.if-count-eq0.true).0 in
+    let none = nil_from_length more.0 (sym more.3 ∙ c.if-count-eq0.true) in
     let kept = c.as_slice.ensures ∙ more.1 ∙ ap (λ piece. c.file.window ++ piece) none ∙ append-nil c.file.window in
     let whole = rw (kept, c.in_default.is) at c.end_fault.ensures in
     ended (g.R.Read.remaining c.args.reader.now) (g.R.Read.remaining c.read_piece.new.reader) c.file.reading so_far.0 c.file.window
     (λ before. g.T.PacketTaker.stands c.args.taker.now before (g.W.Write.contents c.args.writer.now))
     (λ before. g.T.PacketTaker.stands c.file.taker before (g.W.Write.contents c.file.writer))
     (consumes_none _ _ _ so_far.0 _ none so_far.1 more.2)
-    (more.3 c.if-count-eq0.true).1
+    (more.4 c.if-count-eq0.true)
     (so_far.3 ∙ ap ends_with (sym whole))
     so_far.2
 
@@ -59,14 +60,14 @@ pub returns-in-Some-clause-err : goal.returns-in-Some-clause-err
 returns-in-Some-clause-err g c =
     let so_far = c.file.invariant in
     let more = c.in-Ok.ensures.ok in
-    let none = (more.3 c.if-count-eq0.true).0 in
+    let none = nil_from_length more.0 (sym more.3 ∙ c.if-count-eq0.true) in
     let kept = c.as_slice.ensures ∙ more.1 ∙ ap (λ piece. c.file.window ++ piece) none ∙ append-nil c.file.window in
     let cut = rw (kept, c.in-Some.is) at c.end_fault.ensures in
     ended_short (g.R.Read.remaining c.args.reader.now) (g.R.Read.remaining c.read_piece.new.reader) c.file.reading so_far.0 c.file.window c.in-Some.fault
     (λ before. g.T.PacketTaker.stands c.args.taker.now before (g.W.Write.contents c.args.writer.now))
     (λ before. g.T.PacketTaker.stands c.file.taker before (g.W.Write.contents c.file.writer))
     (consumes_none _ _ _ so_far.0 _ none so_far.1 more.2)
-    (more.3 c.if-count-eq0.true).1
+    (more.4 c.if-count-eq0.true)
     (so_far.3 ∙ ap ends_with (sym cut))
     so_far.2
 
@@ -103,7 +104,7 @@ returns-in-Err-pause-clause-err g c =
     (anew c.file.reading (so_far.0 ++ more.0) (c.file.window ++ more.0) _ _ _
     (c.as_slice-in-file.ensures ∙ more.1)
     (grown c.file.reading so_far.0 c.file.window more.0 _ (so_far.2 before said)) (λ said'. said')) in
-    stops_in_run c.take_parts.new.self c.in-Err-pause.fault _ _ _ _ h
+    stops_in_run c.take_parts.new.self c.in-Err-pause.fault _ _ _ _ (subst IsOfNoLine (sym c.in-Err-pause.ensures.err.0) tt) h
     (paused c.in-Err-pause.fault _ _ _ c.in-Err-pause.ensures.err.0 (c.in-Err-pause.ensures.err.1 before (packets_in None 1 h.frames) h.taken)))
 
 pub file-preserved : goal.file-preserved
@@ -130,4 +131,4 @@ returns-clause-err g c =
     (λ before. g.T.PacketTaker.stands c.args.taker.now before (g.W.Write.contents c.args.writer.now))
     (λ before. g.T.PacketTaker.stands c.file.taker before (g.W.Write.contents c.file.writer))
     so_far.1
-    (λ before said. let h = so_far.2 before said in stops_in_run c.file.reading run.Read so_far.0 c.file.window _ _ h h.taken)
+    (λ before said. let h = so_far.2 before said in stops_in_run c.file.reading run.Read so_far.0 c.file.window _ _ tt h h.taken)

@@ -26,7 +26,7 @@ returns-in-Ok-push-clause-ok g c = λ read tail before h.
     ∙ ap (λ interfaces. contents c.args.self.now.format interfaces rest) (sym c.in-Ok-push.ensures.items)) h
 
 pub returns-in-Err-push-clause-err : goal.returns-in-Err-push-clause-err
-returns-in-Err-push-clause-err g c = λ read tail before h. stops_in_run c.args.self.now _ read (c.args.bytes.now ++ tail) _ _ h h.taken
+returns-in-Err-push-clause-err g c = λ read tail before h. stops_in_run c.args.self.now _ read (c.args.bytes.now ++ tail) _ _ tt h h.taken
 
 pub returns-in-Continues-clause-ok : goal.returns-in-Continues-clause-ok
 returns-in-Continues-clause-ok g c = λ read tail before h.

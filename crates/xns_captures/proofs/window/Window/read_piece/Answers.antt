@@ -1,5 +1,5 @@
-use Rattle.std.proofs.Common.{◌≡◌, ◌<◌, ◌∙◌, ◌++◌, ap, arith, ℕ, length, take, ◌+◌, ◌-◌, ◌≤◌}
-use Rattle.std.proofs.lemmas.List.{with_items_is}
+use Rattle.std.proofs.Common.{◌≡◌, ◌<◌, ◌∙◌, ◌++◌, ap, arith, sym, length, take, ◌+◌, ◌-◌, ◌≤◌}
+use Rattle.std.proofs.lemmas.List.{length-take-le, with_items_is}
 use Rattle.xns_captures.proofs.Windows.{length_written, read_behind}
 use Rattle.xns_captures.proofs.window.Window.read_piece.Goals as goal
 
@@ -18,5 +18,6 @@ returns-clause-ok g c =
       take count piece,
       ap (take (filled + count)) whole ∙ read_behind room piece _ filled count (omega (arith, fits)) c.in-Ok-read.ensures.bound.0 ∙ ap (λ bytes. bytes ++ take count piece) stays,
       c.in-Ok-read.ensures.bytes.0,
-      λ zero. (ap (λ (n : ℕ). take n piece) zero, c.in-Ok-read.ensures.bytes.1 zero some),
+      sym (length-take-le count piece c.in-Ok-read.ensures.bound.0),
+      λ zero. c.in-Ok-read.ensures.bytes.1 zero some,
     )
