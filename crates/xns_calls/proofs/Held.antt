@@ -1,32 +1,20 @@
--- An item that comes next of its flow is not kept longer than 64 packets of its connection.
+-- What a packet acknowledges ahead is waited for up to 64 packets of its connection, and no longer.
 use Rattle.std.proofs.Common.{◌≡◌, ◌∙◌, ap, sym, refl, subst, arith, inl, inr, ℕ, suc, ◌+◌, ◌-◌, ◌<◌, ◌≤◌, ◌==◌, ◌⊎◌, Bool, true, false, cond, List, [], ◌∷◌, ◌++◌, length, Option, Some, None}
 use Rattle.std.specs.Prelude.{nat_lt, max, not, option_map, slice_get}
 use Rattle.std.specs.Option.{unwrap_or}
 use Rattle.std.proofs.lemmas.Bool.Decides.{nat_tests}
-use Rattle.xns_idp.specs.Packet.{PacketModel}
 use Rattle.xns_spp.specs.declared.header.Header.{Header}
 use Rattle.xns_dump.specs.declared.flows.flow.Flow.{Flow}
-use Rattle.xns_calls.specs.Acknowledged.{acknowledged_of, ahead_of, aheads_in, beyond, due_in, effective, given_in, given_with, last_ahead, most_waited, nearer, new_ahead, noted, waiting, with_ahead}
-use Rattle.xns_calls.specs.Capture.{Known, after_in, new_connection}
-use Rattle.xns_calls.specs.Exchange.{Scene}
-use Rattle.xns_calls.specs.Held.{Handled, HasNotGoneBack, NextItemsAreNotHeldLonger, acknowledges, behind_all, handled_by, scene_behind, track_behind, with_all, with_handled}
-use Rattle.xns_calls.specs.InOrder.{CanBeRead, IsFree}
+use Rattle.xns_calls.specs.Acknowledged.{acknowledged_of, ahead_of, aheads_in, beyond, effective, given_in, given_with, last_ahead, most_waited, nearer, new_ahead, noted, waiting, with_ahead}
+use Rattle.xns_calls.specs.Capture.{new_connection}
+use Rattle.xns_calls.specs.Held.{Handled, acknowledges, behind_all, track_behind, with_all, with_handled}
 use Rattle.xns_calls.specs.Numbers.{near}
 use Rattle.xns_calls.specs.Over.{side_in}
-use Rattle.xns_calls.specs.Read.{settled}
-use Rattle.xns_calls.specs.Turns.{first_line, readable}
 use Rattle.xns_calls.specs.declared.ahead.Ahead.{Ahead}
 use Rattle.xns_calls.specs.declared.connection.Connection.{Connection}
-use Rattle.xns_calls.specs.declared.early.Early.{Early}
-use Rattle.xns_calls.specs.declared.given.Given.{Given}
-use Rattle.xns_calls.specs.declared.heading.Heading.{Heading}
-use Rattle.xns_calls.specs.declared.origin.Origin.{Origin}
 use Rattle.xns_calls.specs.declared.track.Track.{Track}
 use Rattle.xns_calls.proofs.Comparing.{le_tells, lt_tells}
-use Rattle.xns_calls.proofs.Histories.{known_come, with_both}
-use Rattle.xns_calls.proofs.InOrder.{can_so, in_turn, settled_left}
-use Rattle.xns_calls.proofs.Others.{get_same}
-use Rattle.xns_calls.proofs.Taken.{fused}
+use Rattle.xns_calls.proofs.Histories.{with_both}
 
 -- ---- acknowledgements take effect one after the other
 
@@ -183,17 +171,13 @@ new_waits track field n given xs apart at =
 
 -- ---- a connection
 
-abbrev given_of : Bool → Connection → ℕ
+abbrev pub given_of : Bool → Connection → ℕ
 given_of true c = c.second_given
 given_of false c = c.first_given
 
-given_other : (b : Bool) (c : Connection) → (given_in b c).other ≡ given_of (not b) c
+pub given_other : (b : Bool) (c : Connection) → (given_in b c).other ≡ given_of (not b) c
 given_other true c = refl
 given_other false c = refl
-
-given_own : (b : Bool) (c : Connection) → (given_in (not b) c).own ≡ given_of (not b) c
-given_own true c = refl
-given_own false c = refl
 
 -- what a packet of flow q adds to what is kept of flow d
 abbrev added : Bool → Bool → Header → Connection → Option ℕ
@@ -269,7 +253,7 @@ packet_waits packet c track n apart at is =
     added_is true at = ap (λ o. new_ahead o (aheads_in false c) packet.header.acknowledge) at
     added_is false at = ap (λ o. new_ahead o (aheads_in true c) packet.header.acknowledge) at
 
-given_then : (number : ℕ) (flow : Flow) (before more : List Handled) (packet : Handled) (track : Track) (n : ℕ)
+pub given_then : (number : ℕ) (flow : Flow) (before more : List Handled) (packet : Handled) (track : Track) (n : ℕ)
     → track_behind packet (behind_all number flow before) ≡ Some track → acknowledges packet (behind_all number flow before) ≡ Some n → most_waited ≤ length more
     → (n ≤ track.next) ⊎ (n ≤ given_of (not packet.is_behind) (behind_all number flow (before ++ packet ∷ more)))
 given_then number flow before more packet track n at is long = by_packet (packet_waits packet c track n apart at is)
@@ -294,71 +278,3 @@ given_then number flow before more packet track n at is long = by_packet (packet
         let last : WaitsIn 0 n d (with_all more c') = subst (λ j. WaitsIn j n d (with_all more c')) none (all_wait 64 n d more c' waits) in
         let taken : n ≤ given_of d (with_all more c') = waits_done n (given_of d (with_all more c')) (aheads_in d (with_all more c')) (all_apart d more c' (one_apart d packet c apart)) last in
         inr (subst (λ (x : Connection). n ≤ given_of d x) (sym (with_both before (packet ∷ more) (new_connection number flow))) taken)
-
--- ---- an item that comes next
-
--- an item waits for nothing once what its packet acknowledges is waited for no longer
-free_then : (old new : Option Track) (field given : ℕ) (a : Option ℕ) → a ≡ acknowledged_of old field → HasNotGoneBack old new
-    → ((track : Track) (n : ℕ) → old ≡ Some track → a ≡ Some n → (n ≤ track.next) ⊎ (n ≤ given)) → IsFree new given a
-free_then old None field given a is on waited = tt
-free_then old (Some new) field given None is on waited = tt
-free_then None (Some new) field given (Some n) is on waited = absurd (let wrong : Some n ≡ None = is in (cc))
-free_then (Some old) (Some new) field given (Some n) is on waited = by_wait (waited old n refl refl)
-  where
-    by_wait : (n ≤ old.next) ⊎ (n ≤ given) → IsFree (Some new) given (Some n)
-    by_wait (inl le) = let up : old.next ≤ new.next = on in inl (omega (arith, le, up))
-    by_wait (inr le) = inr (inl le)
-
-no_other_turn : (a b : Option ℕ) (line : ℕ) → b ≡ Some line → first_line a b ≡ None → ⊥
-no_other_turn None None line at is = (cc)
-no_other_turn (Some a) None line at is = (cc)
-no_other_turn None (Some b) line at is = (cc)
-no_other_turn (Some a) (Some b) line at is = (cc)
-
-left_behind : (h : Heading) (given : Given) (s : Scene) (track : Track) (early : Early) → (settled h given s).other.track ≡ Some track
-    → CanBeRead track (settled h given s).own.track given.own early → ⊥
-left_behind h given s track early at can =
-    let u = settled h given s in
-    no_other_turn (readable u.own.track u.other.track given.other) (readable u.other.track u.own.track given.own) early.item.line
-    (ap (λ o. readable o u.own.track given.own) at ∙ can_so track u.own.track given.own early can) (settled_left h given s)
-
--- ---- a packet of a connection
-
-handled_there : (n : Origin) (i : ℕ) (q : Bool) (packet : PacketModel) (f : Header) (content : List ℕ) (c : Connection) (k : Known) → slice_get k.connections i ≡ Some c
-    → slice_get (after_in n i q packet f content c k).connections i ≡ Some (with_handled (handled_by q f (scene_behind n q packet f content c k)) c)
-handled_there n i true packet f content c k there =
-    ap (λ (x : Known). slice_get x.connections i) (fused n i true packet f content c k there)
-    ∙ get_same k.connections i c (with_handled (handled_by true f (scene_behind n true packet f content c k)) c) there
-handled_there n i false packet f content c k there =
-    ap (λ (x : Known). slice_get x.connections i) (fused n i false packet f content c k there)
-    ∙ get_same k.connections i c (with_handled (handled_by false f (scene_behind n false packet f content c k)) c) there
-
-given_there : (q : Bool) (f : Header) (c : Connection) (s : Scene) → (due_in q f c).given ≡ given_in q (with_handled (handled_by q f s) c)
-given_there true f c s = refl
-given_there false f c s = refl
-
-pub not_held_longer : NextItemsAreNotHeldLonger
-not_held_longer = record {
-  packets = record { connection = handled_there; given = given_there; known = known_come };
-  waited = λ number flow before more packet track n at is long.
-      subst (λ g. (n ≤ track.next) ⊎ (n ≤ g)) (sym (given_other packet.is_behind (behind_all number flow (before ++ packet ∷ more))))
-      (given_then number flow before more packet track n at is long);
-  held = λ number flow before more packet h s track early rest long is at on first next.
-      let last = behind_all number flow (before ++ packet ∷ more) in
-      let c = behind_all number flow before in
-      let new = (settled h (given_in packet.is_behind last) s).other.track in
-      let free : IsFree new (given_of (not packet.is_behind) last) early.item.acknowledged =
-      free_then (track_behind packet c) new packet.header.acknowledge (given_of (not packet.is_behind) last) early.item.acknowledged is on
-      (λ old n there has. given_then number flow before more packet old n there (sym is ∙ has) long) in
-      in_turn.left h (given_in packet.is_behind last) s track early at
-      (record { rest = rest; first = first; next = next; free = subst (λ g. IsFree new g early.item.acknowledged) (sym (given_other packet.is_behind last)) free });
-  held_behind = λ number flow before more packet h s track early rest long is at on first next.
-      let last = behind_all number flow (before ++ packet ∷ more) in
-      let c = behind_all number flow before in
-      let new = (settled h (given_in (not packet.is_behind) last) s).own.track in
-      let free : IsFree new (given_of (not packet.is_behind) last) early.item.acknowledged =
-      free_then (track_behind packet c) new packet.header.acknowledge (given_of (not packet.is_behind) last) early.item.acknowledged is on
-      (λ old n there has. given_then number flow before more packet old n there (sym is ∙ has) long) in
-      left_behind h (given_in (not packet.is_behind) last) s track early at
-      (record { rest = rest; first = first; next = next; free = subst (λ g. IsFree new g early.item.acknowledged) (sym (given_own packet.is_behind last)) free });
-}

@@ -9,7 +9,7 @@ use Rattle.xns_dump.specs.declared.flows.flow.Flow.{Flow}
 use Rattle.xns_calls.specs.Anew.{begins_anew}
 use Rattle.xns_calls.specs.Calls.{known_from, known_of, line_taken, nothing_known}
 use Rattle.xns_calls.specs.Capture.{Known, after_at, after_in, after_place, after_sequenced, after_there, forgotten, is_behind_in, new_connection, place_of, renewed, renewed_there, with_new}
-use Rattle.xns_calls.specs.Held.{Handled, behind_all, handled_by, scene_behind, with_all, with_handled}
+use Rattle.xns_calls.specs.Held.{AreHandled, Handled, IsHandled, behind_all, handled_by, scene_behind, with_all, with_handled}
 use Rattle.xns_calls.specs.Naming.{Programs}
 use Rattle.xns_calls.specs.Origins.{line_origin}
 use Rattle.xns_calls.specs.declared.connection.Connection.{Connection}
@@ -22,22 +22,32 @@ pub with_both : (xs ys : List Handled) (c : Connection) → with_all (xs ++ ys) 
 with_both [] ys c = refl
 with_both (packet ∷ xs) ys c = with_both xs ys (with_handled packet c)
 
+pub both_handled : (xs ys : List Handled) (c : Connection) → AreHandled (xs ++ ys) c → AreHandled xs c × AreHandled ys (with_all xs c)
+both_handled [] ys c are = (tt, are)
+both_handled (packet ∷ xs) ys c are = let rest = both_handled xs ys (with_handled packet c) are.1 in ((are.0, rest.0), rest.1)
+
+one_more : (xs : List Handled) (packet : Handled) (c : Connection) → AreHandled xs c → IsHandled packet (with_all xs c) → AreHandled (xs ++ packet ∷ []) c
+one_more [] packet c are is = (is, tt)
+one_more (x ∷ xs) packet c are is = (are.0, one_more xs packet (with_handled x c) are.1 is)
+
 -- ---- one connection
 
 record Comes (c : Connection) : Type 0 where
   number : ℕ
   flow : Flow
   packets : List Handled
+  are : AreHandled packets (new_connection number flow)
   is : c ≡ behind_all number flow packets
 
 new_comes : (number : ℕ) (flow : Flow) → Comes (new_connection number flow)
-new_comes number flow = record { number = number; flow = flow; packets = []; is = refl }
+new_comes number flow = record { number = number; flow = flow; packets = []; are = tt; is = refl }
 
-comes_on : (packet : Handled) (c : Connection) → Comes c → Comes (with_handled packet c)
-comes_on packet c w = record {
+comes_on : (packet : Handled) (c : Connection) → IsHandled packet c → Comes c → Comes (with_handled packet c)
+comes_on packet c one w = record {
   number = w.number;
   flow = w.flow;
   packets = w.packets ++ packet ∷ [];
+  are = one_more w.packets packet (new_connection w.number w.flow) w.are (subst (IsHandled packet) w.is one);
   is = ap (with_handled packet) w.is ∙ sym (with_both w.packets (packet ∷ []) (new_connection w.number w.flow));
 }
 
@@ -79,7 +89,8 @@ at_comes n i flow packet f content k all = by_connection (slice_get k.connection
     by_connection (Some c) there =
         let q = is_behind_in flow c in
         let packet' = handled_by q f (scene_behind n q packet f content c k) in
-        subst AllCome (sym (in_connections n i q packet f content c k there)) (come_set k.connections i (with_handled packet' c) all (comes_on packet' c (all i c there)))
+        let one : IsHandled packet' c = record { origin = n; is_behind = q; header = f; sent = packet; content = content; known = k; is = refl } in
+        subst AllCome (sym (in_connections n i q packet f content c k there)) (come_set k.connections i (with_handled packet' c) all (comes_on packet' c one (all i c there)))
 
 renewed_come : (n : Origin) (i : ℕ) (flow : Flow) (f : Header) (k : Known) → AllCome k.connections → AllCome (renewed n i flow f k).connections
 unfolding renewed
@@ -123,5 +134,5 @@ module _ (programs : Programs) where
   lines_come n k (line ∷ lines) all = lines_come (n + 1) (line_taken programs n line k) lines (line_comes n k line all)
 
   pub known_come : (lines : List (List ℕ)) (i : ℕ) (c : Connection) → slice_get (known_of programs lines).connections i ≡ Some c
-      → (number : ℕ) × (flow : Flow) × (packets : List Handled) × (c ≡ behind_all number flow packets)
-  known_come lines i c there = let w = lines_come 1 nothing_known lines none_come i c there in (w.number, w.flow, w.packets, w.is)
+      → (number : ℕ) × (flow : Flow) × (packets : List Handled) × AreHandled packets (new_connection number flow) × (c ≡ behind_all number flow packets)
+  known_come lines i c there = let w = lines_come 1 nothing_known lines none_come i c there in (w.number, w.flow, w.packets, w.are, w.is)

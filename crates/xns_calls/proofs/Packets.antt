@@ -102,7 +102,7 @@ unfolding advanced
 own_event h None s track e = sym (put_back s track e)
 own_event h (Some n) s track e = ap (λ o. advance_track h n o s) e
 
-own_reached_event : (h : Heading) (number : Option ℕ) (s : Scene) (track : Track) → s.own.track ≡ Some track
+pub own_reached_event : (h : Heading) (number : Option ℕ) (s : Scene) (track : Track) → s.own.track ≡ Some track
     → own_reached h number s ≡ after_told (after_events (acknowledged_event h number) (told_of track s)) s
 unfolding own_reached
 own_reached_event h number s track e = ap (λ o. advance_own h (reached o number) s) e ∙ of_number number

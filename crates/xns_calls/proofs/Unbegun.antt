@@ -131,7 +131,7 @@ own_waits n i b packet f content c k all none e =
     }
 
 -- a data packet of its own, with which the flow begins
-data_new : (h : Heading) (a : Option ℕ) (packet : PacketModel) (f : Header) (content : List ℕ) (s : Scene) → s.own.track ≡ None → after_data h a packet f content s ≡ take_number h f (carried h a f content) (begin_track h packet f None s)
+pub data_new : (h : Heading) (a : Option ℕ) (packet : PacketModel) (f : Header) (content : List ℕ) (s : Scene) → s.own.track ≡ None → after_data h a packet f content s ≡ take_number h f (carried h a f content) (begin_track h packet f None s)
 unfolding after_data begun
 data_new h a packet f content s none = ap (λ o. take_number h f (carried h a f content) (begin_track h packet f o s)) none
 

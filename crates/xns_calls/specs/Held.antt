@@ -1,5 +1,5 @@
 -- How many items a flow keeps, which, and how long.
-use Rattle.std.specs.Prelude.{◌≡◌, ℕ, ◌+◌, ◌≤◌, ◌⊎◌, Bool, true, false, not, List, [], ◌∷◌, ◌++◌, length, slice_get, Option, Some, None}
+use Rattle.std.specs.Prelude.{◌≡◌, ℕ, ◌+◌, ◌<◌, ◌≤◌, ◌⊎◌, Bool, true, false, not, List, [], ◌∷◌, ◌++◌, length, slice_get, Option, Some}
 use Rattle.xns_idp.specs.Packet.{PacketModel}
 use Rattle.xns_spp.specs.Ends.{most_pending}
 use Rattle.xns_spp.specs.declared.header.Header.{Header}
@@ -7,14 +7,14 @@ use Rattle.xns_dump.specs.declared.flows.flow.Flow.{Flow}
 use Rattle.xns_calls.specs.Acknowledged.{acknowledged_in, due_in, given_in, most_waited, noted}
 use Rattle.xns_calls.specs.Calls.{known_of}
 use Rattle.xns_calls.specs.Capture.{Known, after_in, heading_at, new_connection, repeats_told, scene_in}
-use Rattle.xns_calls.specs.Exchange.{Scene}
+use Rattle.xns_calls.specs.Exchange.{Scene, carried}
 use Rattle.xns_calls.specs.Naming.{Programs}
 use Rattle.xns_calls.specs.Numbers.{most_early}
 use Rattle.xns_calls.specs.Over.{side_in}
-use Rattle.xns_calls.specs.Read.{handled, settled}
+use Rattle.xns_calls.specs.Read.{handled}
+use Rattle.xns_calls.specs.declared.carried.Carried.{Carried}
 use Rattle.xns_calls.specs.declared.connection.Connection.{Connection}
 use Rattle.xns_calls.specs.declared.early.Early.{Early}
-use Rattle.xns_calls.specs.declared.heading.Heading.{Heading}
 use Rattle.xns_calls.specs.declared.origin.Origin.{Origin}
 use Rattle.xns_calls.specs.declared.side.Side.{Side}
 use Rattle.xns_calls.specs.declared.track.Track.{Track}
@@ -62,12 +62,6 @@ acknowledges packet connection = acknowledged_in packet.is_behind packet.header 
 abbrev pub track_behind : Handled → Connection → Option Track
 track_behind packet connection = (side_in (not packet.is_behind) connection).track
 
--- the next item of a flow that has begun is none before the one that was next
-abbrev pub HasNotGoneBack : Option Track → Option Track → Type 0
-HasNotGoneBack None new = Unit {0}
-HasNotGoneBack (Some old) None = Unit {0}
-HasNotGoneBack (Some old) (Some new) = old.next ≤ new.next
-
 -- a packet of a flow, with the scene that it leaves, seen from that flow
 abbrev pub handled_by : Bool → Header → Scene → Handled
 handled_by true f s = record { is_behind = true; header = f; first = s.other; second = s.own }
@@ -78,32 +72,58 @@ abbrev pub scene_behind : Origin → Bool → PacketModel → Header → List �
 scene_behind n is_behind packet f content c k =
     handled (heading_at n c.number is_behind) (due_in is_behind f c) packet f content (scene_in is_behind c (repeats_told n is_behind f c k))
 
+-- a packet was handled as one of a connection, at some line or frame and with some content
+pub record IsHandled (packet : Handled) (connection : Connection) : Type 0 where
+  pub origin : Origin
+  pub is_behind : Bool
+  pub header : Header
+  pub sent : PacketModel
+  pub content : List ℕ
+  pub known : Known
+  pub is : packet ≡ handled_by is_behind header (scene_behind origin is_behind sent header content connection known)
+
+-- packets were handled one after the other, the first as one of a connection, and each of the others as one of what the last one left
+abbrev pub AreHandled : List Handled → Connection → Type 0
+AreHandled [] connection = Unit {0}
+AreHandled (packet ∷ more) connection = IsHandled packet connection × AreHandled more (with_handled packet connection)
+
+-- the item of a packet, with what the packet acknowledges and the line or frame that brought it
+abbrev pub item_of : (packet : Handled) (connection : Connection) → IsHandled packet connection → Carried
+item_of packet connection w = carried (heading_at w.origin connection.number w.is_behind) (acknowledged_in w.is_behind w.header connection) w.header w.content
+
+-- an item of a flow came with one of the packets that were handled as those of a connection, which is a packet of the flow
+pub record CameWith (is_behind : Bool) (packets : List Handled) (connection : Connection) (item : Carried) : Type 0 where
+  pub before : List Handled
+  pub packet : Handled
+  pub more : List Handled
+  pub are : packets ≡ before ++ packet ∷ more
+  pub handled : IsHandled packet (with_all before connection)
+  pub own : handled.is_behind ≡ is_behind
+  pub brought : item ≡ item_of packet (with_all before connection) handled
+
 -- behind whatever lines each connection that is known has come from a new one by packets that were handled, as the packets of the
 -- connection are; what is read with one goes by what is given behind it
 pub record PacketsAreHandled : Type 0 where
   pub known : (programs : Programs) (lines : List (List ℕ)) (i : ℕ) (c : Connection) → slice_get (known_of programs lines).connections i ≡ Some c
-      → (number : ℕ) × (flow : Flow) × (packets : List Handled) × (c ≡ behind_all number flow packets)
+      → (number : ℕ) × (flow : Flow) × (packets : List Handled) × AreHandled packets (new_connection number flow) × (c ≡ behind_all number flow packets)
   pub connection : (n : Origin) (i : ℕ) (is_behind : Bool) (packet : PacketModel) (f : Header) (content : List ℕ) (c : Connection) (k : Known) → slice_get k.connections i ≡ Some c
       → slice_get (after_in n i is_behind packet f content c k).connections i ≡ Some (with_handled (handled_by is_behind f (scene_behind n is_behind packet f content c k)) c)
   pub given : (is_behind : Bool) (f : Header) (c : Connection) (s : Scene) → (due_in is_behind f c).given ≡ given_in is_behind (with_handled (handled_by is_behind f s) c)
 
 -- the items of the flow behind that a packet acknowledges were read when it came, or are waited for no longer behind the 64th packet of
--- the connection after it. The packet's item is not kept longer, where it comes next of its flow: what is read then is seen from that flow,
--- or from the flow behind
+-- the connection after it. Behind that packet no item that waits for no more than these comes next of its flow and is still kept. So an item
+-- that comes next of its flow and is still kept came with a packet of the flow after which fewer than 64 packets of the connection came
 pub record NextItemsAreNotHeldLonger : Type 0 where
   pub packets : PacketsAreHandled
   pub waited : (number : ℕ) (flow : Flow) (before more : List Handled) (packet : Handled) (track : Track) (n : ℕ)
       → track_behind packet (behind_all number flow before) ≡ Some track → acknowledges packet (behind_all number flow before) ≡ Some n → most_waited ≤ length more
       → (n ≤ track.next) ⊎ (n ≤ (given_in packet.is_behind (behind_all number flow (before ++ packet ∷ more))).other)
-  pub held : (number : ℕ) (flow : Flow) (before more : List Handled) (packet : Handled) (h : Heading) (s : Scene) (track : Track) (early : Early) (rest : List Early)
-      → most_waited ≤ length more → early.item.acknowledged ≡ acknowledges packet (behind_all number flow before)
-      → (settled h (given_in packet.is_behind (behind_all number flow (before ++ packet ∷ more))) s).own.track ≡ Some track
-      → HasNotGoneBack (track_behind packet (behind_all number flow before))
-      (settled h (given_in packet.is_behind (behind_all number flow (before ++ packet ∷ more))) s).other.track
+  pub held : (number : ℕ) (flow : Flow) (before more : List Handled) (packet : Handled) (track : Track) (early : Early) (rest : List Early)
+      → AreHandled (before ++ packet ∷ more) (new_connection number flow) → most_waited ≤ length more
+      → early.item.acknowledged ≡ acknowledges packet (behind_all number flow before)
+      → (side_in packet.is_behind (behind_all number flow (before ++ packet ∷ more))).track ≡ Some track
       → track.early ≡ early ∷ rest → early.number ≤ track.next → ⊥
-  pub held_behind : (number : ℕ) (flow : Flow) (before more : List Handled) (packet : Handled) (h : Heading) (s : Scene) (track : Track) (early : Early) (rest : List Early)
-      → most_waited ≤ length more → early.item.acknowledged ≡ acknowledges packet (behind_all number flow before)
-      → (settled h (given_in (not packet.is_behind) (behind_all number flow (before ++ packet ∷ more))) s).other.track ≡ Some track
-      → HasNotGoneBack (track_behind packet (behind_all number flow before))
-      (settled h (given_in (not packet.is_behind) (behind_all number flow (before ++ packet ∷ more))) s).own.track
-      → track.early ≡ early ∷ rest → early.number ≤ track.next → ⊥
+  pub late : (number : ℕ) (flow : Flow) (packets : List Handled) (is_behind : Bool) (track : Track) (early : Early) (rest : List Early)
+      → AreHandled packets (new_connection number flow) → (side_in is_behind (behind_all number flow packets)).track ≡ Some track
+      → track.early ≡ early ∷ rest → early.number ≤ track.next
+      → (came : CameWith is_behind packets (new_connection number flow) early.item) × (length came.more < most_waited)

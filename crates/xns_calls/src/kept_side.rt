@@ -50,6 +50,7 @@ fn boxed_none(alloc: Global) -> Result<Box<Side>, AllocError>
 }
 
 /// Takes a packet of a flow where the one behind it has not begun.
+#[inline(always)]
 fn take_alone(
     scratch: &mut Scratch,
     page: &mut Page,

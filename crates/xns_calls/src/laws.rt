@@ -71,8 +71,9 @@ pub fn few_items_are_kept()
     flows_are_told_apart();
 }
 
-/// What a packet acknowledges of the flow behind is waited for up to the 64th packet of its connection after it, and no longer. Where the
-/// packet's item comes next of its flow, the item is kept no longer than that. An item behind a gap may be kept longer.
+/// What a packet acknowledges of the flow behind is waited for up to the 64th packet of its connection after it, and no longer. No packet
+/// takes a flow back. So an item that comes next of its flow is read with the 64th packet of its connection after its own at the latest,
+/// whatever packets come. An item behind a gap may be kept longer.
 pub fn next_items_are_not_held_longer()
     ensures { NextItemsAreNotHeldLonger }
 {}
@@ -120,6 +121,7 @@ pub fn whole_flows_say_their_conversation()
 /// So it is in the text of a whole input, whatever other lines and flows it has. The text is made of parts, each of one flow
 /// or of a line that was refused. Those of such a flow say that it begins, and then the messages of its conversation, in
 /// order, up to the first fault. Without a fault nothing else is said of it but that 64 repeats came in a row, so no item is called missing.
+/// The law leaves open with which number, call and names a message's line speaks of it: those are in the text, which `calls` gives exactly.
 pub fn inputs_tell_their_conversations()
     ensures { InputsTellTheirConversations }
 {
