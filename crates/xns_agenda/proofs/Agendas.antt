@@ -1,19 +1,15 @@
 -- Where nobody has a turn, and where the earliest time stands.
-use Rattle.std.proofs.Common.{◌≡◌, ◌∙◌, ◌⊎◌, inl, inr, ap, refl, subst, sym, ℕ, zero, suc, ◌<◌, ◌≤◌, Bool, true, false, List, [], ◌∷◌, length, get_or, slice_get, Option, Some, None, arith}
+use Rattle.std.proofs.Common.{◌≡◌, ◌∙◌, ◌⊎◌, inl, inr, ap, refl, subst, sym, ℕ, ◌<◌, ◌≤◌, Bool, true, false, List, length, get_or, slice_get, Option, Some, None, arith}
 use Rattle.std.specs.Prelude.{IfSome, if◌then◌else◌, nat_le}
 use Rattle.std.specs.Option.{is_some}
 use Rattle.std.proofs.lemmas.Option.{slice_get-get_or, slice_get_within}
 use Rattle.xns_agenda.specs.Times.{HasEarliest, IsBy, IsEarliest, sooner}
 use Rattle.xns_agenda.specs.Agenda.{GivesWay, longest_closed, longest_silent, IsWake, IsWanted, asked_at, packet_waits, event_waits, is_due, number_in}
 use Rattle.xns_agenda.specs.Turns.{HasNoTurn, Line, IsFirst, has_turn}
+use Rattle.xns_agenda.proofs.Putting.{within}
 use Rattle.xns_agenda.proofs.Tree.{left_by, right_by}
 use Rattle.xns_agenda.specs.declared.way.Way.{Way}
 use Rattle.xns_agenda.specs.declared.way.Way.TheVariants.{Lingers, Stranger, Nobody}
-
-pub within : (xs : List (Option ℕ)) (k : ℕ) → is_some (get_or xs k None) ≡ true → k < length xs
-within [] k has = absurd (cc)
-within (x ∷ xs) zero has = omega arith
-within (x ∷ xs) (suc k) has = let less = within xs k has in omega (arith, less)
 
 nobody_at : (xs : List (Option ℕ)) (k : ℕ) (o : Option ℕ) → HasEarliest xs None → get_or xs k None ≡ o → k < length xs → is_some o ≡ true → ⊥
 nobody_at xs k None none is less has = absurd (cc)

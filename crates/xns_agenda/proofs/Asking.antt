@@ -12,7 +12,7 @@ use Rattle.xns_agenda.specs.declared.due.Due.TheVariants.{AskAt}
 use Rattle.xns_agenda.specs.declared.pace.Pace.{Pace}
 use Rattle.xns_agenda.specs.declared.smoothed.Smoothed.{Smoothed}
 use Rattle.xns_agenda.proofs.Measures.{patient, tried, waits_grow}
-use Rattle.xns_agenda.proofs.Patience.{Goes, all_borne, given_up, goes_on, later_by, length_after, over, time_after}
+use Rattle.xns_agenda.proofs.Patience.{Goes, all_borne, given_up, goes_first, goes_on, later_by, length_after, over, time_after}
 
 -- ---- no wait is longer than the longest
 
@@ -31,21 +31,11 @@ abbrev IsAsked : (span : ℕ) → Waiting → ℕ → Waiting → Type 0
 IsAsked span w = Goes AskAt w.heard_at span (first_wait w.measure w.pace) w
 
 asked_first : (span : ℕ) (w : Waiting) → IsAsked span w 0 (record (rested w) { due = AskAt (later w.heard_at span) })
-unfolding length_after waits_time
-asked_first span w = record {
-  pace = refl;
-  measure = refl;
-  misses = omega arith;
-  length = refl;
-  until = later w.heard_at span;
-  due = refl;
-  late = omega arith;
-}
+asked_first span w = goes_first AskAt w.heard_at span _ w _ refl refl refl refl refl
 
 asked_again : (span : ℕ) (w v : Waiting) (n now : ℕ) → IsAsked span w n v → act_at v now ≡ Ask → IsAsked span w (n + 1) (after_by v Ask now)
 asked_again span w v n now before is =
-    let test : act_by v (AskAt before.until) now ≡ Ask = ap (λ (d : Due). act_by v d now) (sym before.due) ∙ is in
-    let more = over Ask (λ e. absurd (cc)) (nat_le before.until now) v before.until now refl test in
+    let more = over Ask (λ e. absurd (cc)) (nat_le before.until now) v before.until now refl (ap (λ (d : Due). act_by v d now) (sym before.due) ∙ is) in
     goes_on AskAt w.heard_at span _ w v (after_by v Ask now) n now before more refl refl refl refl refl
 
 is_asked : {span : ℕ} {w : Waiting} {n : ℕ} {v : Waiting} → Asked span w n v → IsAsked span w n v

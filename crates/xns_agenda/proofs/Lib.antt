@@ -7,7 +7,7 @@ mod Later
 mod Measures
 mod Mending
 mod Patience
-mod Putting
+pub mod Putting
 mod Repeats
 mod Silent
 mod Thirds

@@ -64,6 +64,20 @@ pub record Goes (at : ℕ → Due) (start span first : ℕ) (w : Waiting) (n : �
   pub due : v.due ≡ at until
   pub late : later start (span + waits_time w.pace first n) ≤ until
 
+-- the first wait
+pub goes_first : (at : ℕ → Due) (start span first : ℕ) (w v : Waiting) → v.pace ≡ w.pace → v.measure ≡ w.measure → v.misses ≡ w.misses → v.length ≡ first
+    → v.due ≡ at (later start span) → Goes at start span first w 0 v
+unfolding length_after waits_time
+goes_first at start span first w v pace measure misses length due = record {
+  pace = pace;
+  measure = measure;
+  misses = omega (arith, misses);
+  length = length;
+  until = later start span;
+  due = due;
+  late = omega arith;
+}
+
 later_on : (start time until now length : ℕ) → later start time ≤ until → until ≤ now → later start (time + length) ≤ later now length
 later_on start time until now length late more = grind arith
 
@@ -101,21 +115,11 @@ abbrev Waited : (start : ℕ) → Waiting → ℕ → Waiting → Type 0
 Waited start w = Goes AgainAt start (first_wait w.measure w.pace) (next_length w.pace (first_wait w.measure w.pace)) w
 
 begun_at : (start : ℕ) (w : Waiting) (out : ℕ) → Waited start w 0 (timed w out start)
-unfolding length_after waits_time
-begun_at start w out = record {
-  pace = refl;
-  measure = refl;
-  misses = omega arith;
-  length = refl;
-  until = later start (first_wait w.measure w.pace);
-  due = refl;
-  late = omega arith;
-}
+begun_at start w out = goes_first AgainAt start _ _ w _ refl refl refl refl refl
 
 sent_again : (start : ℕ) (w v : Waiting) (n now : ℕ) → Waited start w n v → act_at v now ≡ Again → Waited start w (n + 1) (after_by v Again now)
 sent_again start w v n now before is =
-    let test : act_by v (AgainAt before.until) now ≡ Again = ap (λ (d : Due). act_by v d now) (sym before.due) ∙ is in
-    let more = over Again (λ e. absurd (cc)) (nat_le before.until now) v before.until now refl test in
+    let more = over Again (λ e. absurd (cc)) (nat_le before.until now) v before.until now refl (ap (λ (d : Due). act_by v d now) (sym before.due) ∙ is) in
     goes_on AgainAt start _ _ w v (after_by v Again now) n now before more refl refl refl refl refl
 
 -- what is timed may begin while something waits
@@ -142,12 +146,12 @@ waited {start = start} {w = w} (sends {n = n} {v = v} before now is) =
 
 -- ---- who is given up
 
+pub later_by : (start a b until now : ℕ) → a ≤ b → later start b ≤ until → until ≤ now → later start a ≤ now
+later_by start a b until now less late over = grind arith
+
 pub record Early (start : ℕ) (w : Waiting) (n now : ℕ) : Type 0 where
   pub tries : w.pace.tries ≤ n
   pub patience : n < most_borne → later start w.pace.patience ≤ now
-
-pub later_by : (start a b until now : ℕ) → a ≤ b → later start b ≤ until → until ≤ now → later start a ≤ now
-later_by start a b until now less late over = grind arith
 
 pub not_early : (w v : Waiting) (start n now : ℕ) → w.misses ≡ 0 → Vain start w n v → act_at v now ≡ GiveUp → Early start w n now
 unfolding waits_time

@@ -1,6 +1,7 @@
 -- A list of which one place is set.
-use Rattle.std.proofs.Common.{◌≡◌, ◌≢◌, ◌∙◌, ◌⊎◌, ap, refl, ℕ, zero, suc, ◌<◌, List, [], ◌∷◌, length, Option, Some, slice_get, arith}
+use Rattle.std.proofs.Common.{◌≡◌, ◌≢◌, ◌∙◌, ◌⊎◌, ap, refl, ℕ, zero, suc, ◌<◌, true, List, [], ◌∷◌, length, get_or, Option, Some, None, slice_get, arith}
 use Rattle.std.specs.Prelude.{slice_set}
+use Rattle.std.specs.Option.{is_some}
 use Rattle.std.proofs.lemmas.List.{get_or-set_same, length-set}
 use Rattle.std.proofs.lemmas.Option.{slice_get-get_or}
 
@@ -19,3 +20,9 @@ place_other (x ∷ xs) (suc n) (suc k) v other = place_other xs n k v (λ e. oth
 
 pub one_place : {X : Type 0} (a b : X) (o : Option X) → o ≡ Some a → o ≡ Some b → a ≡ b
 one_place a b o left right = cc
+
+-- who has something in a list has a place in it
+pub within : {X : Type 0} (xs : List (Option X)) (k : ℕ) → is_some (get_or xs k None) ≡ true → k < length xs
+within [] k has = absurd (cc)
+within (x ∷ xs) zero has = omega arith
+within (x ∷ xs) (suc k) has = let less = within xs k has in omega (arith, less)

@@ -172,20 +172,22 @@ Above tree times f t = (p : ℕ) → p ≤ f → 1 ≤ p → p < length tree + l
 is_sooner : (tree times : List Time) → IsTree tree times → (p : ℕ) → 1 ≤ p → p < length tree → node tree times p ≡ sooner (node tree times (2 * p)) (node tree times (2 * p + 1))
 is_sooner tree times h p least inside = inner tree times p inside ∙ h.rule p least inside
 
+up_by : (tree times : List Time) → IsTree tree times → (f i t : ℕ) → i ≤ suc f → 2 ≤ i → i < length tree + length times → Above tree times f t
+    → (p : ℕ) → 2 * p ≤ i → i ≤ 2 * p + 1 → IsBy (sooner (node tree times (2 * p)) (node tree times (2 * p + 1))) t → IsBy (node tree times 1) t
+up_by tree times h f i t less two within above p from to is =
+    let same : length tree ≡ length times = h.same in
+    let inside : p < length tree = omega (arith, from, within, same) in
+    let least : 1 ≤ p = omega (arith, to, two) in
+    above p (omega (arith, from, less, least)) least (omega (arith, inside)) (subst (λ (x : Time). IsBy x t) (sym (is_sooner tree times h p least inside)) is)
+
 up : (tree times : List Time) → IsTree tree times → (f i t : ℕ) → i ≤ suc f → 2 ≤ i → i < length tree + length times → IsBy (node tree times i) t → Above tree times f t
     → (p : ℕ) → (i ≡ 2 * p) ⊎ (i ≡ 2 * p + 1) → IsBy (node tree times 1) t
 up tree times h f i t less two within is above p (inl e) =
-    let same : length tree ≡ length times = h.same in
-    let inside : p < length tree = omega (arith, e, within, same) in
-    let least : 1 ≤ p = omega (arith, e, two) in
-    above p (omega (arith, e, less, least)) least (omega (arith, inside))
-    (subst (λ (x : Time). IsBy x t) (sym (is_sooner tree times h p least inside)) (left_by (node tree times (2 * p)) (node tree times (2 * p + 1)) t (subst (λ (n : ℕ). IsBy (node tree times n) t) e is)))
+    up_by tree times h f i t less two within above p (omega (arith, e)) (omega (arith, e))
+    (left_by (node tree times (2 * p)) (node tree times (2 * p + 1)) t (subst (λ (n : ℕ). IsBy (node tree times n) t) e is))
 up tree times h f i t less two within is above p (inr e) =
-    let same : length tree ≡ length times = h.same in
-    let inside : p < length tree = omega (arith, e, within, same) in
-    let least : 1 ≤ p = omega (arith, e, two) in
-    above p (omega (arith, e, less, least)) least (omega (arith, inside))
-    (subst (λ (x : Time). IsBy x t) (sym (is_sooner tree times h p least inside)) (right_by (node tree times (2 * p)) (node tree times (2 * p + 1)) t (subst (λ (n : ℕ). IsBy (node tree times n) t) e is)))
+    up_by tree times h f i t less two within above p (omega (arith, e)) (omega (arith, e))
+    (right_by (node tree times (2 * p)) (node tree times (2 * p + 1)) t (subst (λ (n : ℕ). IsBy (node tree times n) t) e is))
 
 climb_by : (tree times : List Time) → IsTree tree times → (f i t : ℕ) → i ≤ suc f → i < length tree + length times → IsBy (node tree times i) t → Above tree times f t → (i ≡ 1) ⊎ (2 ≤ i) → IsBy (node tree times 1) t
 climb_by tree times h f i t less within is above (inl e) = subst (λ (n : ℕ). IsBy (node tree times n) t) e is

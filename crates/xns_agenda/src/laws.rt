@@ -38,7 +38,7 @@ pub fn a_third_reply_comes_after_two()
 
 /// Where the peer acknowledges more, the next item that it lacks goes out again only if something had gone out again since it acknowledged more
 /// before (`vain`), and if not all is acknowledged that was out then (`out`). How many were out is what the word said for which it went out
-/// (`said`). An item that is timed is measured only where the peer acknowledges it (`timed`).
+/// (`said`); where it went out since a wait was over, that is not kept, and no acknowledgement counts as of all. An item that is timed is measured only where the peer acknowledges it (`timed`).
 pub fn what_was_out_is_mended()
     ensures vain { (m : Measure) (pace : Pace) (timing : Timing) (acknowledged now : ℕ) → mends m pace timing acknowledged now ≡ true
         → is_vain timing ≡ true }

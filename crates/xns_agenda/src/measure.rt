@@ -123,7 +123,7 @@ impl Measure {
     }
 
     /// Whether the first item that is not acknowledged goes out again where the peer acknowledges so many: something had gone out again, which
-    /// may be what it acknowledges, and not all is acknowledged that was out then.
+    /// may be what it acknowledges, and not all is acknowledged that was out then, as far as that is kept.
     pub fn mends(self, pace: &Pace, timing: Timing, acknowledged: u64, now: u64) -> bool
         ensures { result ≡ mends self pace.now timing acknowledged now }
     {

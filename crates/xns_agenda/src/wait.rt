@@ -105,7 +105,7 @@ impl Wait {
     }
 
     /// Whether, where the peer acknowledges so many items, the next one that it lacks goes out again at once: something had gone out again
-    /// since it acknowledged more, and not all is acknowledged that was out then.
+    /// since it acknowledged more, and not all is acknowledged that was out then, as far as that is kept.
     pub fn mends(&self, acknowledged: u64, now: u64) -> bool
         ensures { result ≡ mends self.now.measure self.now.pace self.now.timing acknowledged now }
     {

@@ -126,13 +126,13 @@ given laws (Answers a) h kind words may has = given_to laws a a.asked h kind wor
 
 -- ---- a message
 
-taken_from : Underneath → (t : Talk) (o : Option Message) (h : Story) → t.outcome ≡ o → CallerHas h t
+taken_from : CallerHands → (t : Talk) (o : Option Message) (h : Story) → t.outcome ≡ o → CallerHas h t
     → Gives (Calls (record t { outcome = None })) h (with_taken o (Calls t) h)
-taken_from laws t None h is has =
+taken_from law t None h is has =
     let same : t ≡ record t { outcome = None } = ap (λ (o : Option Message). record t { outcome = o }) is in
     record { has = subst (λ (u : Talk). CallerHas h u) same has; fed = refl; given = refl }
-taken_from laws t (Some m) h is has =
-    let done = laws.hands_up h.made h.fed h.given h.handed (record t { failed = false; phase = has.phase }) m has.done is in
+taken_from law t (Some m) h is has =
+    let done = law h.made h.fed h.given h.handed (record t { failed = false; phase = has.phase }) m has.done is in
     record { has = record { phase = has.phase; done = done; going = has.going; table = has.table }; fed = refl; given = refl }
 
 is_listed_call : (programs : List Program) (o : Option Message) (m : Message) → listed_call programs o ≡ Some m
@@ -146,23 +146,25 @@ is_listed_call programs (Some k) m e = by (why_unlisted programs k) refl e where
       (f, ap (λ (x : Message). why_unlisted programs x) (sym same) ∙ is)
   by (Some w) is f = absurd (cc)
 
-call_from : Underneath → (a : Answering) (o : Option Message) (h : Story) → listed_call a.programs a.call ≡ o → ServerHas h a
+call_from : ServerHands → (a : Answering) (o : Option Message) (h : Story) → listed_call a.programs a.call ≡ o → ServerHas h a
     → Gives (Answers (handed_by o a)) h (with_taken o (Answers a) h)
-call_from laws a None h is has = record { has = has; fed = refl; given = refl }
-call_from laws a (Some m) h is has =
+call_from law a None h is has = record { has = has; fed = refl; given = refl }
+call_from law a (Some m) h is has =
     let listed = is_listed_call a.programs a.call m is in
-    record { has = hands laws.hands_call h a (after_call a m) m listed.0 listed.1 refl has; fed = refl; given = refl }
+    record { has = hands law h a (after_call a m) m listed.0 listed.1 refl has; fed = refl; given = refl }
 
-taken : Underneath → (side : Side) (h : Story) → SideHas h side → Gives (side_taken side) h (with_taken (waiting_message side) side h)
-taken laws (Calls t) h has = taken_from laws t t.outcome h refl has
-taken laws (Answers a) h has = call_from laws a (listed_call a.programs a.call) h refl has
+taken : CallerHands → ServerHands → (side : Side) (h : Story) → SideHas h side → Gives (side_taken side) h (with_taken (waiting_message side) side h)
+taken outcome call (Calls t) h has = taken_from outcome t t.outcome h refl has
+taken outcome call (Answers a) h has = call_from call a (listed_call a.programs a.call) h refl has
+
+-- where handing any call leaves something as it was, handing none does too
+handed_keeps : {X : Type 0} (f : Answering → X) (a : Answering) (o : Option Message) → ((m : Message) → f (after_call a m) ≡ f a) → f (handed_by o a) ≡ f a
+handed_keeps f a None same = refl
+handed_keeps f a (Some m) same = same m
 
 taken_stops : (side : Side) → is_stopped (side_taken side) ≡ is_stopped side
 taken_stops (Calls t) = refl
-taken_stops (Answers a) = by (listed_call a.programs a.call) where
-  by : (o : Option Message) → (handed_by o a).failed ≡ a.failed
-  by None = refl
-  by (Some m) = refl
+taken_stops (Answers a) = handed_keeps (λ (b : Answering). b.failed) a (listed_call a.programs a.call) (λ m. refl)
 
 called_stops : (side : Side) (call : RawCall) → is_stopped (side_called side call) ≡ is_stopped side
 called_stops (Calls t) call = refl
@@ -179,10 +181,7 @@ answered_stops (Answers a) kind words = by a.asked where
 
 taken_out : (side : Side) → out_of (side_taken side) ≡ out_of side
 taken_out (Calls t) = refl
-taken_out (Answers a) = by (listed_call a.programs a.call) where
-  by : (o : Option Message) → (handed_by o a).out ≡ a.out
-  by None = refl
-  by (Some m) = refl
+taken_out (Answers a) = handed_keeps (λ (b : Answering). b.out) a (listed_call a.programs a.call) (λ m. refl)
 
 taken_calls : (side : Side) → is_called (side_taken side) ≡ is_called side
 taken_calls (Calls t) = refl
@@ -265,6 +264,12 @@ done_waits laws (heard bytes) t s stands =
     let same = (laws.stays.receive s bytes).handed in
     omega (arith, size, same)
 
+pub took_says : CallerHands → ServerHands → (t : Conversation) (h : Story) → Tells t h → Says (done took (scene t h.state)) (told_by took t.side h)
+took_says outcome call t h tells =
+    let g = taken outcome call t.side h tells.has in
+    says_other (scene t h.state) h (with_taken (waiting_message t.side) t.side h) (side_taken t.side) (says_of tells) g.has g.fed g.given (λ sent wanted. taken_out t.side)
+    (λ z. sym (done_drains took (scene t h.state)) ∙ z)
+
 pub did : Underneath → (deed : Deed) (t : Conversation) (h : Story) → May t deed → Tells t h → Says (done deed (scene t h.state)) (told_by deed t.side h)
 did laws nothing t h may tells = says_of tells
 did laws asked t h may tells = record {
@@ -284,10 +289,7 @@ did laws (gave kind words) t h may tells =
     let g = given laws t.side h kind words k.1 tells.has in
     says_other (scene t h.state) h (with_answer (asked_of t.side) kind words h) (side_answered t.side kind words) (says_of tells) g.has g.fed g.given
     (λ sent wanted. answered_out t.side t.closing kind words k.0 sent) (λ z. k.0)
-did laws took t h may tells =
-    let g = taken laws t.side h tells.has in
-    says_other (scene t h.state) h (with_taken (waiting_message t.side) t.side h) (side_taken t.side) (says_of tells) g.has g.fed g.given (λ sent wanted. taken_out t.side)
-    (λ z. sym (done_drains took (scene t h.state)) ∙ z)
+did laws took t h may tells = took_says laws.hands_up laws.hands_call t h tells
 did laws (heard bytes) t h may tells =
     let s : State = h.state in
     let v : State = after_receive s bytes in

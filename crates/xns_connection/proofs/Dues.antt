@@ -1,7 +1,7 @@
 -- What is due of a connection that is not closed, and of one that is.
 use Rattle.std.proofs.Common.{◌≡◌, ◌≢◌, ◌∙◌, ap, refl, ℕ, Bool, true, false, Option, Some, None}
-use Rattle.std.specs.Prelude.{◌==◌, nat_lt, if◌then◌else◌}
-use Rattle.std.specs.Option.{is_some}
+use Rattle.std.specs.Prelude.{◌&&◌, ◌==◌, nat_lt, if◌then◌else◌}
+use Rattle.std.specs.Option.{is_none, is_some}
 use Rattle.xns_connection.specs.Connecting.{FitsClosed, is_again, is_open_due, is_closed_due}
 use Rattle.xns_agenda.specs.Waiting.{Waiting, after_step, after_word, after_heard, idle_span, later, rested, taught, unmoved, waiting_on, idling}
 use Rattle.xns_connection.specs.Closing.{drains}
@@ -23,6 +23,11 @@ again_by w (ForgetAt t) out now is free = absurd (cc)
 pub step_again : (w v : Waiting) (b : Option ℕ) (wants : Bool) (now : ℕ) → is_open_due w.due ≡ true → v ≡ after_step w b wants now → b ≢ None → is_again v.due ≡ true
 step_again w v (Some out) wants now free is some = ap (λ (u : Waiting). is_again u.due) is ∙ again_by w w.due out now refl free
 step_again w v None wants now free is some = absurd (some refl)
+
+-- whether a word is wanted matters only where nothing waits
+pub step_asked : (w : Waiting) (waiting : Option ℕ) (wants : Bool) (now : ℕ) → after_step w waiting (is_none waiting && wants) now ≡ after_step w waiting wants now
+step_asked w None wants now = refl
+step_asked w (Some out) wants now = refl
 
 idle_open : (b : Bool) (t : ℕ) → is_open_due (if b then Never else AskAt t) ≡ true
 idle_open true t = refl

@@ -8,7 +8,6 @@ use Rattle.std.proofs.Math.Logic.{∥∥₁_elim}
 use Rattle.std.proofs.Props.{props}
 use Rattle.courier_sessions.specs.Pumping.{caller_side, server_side}
 use Rattle.courier_sessions.specs.declared.feed_refusal.FeedRefusal.{FeedRefusal}
-use Rattle.courier_sessions.specs.declared.feed_refusal.FeedRefusal.TheVariants.{Stopped, Busy, TooLong, Attention, Fault, NoMemory}
 use Rattle.xns_agenda.specs.Waiting.{act_at}
 use Rattle.xns_agenda.specs.declared.act.Act.{Act}
 use Rattle.xns_agenda.specs.declared.act.Act.TheVariants.{Nothing, Again, Ask, GiveUp, Forget}
@@ -35,11 +34,14 @@ use Rattle.xns_connection.specs.Giving.{Giving, GivesAs, IsGiving, IsShort, at_f
 use Rattle.xns_connection.specs.Moving.{Converses, Moves, Pumps, Rounds, Scene, again, calms, closed_up, converses, deafened, drained_out, drains_only, ended, may_end, may_reply, noting, once, refuses, refuses_on, replied, scene, settled_by, starves, taken_many}
 use Rattle.xns_connection.specs.Step.{GivesNext, Hands, MovesOwed, Step, calmly, moving_on, none_waits, parts_of}
 use Rattle.xns_connection.specs.Story.{Runs, flushes, resends, sends, start, takes, tells}
+use Rattle.xns_connection.specs.declared.closing.Closing.{Closing}
 use Rattle.xns_connection.specs.declared.connection.Connection.{Connection}
 use Rattle.xns_connection.specs.declared.side.Side.{Side}
 use Rattle.xns_connection.specs.declared.side.Side.TheVariants.{Answers, Calls}
 use Rattle.xns_connection.specs.declared.why.Why.{Why}
 use Rattle.xns_connection.proofs.Leading.{leads_run}
+use Rattle.xns_connection.proofs.Outcomes as outcomes
+use Rattle.xns_connection.proofs.Outcomes.{How, how}
 
 -- ---- an end's own steps
 
@@ -109,21 +111,20 @@ moves_ends (converses free c) = conversed_ends c
 
 -- ---- the closing exchange
 
+-- where an item is put out, and where none is, the ends stay as they were
+put_ends : (b : Bool) (x : Scene) (c : Closing) (item : Item)
+    → (if b then record x { closing = c; state = after_send x.state item } else x).state.ends ≡ x.state.ends
+put_ends true x c item = sent_ends (send_fault x.state item) x.state item
+put_ends false x c item = refl
+
 ended_ends : (x : Scene) → (ended x).state.ends ≡ x.state.ends
-ended_ends x = by (may_end x && is_ok (send_answer x.state (closing_item end_stream))) where
-  by : (b : Bool)
-      → (if b then record x { closing = record x.closing { end_sent = true }; state = after_send x.state (closing_item end_stream) } else x).state.ends
-      ≡ x.state.ends
-  by true = sent_ends (send_fault x.state (closing_item end_stream)) x.state (closing_item end_stream)
-  by false = refl
+ended_ends x =
+    put_ends (may_end x && is_ok (send_answer x.state (closing_item end_stream))) x (record x.closing { end_sent = true }) (closing_item end_stream)
 
 replied_ends : (x : Scene) → (replied x).state.ends ≡ x.state.ends
-replied_ends x = by (may_reply x && is_ok (send_answer x.state (closing_item end_reply_stream))) where
-  by : (b : Bool)
-      → (if b then record x { closing = record x.closing { reply_sent = true }; state = after_send x.state (closing_item end_reply_stream) } else x).state.ends
-      ≡ x.state.ends
-  by true = sent_ends (send_fault x.state (closing_item end_reply_stream)) x.state (closing_item end_reply_stream)
-  by false = refl
+replied_ends x =
+    put_ends (may_reply x && is_ok (send_answer x.state (closing_item end_reply_stream))) x (record x.closing { reply_sent = true })
+    (closing_item end_reply_stream)
 
 noting_ends : (o : Option Item) (x : Scene) → (noting o x).state.ends ≡ x.state.ends
 noting_ends None x = refl
@@ -143,14 +144,13 @@ drained_ends x = by (drains x.side x.closing) where
 closed_ends : (x : Scene) → (closed_up x).state.ends ≡ x.state.ends
 closed_ends x = replied_ends (drained_out (ended x)) ∙ (drained_ends (ended x) ∙ ended_ends x)
 
+how_ends : {r : Result (Unit {0}) FeedRefusal} {mid to : Scene} → How r mid to → to.state.ends ≡ mid.state.ends
+how_ends (outcomes.good u mid) = closed_ends mid
+how_ends (outcomes.short mid) = refl
+how_ends (outcomes.bad e mid other) = closed_ends (deafened mid)
+
 settled_ends : (r : Result (Unit {0}) FeedRefusal) (x : Scene) → (settled_by r x).state.ends ≡ x.state.ends
-settled_ends (Ok u) x = closed_ends x
-settled_ends (Err NoMemory) x = refl
-settled_ends (Err Stopped) x = closed_ends (deafened x)
-settled_ends (Err Busy) x = closed_ends (deafened x)
-settled_ends (Err TooLong) x = closed_ends (deafened x)
-settled_ends (Err Attention) x = closed_ends (deafened x)
-settled_ends (Err (Fault f)) x = closed_ends (deafened x)
+settled_ends r x = how_ends (how r x)
 
 shut_ends : (was closed : Option Why) (x : Scene) → (shut was closed x).state.ends ≡ x.state.ends
 shut_ends (Some why) closed x = refl

@@ -12,7 +12,7 @@ use Rattle.xns_spp.specs.Sending.{take_answer}
 use Rattle.xns_spp.specs.State.{State}
 use Rattle.xns_spp.specs.declared.item.Item.{Item}
 use Rattle.xns_connection.specs.Moving.{Led, Pumps, Rejects, rejects, Rounds, once, again, Converses, calms, starves, refuses, refuses_on}
-use Rattle.xns_connection.specs.Story.{Story, SideHas, CallerHas, ServerHas, GoesOn, start, IsMoved, IsListed, IsRefused, IsHeld, refused, unrejected, is_called, is_stopped}
+use Rattle.xns_connection.specs.Story.{Story, SideHas, CallerHas, ServerHas, GoesOn, Runs, start, IsMoved, IsListed, IsRefused, IsHeld, refused, unrejected, is_called, is_stopped}
 use Rattle.xns_connection.specs.declared.side.Side.{Side}
 use Rattle.xns_connection.specs.declared.side.Side.TheVariants.{Calls, Answers}
 use Rattle.xns_connection.proofs.Leading.{CallerDone, CallerGives, CallerFeeds, ServerGives, ServerFeeds, ServerRejects, caller_leads, quiet_leads, server_leads, leads_run, same_messages, goes_on, going, gone, stopped_at, server_going, server_gone, server_stopped_at, ends_at, short_at}
@@ -59,6 +59,23 @@ pub record HasPumped (said : List Item) (s v : State) (result : Result (Unit {0}
   pub called : is_called last ≡ is_called next
   pub stops : Stops result last v next
 
+-- where nothing is behind a side, it was fed all that came, and all that it had to say was accepted
+pumped_all : (s v : State) (r : Result (Unit {0}) FeedRefusal) (last next : Side) (h : Story) → SideHas (record h { fed = take v.handed v.taken; given = v.accepted }) last
+    → SideHas (record h { fed = take v.handed v.taken; given = v.accepted }) next → Runs s v → is_stopped last ≡ false → is_called last ≡ is_called next
+    → Stops r last v next → HasPumped [] s v r next h
+pumped_all s v r last next h before after runs still called stops =
+    let m : Story = record h { fed = take v.handed v.taken; given = v.accepted } in
+    record {
+      last = last;
+      story = m;
+      before = record { has = before; fed = refl; given = append-nil v.accepted; behind = tt };
+      fills = record { has = after; fed = refl; given = append-nil v.accepted; behind = tt };
+      goes = same_messages (at_end s h) (at_end v m) runs refl refl refl refl refl;
+      still = still;
+      called = called;
+      stops = stops;
+    }
+
 -- ---- the side that calls
 
 caller_stops : (last : Talk) (v : State) (r : Result (Unit {0}) FeedRefusal) (n : Talk) → Settles caller_side (last, v) r n
@@ -75,25 +92,13 @@ caller_pumps below s v r t n h free fills p =
     subst (λ (xs : List Item). HasDone h.made xs s.accepted h.handed t) fills.fed
     (subst (λ (xs : List Item). HasDone h.made h.fed xs h.handed t) given (gone h t fills.has free)) in
     let after : HasDone m.made m.fed m.given m.handed p.last = caller_leads below.next below.caller_gives below.caller_feeds h.made h.handed p.leads first in
-    record {
-      last = Calls p.last;
-      story = m;
-      before = record { has = going m p.last after fills.has.table; fed = refl; given = append-nil v.accepted; behind = tt };
-      fills = record {
-        has = ends_at (CallerHas m n) caller_side (p.last, v) r n p.settled
-            (λ is. going m n (subst (λ (u : Talk). HasDone m.made m.fed m.given m.handed u) (sym is) after) fills.has.table)
-            (λ is. stopped_at m p.last n after is fills.has.table);
-        fed = refl;
-        given = append-nil v.accepted;
-        behind = tt;
-      };
-      goes = same_messages (at_end s h) (at_end v m) (leads_run caller_side p.leads) refl refl refl refl refl;
-      still = after.going;
-      called = refl;
-      stops = caller_stops p.last v r n p.settled;
-    }
+    pumped_all s v r (Calls p.last) (Calls n) h (going m p.last after fills.has.table)
+    (ends_at (CallerHas m n) caller_side (p.last, v) r n p.settled
+    (λ is. going m n (subst (λ (u : Talk). HasDone m.made m.fed m.given m.handed u) (sym is) after) fills.has.table)
+    (λ is. stopped_at m p.last n after is fills.has.table))
+    (leads_run caller_side p.leads) after.going refl (caller_stops p.last v r n p.settled)
 
--- where nothing of it is out, none of its items moves
+-- where nothing of a caller is out, none of its items moves
 caller_hears : Below → (x : Item) (xs : List Item) (s v : State) (r : Result (Unit {0}) FeedRefusal) (t n : Talk) (h : Story) → t.failed ≡ false
     → Fills (x ∷ xs) (Calls t) s h → Led caller_side (t, s) r n v → HasPumped (x ∷ xs) s v r (Calls n) h
 caller_hears below x xs s v r t n h free fills p =
@@ -141,23 +146,11 @@ server_pumps below s v r a n h free fills p =
     (subst (λ (xs : List Item). HasAnswered a.programs h.fed xs h.taken h.handed h.answers a) given (server_gone h a fills.has free)) in
     let after : HasAnswered a.programs m.fed m.given m.taken m.handed m.answers p.last =
     server_leads below.next below.server_gives below.server_feeds a.programs h.taken h.handed h.answers p.leads first in
-    record {
-      last = Answers p.last;
-      story = m;
-      before = record { has = server_going m a.programs p.last after fills.has.table fills.has.rejected; fed = refl; given = append-nil v.accepted; behind = tt };
-      fills = record {
-        has = ends_at (ServerHas m n) server_side (p.last, v) r n p.settled
-            (λ is. server_going m a.programs n (subst (λ (u : Answering). HasAnswered a.programs m.fed m.given m.taken m.handed m.answers u) (sym is) after) fills.has.table fills.has.rejected)
-            (λ is. server_stopped_at m a.programs p.last n after is fills.has.table fills.has.rejected);
-        fed = refl;
-        given = append-nil v.accepted;
-        behind = tt;
-      };
-      goes = same_messages (at_end s h) (at_end v m) (leads_run server_side p.leads) refl refl refl refl refl;
-      still = after.going;
-      called = refl;
-      stops = server_stops p.last v r n p.settled;
-    }
+    pumped_all s v r (Answers p.last) (Answers n) h (server_going m a.programs p.last after fills.has.table fills.has.rejected)
+    (ends_at (ServerHas m n) server_side (p.last, v) r n p.settled
+    (λ is. server_going m a.programs n (subst (λ (u : Answering). HasAnswered a.programs m.fed m.given m.taken m.handed m.answers u) (sym is) after) fills.has.table fills.has.rejected)
+    (λ is. server_stopped_at m a.programs p.last n after is fills.has.table fills.has.rejected))
+    (leads_run server_side p.leads) after.going refl (server_stops p.last v r n p.settled)
 
 has_pumped : Below → (said : List Item) (s v : State) (r : Result (Unit {0}) FeedRefusal) (side next : Side) (h : Story) → is_stopped side ≡ false
     → Fills said side s h → Pumps side s r next v → HasPumped said s v r next h

@@ -19,8 +19,9 @@ use Rattle.xns_connection.specs.Telling.{Calm, Tells, owes_end}
 use Rattle.xns_connection.specs.declared.connection.Connection.{Connection}
 use Rattle.xns_connection.specs.declared.conversation.Conversation.{Conversation}
 use Rattle.xns_connection.proofs.Closes.{closes_calm}
-use Rattle.xns_connection.proofs.Doing.{Underneath, did, done_drains, told_state}
+use Rattle.xns_connection.proofs.Doing.{CallerHands, done_drains, told_state, took_says}
 use Rattle.xns_connection.proofs.Fills.{at_end}
+use Rattle.xns_connection.proofs.Handing.{ServerHands}
 use Rattle.xns_connection.proofs.Keeping.{goes_from}
 use Rattle.xns_connection.proofs.Leading.{goes_on, stays}
 use Rattle.xns_connection.proofs.Owing.{same_room}
@@ -55,7 +56,17 @@ owes_reply_drains true true false d shut is = is
 owes_reply_drains true false c d shut is = is
 owes_reply_drains false b c d shut is = is
 
-module _ (under : Underneath) (next : TheNextItemIsHandedUp) (now : ℕ) (old new : Connection)
+-- the story goes on with the message that waits, if one does, and nothing else
+handed_goes_on : CallerHands → ServerHands → (t : Conversation) (h : Story) → Tells t h
+    → (v : Story) × Tells (record t { side = side_taken t.side }) v × GoesOn (told_by took t.side h) v
+handed_goes_on outcome call t h tells =
+    let v : Story = at_end h.state (told_by took t.side h) in (
+      v,
+      tells_by (record { stands = tells.stands; side = refl; closing = refl }) (took_says outcome call t h tells),
+      goes_from (told_by took t.side h) v h.state (told_state took t h) (stays v),
+    )
+
+module _ (outcome : CallerHands) (call : ServerHands) (next : TheNextItemIsHandedUp) (now : ℕ) (old new : Connection)
     (calm : (s : State) → StandsFor old.conversation.endpoint s → is_calm_then old s ≡ true)
     (is : parts_of new ≡ record (parts_of old) { conversation = record old.conversation { side = side_taken old.conversation.side } }) where
   abbrev t : Conversation
@@ -80,11 +91,8 @@ module _ (under : Underneath) (next : TheNextItemIsHandedUp) (now : ℕ) (old ne
   abbrev base : Story → Story
   base h = told_by took t.side h
 
-  tells_there : (h : Story) → Tells t h → Tells u (at_end h.state (base h))
-  tells_there h tells = tells_by (record { stands = tells.stands; side = refl; closing = refl }) (did under took t h tt tells)
-
-  goes_there : (h : Story) → GoesOn (base h) (at_end h.state (base h))
-  goes_there h = goes_from (base h) (at_end h.state (base h)) h.state (told_state took t h) (stays (at_end h.state (base h)))
+  went : (h : Story) → Tells t h → (v : Story) × Tells u v × GoesOn (base h) v
+  went h tells = handed_goes_on outcome call t h tells
 
   calm_there : (h : Story) → Tells t h → Calm u u
   calm_there h tells =
@@ -93,14 +101,15 @@ module _ (under : Underneath) (next : TheNextItemIsHandedUp) (now : ℕ) (old ne
 
   pub calmly_kept : Promises now took old new
   calmly_kept = record {
-    story = λ h tells. (at_end h.state (base h), subst (λ (c : Conversation). Tells c (at_end h.state (base h))) (sym same) (tells_there h tells), goes_there h);
+    story = λ h tells. let v = went h tells in (v.0, subst (λ (c : Conversation). Tells c v.0) (sym same) v.1, v.2);
     wanted = ap (λ (c : Conversation). c.closing.wanted) same;
     still = λ free. ∥∥₁_elim old.stands (Prim.hlevel props) (λ x.
         sym (done_drains took (scene t x.0)) ∙ (unmoved x.0 x.1).free);
     calm = λ quiet free. record {
       on = λ h tells.
-          let k = (calm_there h tells).on (at_end h.state (base h)) (tells_there h tells) in
-          let on = goes_on (base h) (at_end h.state (base h)) k.0 (goes_there h) k.2 in
+          let v = went h tells in
+          let k = (calm_there h tells).on v.0 v.1 in
+          let on = goes_on (base h) v.0 k.0 v.2 k.2 in
           subst (λ (c : Conversation). (m : Story) × Tells c m × GoesOn (base h) m × IsMoved c.side m.state × IsListed c.side) (sym same) (k.0, k.1, on, k.3, k.4);
     };
     read = λ quiet kept h tells yes.
@@ -126,7 +135,7 @@ module _ (under : Underneath) (next : TheNextItemIsHandedUp) (now : ℕ) (old ne
       by true b unwanted is = cc
       by false b unwanted is = cc
 
-pub handed_as_by_a_step : Underneath → TheNextItemIsHandedUp → AStepKeepsItsPromises → AMessageIsHandedAsByAStep
-handed_as_by_a_step under next law now old new some (none_waits none alike) = absurd (some none)
-handed_as_by_a_step under next law now old new some (calmly waits calm is) = calmly_kept under next now old new calm is
-handed_as_by_a_step under next law now old new some (moving_on waits busy step) = law now took old new step
+pub handed_as_by_a_step : CallerHands → ServerHands → TheNextItemIsHandedUp → AStepKeepsItsPromises → AMessageIsHandedAsByAStep
+handed_as_by_a_step outcome call next law now old new some (none_waits none alike) = absurd (some none)
+handed_as_by_a_step outcome call next law now old new some (calmly waits calm is) = calmly_kept outcome call next now old new calm is
+handed_as_by_a_step outcome call next law now old new some (moving_on waits busy step) = law now took old new step

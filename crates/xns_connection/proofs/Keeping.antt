@@ -30,7 +30,8 @@ use Rattle.xns_connection.proofs.Doing.{Underneath, did, done_drains, done_waits
 use Rattle.xns_connection.proofs.Fills.{Below, at_end}
 use Rattle.xns_connection.proofs.Says.{Follows, deaf_follows, follows_not, tells_by}
 use Rattle.xns_connection.proofs.Scenes.{scene_at}
-use Rattle.xns_connection.proofs.Settled.{HasSettled, How, IsSettled, Refusal, goes_follow, has_settled, how, is_settled}
+use Rattle.xns_connection.proofs.Outcomes.{How, how}
+use Rattle.xns_connection.proofs.Settled.{HasSettled, IsSettled, Refusal, goes_follow, has_settled, is_settled}
 use Rattle.xns_connection.proofs.Tellings.{undrained}
 use Rattle.xns_connection.proofs.Waits.{same_waiting}
 

@@ -10,6 +10,7 @@ mod Fills
 mod Given
 mod GivenUp
 mod Giving
+mod Single
 mod Handed
 mod Handing
 mod Keeping
@@ -19,6 +20,7 @@ mod Lives
 mod Moments
 mod Nexts
 mod Once
+mod Outcomes
 mod Owing
 mod Peers
 mod Readable

@@ -2,15 +2,16 @@
 use Rattle.std.proofs.Common.{◌≡◌, ◌≢◌, ◌∙◌, ap, refl, sym, subst, ℕ, suc, ◌+◌, Bool, true, false, Result, Ok, Err, arith}
 use Rattle.std.specs.Prelude.{◌&&◌, if◌then◌else◌, is_ok}
 use Rattle.courier_sessions.specs.declared.feed_refusal.FeedRefusal.{FeedRefusal}
-use Rattle.courier_sessions.specs.declared.feed_refusal.FeedRefusal.TheVariants.{Stopped, Busy, TooLong, Attention, Fault, NoMemory}
+use Rattle.courier_sessions.specs.declared.feed_refusal.FeedRefusal.TheVariants.{NoMemory}
 use Rattle.xns_spp.specs.Held.{StandsFor}
-use Rattle.xns_spp.specs.Sending.{send_answer}
+use Rattle.xns_spp.specs.Sending.{send_answer, waiting_count}
 use Rattle.xns_spp.specs.State.{State}
-use Rattle.xns_connection.specs.Closing.{closing_item, end_stream, end_reply_stream}
-use Rattle.xns_connection.specs.Moving.{Scene, scene, IsAt, Moves, Settles, taken_one, taken_many, may_end, may_reply, ended, replied, closed_up, deafened}
+use Rattle.xns_connection.specs.Closing.{closing_item, drains, end_stream, end_reply_stream}
+use Rattle.xns_connection.specs.Moving.{Scene, scene, IsAt, Moves, Settles, taken_one, taken_many, drained_out, may_end, may_reply, ended, replied, closed_up, deafened, settled_by}
 use Rattle.xns_connection.specs.declared.closing.Closing.{Closing}
 use Rattle.xns_connection.specs.declared.conversation.Conversation.{Conversation}
 use Rattle.xns_connection.specs.declared.side.Side.{Side}
+use Rattle.xns_connection.proofs.Outcomes.{How, bad, good, how, short}
 
 pub scene_at : {t : Conversation} {x : Scene} → IsAt t x → scene t x.state ≡ x
 scene_at {t} {x} at =
@@ -31,6 +32,19 @@ unfolding taken_many
 many_more n x =
     let e : n + 1 ≡ suc n = omega arith in
     subst (λ (m : ℕ). taken_many m x ≡ taken_one (taken_many n x)) (sym e) refl
+
+many_none : (x : Scene) → taken_many 0 x ≡ x
+unfolding taken_many
+many_none x = refl
+
+-- where no item waits, none is taken
+pub none_drains : (t : Conversation) (s : State) → waiting_count s ≡ 0 → StandsFor t.endpoint s → IsAt t (drained_out (scene t s))
+none_drains t s none stands = by (drains t.side t.closing) where
+  by : (b : Bool) → IsAt t (if b then taken_many (waiting_count s) (scene t s) else scene t s)
+  by true =
+      let same : taken_many (waiting_count s) (scene t s) ≡ scene t s = ap (λ (n : ℕ). taken_many n (scene t s)) none ∙ many_none (scene t s) in
+      subst (λ (x : Scene). IsAt t x) (sym same) (at_first t s stands)
+  by false = at_first t s stands
 
 -- ---- what is not said
 
@@ -61,48 +75,16 @@ deaf_at {t} {u} {x} at same =
     let there : IsAt w (deafened x) = record { stands = at.stands; side = at.side; closing = ap (λ (c : Closing). record c { deaf = true }) at.closing } in
     subst (λ (z : Conversation). IsAt z (deafened x)) (sym same) there
 
+settled_how : (t a b u : Conversation) (s : State) {r : Result (Unit {0}) FeedRefusal} {mid to : Scene} → IsAt a mid → Moves (scene t s) r mid → to ≡ settled_by r mid → How r mid to
+    → (r ≡ Ok tt → b ≡ a) → (r ≢ Ok tt → r ≢ Err NoMemory → b ≡ record a { closing = record a.closing { deaf = true } }) → r ≢ Err NoMemory
+    → ((v : State) → StandsFor b.endpoint v → IsAt u (closed_up (scene b v))) → (x : Scene) × IsAt u x × Settles (scene t s) r x
+settled_how t a b u s at moves is (good v mid) same deaf fed next =
+    (closed_up mid, then_at closed_up (subst (λ (w : Conversation). IsAt w mid) (sym (same refl)) at) next, record { mid = mid; moves = moves; is = is })
+settled_how t a b u s at moves is (short mid) same deaf fed next = absurd (fed refl)
+settled_how t a b u s at moves is (bad e mid other) same deaf fed next =
+    (closed_up (deafened mid), then_at closed_up (deaf_at at (deaf (λ z. absurd (cc)) fed)) next, record { mid = mid; moves = moves; is = is })
+
 pub settled_at : (t a b u : Conversation) (s : State) (r : Result (Unit {0}) FeedRefusal) → (x : Scene) × IsAt a x × Moves (scene t s) r x
     → (r ≡ Ok tt → b ≡ a) → (r ≢ Ok tt → r ≢ Err NoMemory → b ≡ record a { closing = record a.closing { deaf = true } }) → r ≢ Err NoMemory
     → ((v : State) → StandsFor b.endpoint v → IsAt u (closed_up (scene b v))) → (x : Scene) × IsAt u x × Settles (scene t s) r x
-settled_at t a b u s r moved good bad fed next = by r refl where
-  deaf : (e : FeedRefusal) → r ≡ Err e → IsAt b (deafened moved.0)
-  deaf e is = deaf_at moved.1 (bad (λ z. absurd (cc)) fed)
-
-  by : (q : Result (Unit {0}) FeedRefusal) → r ≡ q → (x : Scene) × IsAt u x × Settles (scene t s) r x
-  by (Ok v) is = (
-    closed_up moved.0,
-    then_at closed_up (subst (λ (w : Conversation). IsAt w moved.0) (sym (good is)) moved.1) next,
-    subst (λ (z : Result (Unit {0}) FeedRefusal). Settles (scene t s) z (closed_up moved.0)) (sym is)
-        (record { mid = moved.0; moves = subst (λ (z : Result (Unit {0}) FeedRefusal). Moves (scene t s) z moved.0) is moved.2; is = refl }),
-  )
-  by (Err NoMemory) is = absurd (fed is)
-  by (Err Stopped) is = (
-    closed_up (deafened moved.0),
-    then_at closed_up (deaf Stopped is) next,
-    subst (λ (z : Result (Unit {0}) FeedRefusal). Settles (scene t s) z (closed_up (deafened moved.0))) (sym is)
-        (record { mid = moved.0; moves = subst (λ (z : Result (Unit {0}) FeedRefusal). Moves (scene t s) z moved.0) is moved.2; is = refl }),
-  )
-  by (Err Busy) is = (
-    closed_up (deafened moved.0),
-    then_at closed_up (deaf Busy is) next,
-    subst (λ (z : Result (Unit {0}) FeedRefusal). Settles (scene t s) z (closed_up (deafened moved.0))) (sym is)
-        (record { mid = moved.0; moves = subst (λ (z : Result (Unit {0}) FeedRefusal). Moves (scene t s) z moved.0) is moved.2; is = refl }),
-  )
-  by (Err TooLong) is = (
-    closed_up (deafened moved.0),
-    then_at closed_up (deaf TooLong is) next,
-    subst (λ (z : Result (Unit {0}) FeedRefusal). Settles (scene t s) z (closed_up (deafened moved.0))) (sym is)
-        (record { mid = moved.0; moves = subst (λ (z : Result (Unit {0}) FeedRefusal). Moves (scene t s) z moved.0) is moved.2; is = refl }),
-  )
-  by (Err Attention) is = (
-    closed_up (deafened moved.0),
-    then_at closed_up (deaf Attention is) next,
-    subst (λ (z : Result (Unit {0}) FeedRefusal). Settles (scene t s) z (closed_up (deafened moved.0))) (sym is)
-        (record { mid = moved.0; moves = subst (λ (z : Result (Unit {0}) FeedRefusal). Moves (scene t s) z moved.0) is moved.2; is = refl }),
-  )
-  by (Err (Fault f)) is = (
-    closed_up (deafened moved.0),
-    then_at closed_up (deaf (Fault f) is) next,
-    subst (λ (z : Result (Unit {0}) FeedRefusal). Settles (scene t s) z (closed_up (deafened moved.0))) (sym is)
-        (record { mid = moved.0; moves = subst (λ (z : Result (Unit {0}) FeedRefusal). Moves (scene t s) z moved.0) is moved.2; is = refl }),
-  )
+settled_at t a b u s r moved same deaf fed next = settled_how t a b u s moved.1 moved.2 refl (how r moved.0) same deaf fed next

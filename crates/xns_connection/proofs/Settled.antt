@@ -3,7 +3,7 @@ use Rattle.std.proofs.Common.{[], ◌∷◌, ◌≡◌, ◌≢◌, ◌∙◌, ap
 use Rattle.std.specs.Prelude.{◌&&◌, ◌||◌}
 use Rattle.std.proofs.Math.Seq.{drop-length}
 use Rattle.courier_sessions.specs.declared.feed_refusal.FeedRefusal.{FeedRefusal}
-use Rattle.courier_sessions.specs.declared.feed_refusal.FeedRefusal.TheVariants.{Stopped, Busy, TooLong, Attention, Fault, NoMemory}
+use Rattle.courier_sessions.specs.declared.feed_refusal.FeedRefusal.TheVariants.{NoMemory}
 use Rattle.xns_spp.specs.Laws.{ItemsAreAcceptedOrChangeNothing}
 use Rattle.xns_spp.specs.State.{State, IsState}
 use Rattle.xns_spp.specs.declared.item.Item.{Item}
@@ -17,6 +17,7 @@ use Rattle.xns_connection.specs.declared.side.Side.{Side}
 use Rattle.xns_connection.specs.declared.side.Side.TheVariants.{Calls, Answers}
 use Rattle.xns_connection.proofs.Fills.{Behind, Below, Fills, HasConversed, Until, at_end, has_conversed}
 use Rattle.xns_connection.proofs.Leading.{goes_on, same_messages, stays}
+use Rattle.xns_connection.proofs.Outcomes.{How, bad, good, how, short}
 use Rattle.xns_connection.proofs.Saying.{IsSaid, closed_drained, closes_up, deaf_drained}
 use Rattle.xns_connection.proofs.Says.{EndsSo, Says, deaf_follows, ends_so, ends_then}
 use Rattle.xns_connection.proofs.Tellings.{ReadsOn, reads_by, reads_on, unsaid, on_ok, if_err, deafened as deafens}
@@ -164,21 +165,6 @@ moves_closing (drains_only drain) = refl
 moves_closing (converses free c) = refl
 
 -- ---- what comes of it
-
--- what is done then
-pub data How : Result (Unit {0}) FeedRefusal → Scene → Scene → Type 0 where
-  good : (u : Unit {0}) (mid : Scene) → How (Ok u) mid (closed_up mid)
-  short : (mid : Scene) → How (Err NoMemory) mid mid
-  bad : (e : FeedRefusal) (mid : Scene) → e ≢ NoMemory → How (Err e) mid (closed_up (deafened mid))
-
-pub how : (r : Result (Unit {0}) FeedRefusal) (mid : Scene) → How r mid (settled_by r mid)
-how (Ok u) mid = good u mid
-how (Err NoMemory) mid = short mid
-how (Err Stopped) mid = bad Stopped mid (λ z. cc)
-how (Err Busy) mid = bad Busy mid (λ z. cc)
-how (Err TooLong) mid = bad TooLong mid (λ z. cc)
-how (Err Attention) mid = bad Attention mid (λ z. cc)
-how (Err (Fault f)) mid = bad (Fault f) mid (λ z. cc)
 
 pub record HasSettled (x : Scene) (r : Result (Unit {0}) FeedRefusal) (to : Scene) (h : Story) : Type 0 where
   pub story : Story

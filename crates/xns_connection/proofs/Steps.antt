@@ -136,6 +136,10 @@ heard_history e f bytes has next = ∥∥₁_map has (λ x. (after_receive x.0 b
 pub same_history : (e f : Held) → e ≡ f → HasHistory f → HasHistory e
 same_history e f same has = subst HasHistory (sym same) has
 
+pub same_timed : (closed : Option Why) (w : Waiting) (e f : Held) → e ≡ f → (closed ≡ None → (s : State) → StandsFor f s → tick_answer s ≢ [] → is_again w.due ≡ true)
+    → closed ≡ None → (s : State) → StandsFor e s → tick_answer s ≢ [] → is_again w.due ≡ true
+same_timed closed w e f same timed none s stands some = timed none s (subst (λ (h : Held). StandsFor h s) same stands) some
+
 -- something was done at a connection, but that bytes came, and then what could move moved
 pub step_by : (now : ℕ) (deed : Deed) (old new : Connection) (mid : Conversation) → mid.endpoint ≡ old.conversation.endpoint
     → ((s : State) → scene mid s ≡ done deed (scene old.conversation s)) → ((s : State) → owed_by deed old.owed old.wait s now ≡ old.owed)

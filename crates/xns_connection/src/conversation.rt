@@ -28,10 +28,10 @@ use std::collections::VecDeque;
 use xns_spp::{Bytes, Endpoint, Input, Item, SppPacket};
 
 /// The datastream of the item that asks for an end of the connection.
-const END: u8 = 254;
+pub const END: u8 = 254;
 
 /// The datastream of the item that answers an [`END`].
-const END_REPLY: u8 = 255;
+pub const END_REPLY: u8 = 255;
 
 /// The end of a connection and its side.
 #[derive(Drop)]
@@ -128,6 +128,9 @@ impl Conversation {
         ensures packets { self.new.packets ≡ self.old.packets }
         ensures at { (s : State) → StandsFor self.old.endpoint s → IsAt self.new (drained_out (scene self.old s)) }
     {
+        if self.endpoint.waiting() == 0 {
+            return;
+        }
         if self.drains() {
             self.drain();
         }

@@ -3,7 +3,7 @@
 ghost use Rattle.std.specs.Prelude.{◌≡◌, ◌≢◌, ◌<◌, ◌-◌, ◌&&◌, ◌||◌, [], not, if◌then◌else◌, true, false};
 ghost use Rattle.std.specs.Prelude.{Some, None, Err};
 ghost use Rattle.courier_sessions.specs.declared.feed_refusal.FeedRefusal.TheVariants.{NoMemory};
-ghost use Rattle.std.specs.Option.{is_some};
+ghost use Rattle.std.specs.Option.{is_none, is_some};
 ghost use Rattle.xns_spp.specs.Ends.{is_open};
 ghost use Rattle.xns_spp.specs.Held.{StandsFor};
 ghost use Rattle.xns_spp.specs.Sending.{tick_answer};
@@ -43,6 +43,13 @@ fn is_foreign(dropped: Option<Dropped>) -> bool
     )
 }
 
+/// Whether a word of the peer is wanted, where nothing waits for the peer.
+fn asks_word(conversation: &Conversation, waiting: Option<u64>) -> bool
+    ensures { result ≡ is_none waiting && wants_word conversation.now.side conversation.now.closing }
+{
+    waiting.is_none() && conversation.wants_word()
+}
+
 /// Restarts the timer of an open connection after a step.
 #[tactic(auto, using(crate::proofs::Moments::one_step))]
 pub fn wait_on(conversation: &Conversation, wait: &mut Wait, now: u64)
@@ -53,7 +60,8 @@ pub fn wait_on(conversation: &Conversation, wait: &mut Wait, now: u64)
     ensures timed { (s : State) → StandsFor conversation.now.endpoint s → tick_answer s ≢ [] → is_again wait.new.due ≡ true }
     ensures open_due { is_open_due wait.new.due ≡ true }
 {
-    wait.step(conversation.waits(), conversation.wants_word(), now);
+    let waiting = conversation.waits();
+    wait.step(waiting, asks_word(conversation, waiting), now);
 }
 
 /// After items moved: records the close reason, if any, and restarts the timer.

@@ -7,7 +7,7 @@ ghost use Rattle.xns_connection.specs.Connecting.{is_dead, why_over, why_given_u
 ghost use Rattle.xns_connection.specs.Telling.{is_over};
 
 use crate::closing::Closing;
-use crate::conversation::Conversation;
+use crate::conversation::{Conversation, END, END_REPLY};
 use crate::why::Why;
 use courier_messages::SessionFault;
 use courier_sessions::FeedRefusal;
@@ -49,7 +49,7 @@ pub fn is_dead(closed: Option<Why>) -> bool
 fn is_closing(stream: u8) -> bool
     ensures { result ≡ is_closing stream }
 {
-    stream == 254 || stream == 255
+    stream == END || stream == END_REPLY
 }
 
 /// Why a connection is closed whose side refused an item. `None`: the item closes no connection, as one of the closing exchange, or one for

@@ -1,6 +1,6 @@
 //! Which packet of a conversation goes out next.
 
-ghost use Rattle.std.specs.Prelude.{◌≡◌, ◌⊎◌, ◌||◌, ◌<◌, [], ◌++◌, length, false, true, IfOk, OnOk, OnErr, Some, None, Ok};
+ghost use Rattle.std.specs.Prelude.{◌≡◌, ◌⊎◌, ◌||◌, ◌<◌, [], ◌++◌, length, false, true, IfOk, IfSome, OnOk, OnErr, Some, None, Ok};
 ghost use Rattle.xns_spp.specs.Held.{StandsFor};
 ghost use Rattle.xns_spp.specs.Sending.{after_flush, flush_answer};
 ghost use Rattle.std.specs.Option.{is_some, option_to_list};
@@ -97,8 +97,31 @@ impl Conversation {
         owed.moving || owed.asks || !self.packets.is_empty()
     }
 
-    /// The next packet that goes out for the first time; where there is none, the packet without an item that the peer is owed.
-    fn newer_packet(&mut self, alloc: Global, owed: &mut Owed) -> Result<Option<Bytes>, AllocError>
+    /// The packet of the item that is to go out for the first time, where one alone is. `None` where none is or several are: nothing
+    /// changes then.
+    fn single_packet(&mut self, alloc: Global, owed: &mut Owed) -> Result<Option<Bytes>, AllocError>
+        requires { self.old.packets.items ≡ [] }
+        ensures side { (self.new.side ≡ self.old.side) × (self.new.closing ≡ self.old.closing) }
+        ensures at { IfOk result (λ o. IfSome o (λ p. (s : State) → StandsFor self.old.endpoint s
+            → GivesAs (newer (giving self.old owed.old s)) (Some p) self.new owed.new)) }
+        ensures none { result ≡ Ok None → (self.new ≡ self.old) × (owed.new ≡ owed.old) }
+        ensures unchanged { OnErr result ((self.new ≡ self.old) × (owed.new ≡ owed.old)) }
+        ensures memory { OnErr result ((s : State) → StandsFor self.old.endpoint s → is_some (newer (giving self.old owed.old s)).0 ≡ true) }
+    {
+        let Some(packet) = self.endpoint.flush_single(alloc)? else {
+            return Ok(None);
+        };
+        owed.word = false;
+        owed.fresh = self.has_more(owed);
+        Ok(Some(packet))
+    }
+
+    /// As `newer_packet`, with the packets of all items that may go out for the first time made at once.
+    fn flushed_packet(
+        &mut self,
+        alloc: Global,
+        owed: &mut Owed,
+    ) -> Result<Option<Bytes>, AllocError>
         requires { self.old.packets.items ≡ [] }
         ensures side { (self.new.side ≡ self.old.side) × (self.new.closing ≡ self.old.closing) }
         ensures at { IfOk result (λ p. (s : State) → StandsFor self.old.endpoint s → GivesAs (newer (giving self.old owed.old s)) p self.new owed.new) }
@@ -113,6 +136,21 @@ impl Conversation {
             return Ok(Some(packet));
         }
         self.system_packet(alloc, owed)
+    }
+
+    /// The next packet that goes out for the first time; where there is none, the packet without an item that the peer is owed.
+    fn newer_packet(&mut self, alloc: Global, owed: &mut Owed) -> Result<Option<Bytes>, AllocError>
+        requires { self.old.packets.items ≡ [] }
+        ensures side { (self.new.side ≡ self.old.side) × (self.new.closing ≡ self.old.closing) }
+        ensures at { IfOk result (λ p. (s : State) → StandsFor self.old.endpoint s → GivesAs (newer (giving self.old owed.old s)) p self.new owed.new) }
+        ensures short { OnErr result ((s : State) → StandsFor self.old.endpoint s → IsGiving self.new owed.new (giving self.old owed.old s)
+            ⊎ IsGiving self.new owed.new (flushed (giving self.old owed.old s))) }
+        ensures memory { OnErr result ((s : State) → StandsFor self.old.endpoint s → is_some (newer (giving self.old owed.old s)).0 ≡ true) }
+    {
+        if let Some(packet) = self.single_packet(alloc, owed)? {
+            return Ok(Some(packet));
+        }
+        self.flushed_packet(alloc, owed)
     }
 
     /// The next packet that is to go out. `None` where there is none. The only error is want of memory: what is to go out stays so.

@@ -2,15 +2,13 @@ use Rattle.std.proofs.Common.{ap, refl}
 use Rattle.xns_connection.specs.Deeds.{gave}
 use Rattle.xns_connection.specs.Moving.{scene}
 use Rattle.xns_connection.specs.declared.conversation.Conversation.{Conversation}
-use Rattle.xns_connection.proofs.Steps.{same_history, step_by}
-use Rattle.std.proofs.Common.{subst}
-use Rattle.xns_spp.specs.Held.{Held, StandsFor}
+use Rattle.xns_connection.proofs.Steps.{same_history, same_timed, step_by}
 use Rattle.xns_connection.proofs.Dues.{fits_same}
 use Rattle.xns_connection.proofs.connection.Connection.answer.Goals as goal
 
 pub invariant_of-self : goal.invariant_of-self
 invariant_of-self c = record {
-  timed = λ none s stands some. c.args.self.now.timed none s (subst (λ (e : Held). StandsFor e s) c.answer.ensures.endpoint stands) some;
+  timed = same_timed _ c.args.self.now.wait _ _ c.answer.ensures.endpoint c.args.self.now.timed;
   fits = fits_same _ _ _ _ c.args.self.now.fits c.answer.ensures.drains;
   stands = same_history _ _ c.answer.ensures.endpoint c.args.self.now.stands;
 }

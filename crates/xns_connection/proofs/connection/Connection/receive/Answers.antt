@@ -1,5 +1,5 @@
-use Rattle.std.proofs.Common.{◌≡◌, ◌∙◌, ◌++◌, [], ap, refl, rules, subst, sym, ℕ, true, false, Result}
-use Rattle.xns_spp.specs.Held.{Held, StandsFor}
+use Rattle.std.proofs.Common.{◌≡◌, ◌∙◌, ◌++◌, [], ap, refl, rules, sym, ℕ, true, false, Result}
+use Rattle.xns_spp.specs.Held.{StandsFor}
 use Rattle.xns_connection.specs.Closing.{drains}
 use Rattle.xns_spp.specs.Receiving.{after_receive}
 use Rattle.xns_connection.proofs.Moments.{hears_at}
@@ -13,7 +13,8 @@ use Rattle.xns_connection.specs.Telling.{progress}
 use Rattle.xns_connection.specs.declared.conversation.Conversation.{Conversation}
 use Rattle.xns_connection.proofs.Belonging.{belongs, conversation_stays, stored_is_ours}
 use Rattle.xns_connection.proofs.Dues.{fits_same}
-use Rattle.xns_connection.proofs.Steps.{heard_by, heard_history, owed_is_heard, same_connection, same_history, wait_is_heard}
+use Rattle.xns_connection.proofs.Steps.{heard_by, heard_history, owed_is_heard, same_connection, same_history, same_timed, wait_is_heard}
+use Rattle.xns_connection.proofs.connection.Connection.receive.Goals.{After-is_of_another}
 use Rattle.xns_connection.proofs.connection.Connection.receive.Goals as goal
 
 pub returns-clause-step : goal.returns-clause-step
@@ -46,36 +47,34 @@ pub invariant_of-self : goal.invariant_of-self
 invariant_of-self c =
     let end = ap (λ (t : Conversation). t.endpoint) c.in_err-input.ensures.unchanged in
     record {
-      timed = λ none s stands some. c.args.self.now.timed none s (subst (λ (e : Held). StandsFor e s) end stands) some;
+      timed = same_timed _ c.args.self.now.wait _ _ end c.args.self.now.timed;
       fits = fits_same _ _ _ _ c.args.self.now.fits (ap (λ (t : Conversation). drains t.side t.closing) c.in_err-input.ensures.unchanged);
       stands = same_history _ _ end c.args.self.now.stands;
     }
 
-pub invariant_of-self-then-is_of_another : goal.invariant_of-self-then-is_of_another
-invariant_of-self-then-is_of_another c =
+-- a packet of another connection leaves the conversation as it was
+unmoved : (c : After-is_of_another) → c.is_of_another.result ≡ true → c.receive.new.self ≡ c.args.self.now.conversation
+unmoved c other =
     let p = c.args.packet.now in
     let read = c.written_packet_is_read_again.ensures.again p [] c.requires in
     let k = c.in_ok-input.ensures in
-    let same : c.receive.new.self ≡ c.args.self.now.conversation
-    = conversation_stays c.foreign_bytes_change_nothing.ensures c.args.self.now.conversation c.receive.new.self (spp_packet_spelling p ++ []) p c.in_ok-input.input
+    conversation_stays c.foreign_bytes_change_nothing.ensures c.args.self.now.conversation c.receive.new.self (spp_packet_spelling p ++ []) p c.in_ok-input.input
     c.args.self.now.stands read (λ s stands. k.answer s (spp_packet_spelling p ++ []) stands read) (λ s stands. k.stands s (spp_packet_spelling p ++ []) stands read)
-    k.rest (sym c.is_of_another.ensures ∙ c.if-is_of_another.true) in
+    k.rest (sym c.is_of_another.ensures ∙ other)
+
+pub invariant_of-self-then-is_of_another : goal.invariant_of-self-then-is_of_another
+invariant_of-self-then-is_of_another c =
+    let same = unmoved (goal.at.invariant_of-self-then-is_of_another c).After-is_of_another c.if-is_of_another.true in
     let end = ap (λ (t : Conversation). t.endpoint) same in
     record {
-      timed = λ none s stands some. c.args.self.now.timed none s (subst (λ (e : Held). StandsFor e s) end stands) some;
+      timed = same_timed _ c.args.self.now.wait _ _ end c.args.self.now.timed;
       fits = fits_same _ _ _ _ c.args.self.now.fits (ap (λ (t : Conversation). drains t.side t.closing) same);
       stands = same_history _ _ end c.args.self.now.stands;
     }
 
 pub returns-then-is_of_another-clause-foreign : goal.returns-then-is_of_another-clause-foreign
 returns-then-is_of_another-clause-foreign c = λ ok.
-    let p = c.args.packet.now in
-    let read = c.written_packet_is_read_again.ensures.again p [] c.requires in
-    let k = c.in_ok-input.ensures in
-    let same : c.receive.new.self ≡ c.args.self.now.conversation
-    = conversation_stays c.foreign_bytes_change_nothing.ensures c.args.self.now.conversation c.receive.new.self (spp_packet_spelling p ++ []) p c.in_ok-input.input
-    c.args.self.now.stands read (λ s stands. k.answer s (spp_packet_spelling p ++ []) stands read) (λ s stands. k.stands s (spp_packet_spelling p ++ []) stands read)
-    k.rest (sym c.is_of_another.ensures ∙ c.if-is_of_another.true) in
+    let same = unmoved (goal.at.returns-then-is_of_another-clause-foreign c).After-is_of_another c.if-is_of_another.true in
     same_connection _ _ (ap (λ (t : Conversation). record (parts_of c.args.self.now) { conversation = t }) same)
 
 pub returns-then-is_of_another-clause-ours : goal.returns-then-is_of_another-clause-ours

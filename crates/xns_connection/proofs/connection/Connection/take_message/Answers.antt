@@ -8,7 +8,7 @@ use Rattle.xns_connection.specs.Step.{calmly, moving_on, none_waits, parts_of}
 use Rattle.xns_connection.specs.declared.conversation.Conversation.{Conversation}
 use Rattle.xns_connection.proofs.Steps.{calm_then, first_no, same_connection, second_no, step_by}
 use Rattle.xns_connection.proofs.connection.Connection.take_message.Goals.{else-not-self-via-then-not-self+else-is_calm, else-not-self-via-else-not-self}
-use Rattle.xns_connection.proofs.Steps.{same_history}
+use Rattle.xns_connection.proofs.Steps.{same_history, same_timed}
 use Rattle.xns_connection.proofs.Dues.{fits_same}
 use Rattle.xns_connection.proofs.connection.Connection.take_message.Goals as goal
 
@@ -54,7 +54,7 @@ settled-requires-clause-stands c = same_history _ _ c.in_ok-message.ensures.endp
 
 pub invariant_of-self : goal.invariant_of-self
 invariant_of-self c = record {
-  timed = λ none s stands some. c.args.self.now.timed none s (subst (λ (e : Held). StandsFor e s) c.take_message.ensures.endpoint stands) some;
+  timed = same_timed _ c.args.self.now.wait _ _ c.take_message.ensures.endpoint c.args.self.now.timed;
   fits = fits_same _ _ _ _ c.args.self.now.fits c.take_message.ensures.drains;
   stands = same_history _ _ c.take_message.ensures.endpoint c.args.self.now.stands;
 }
