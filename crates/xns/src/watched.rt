@@ -1,9 +1,7 @@
 //! A reader and a writer that remember the cause of a fault.
 use std::io::{self, ErrorKind, Read, Write};
 use xns_captures::is_capture;
-
-/// A line has at most so many bytes.
-const MOST_LINE_BYTES: usize = 4096;
+use xns_lines::MOST_LINE_BYTES;
 
 /// A reader of a file that remembers why a read failed, and which line was the first that is too long, unless the file is
 /// a capture.

@@ -3,10 +3,9 @@ use Rattle.std.proofs.Common.{◌≡◌, ◌∙◌, ap, sym, refl, arith, ℕ, �
 use Rattle.std.specs.Prelude.{IfErr, IfSome}
 use Rattle.std.proofs.lemmas.Bool.{le-ltb}
 use Rattle.std.specs.Fmt.{option_append}
-use Rattle.std.specs.Io.KnownBytes.{Appends, Consumes, IsAtEnd}
+use Rattle.std.specs.Io.KnownBytes.{Consumes, IsAtEnd}
+use Rattle.xns_lines.proofs.AtFirst.{nothing_more, stops_unread}
 use Rattle.xns_lines.specs.Lines.{split_at_newlines}
-use Rattle.xns_lines.specs.Printing as printing
-use Rattle.xns_lines.specs.Printing.{EndCount, TextWithEnd}
 use Rattle.xns_lines.specs.declared.fault.RunFault.TheVariants as run
 use Rattle.xns_captures.specs.Captures.{packets_of}
 use Rattle.xns_captures.specs.Parts.{is_capture}
@@ -61,35 +60,11 @@ module _ (programs : Programs) where
 
 -- ---- nothing can be read behind the first bytes
 
-nothing_more : (held : Option (List ℕ)) → Appends held held []
-nothing_more None = tt
-nothing_more (Some bytes) = sym (append-nil bytes)
-
-nothing_printed : (most : ℕ) (text_of : TextWithEnd (List ℕ)) (end_count : EndCount (List ℕ)) (file : List ℕ) (held : Option (List ℕ)) → text_of [] 0 ≡ []
-    → printing.StopsIn most text_of end_count file (Some file) held held run.Read
-unfolding split_at_newlines
-nothing_printed most text_of end_count file held none = record {
-  read = [];
-  consumed = refl;
-  front = ([], nothing_more held, (text_of [] (end_count []), refl));
-  stops = record {
-    good = [];
-    next = [];
-    part = 0;
-    lines = refl;
-    within = record { short = refl; few = omega arith };
-    shown = refl;
-    few = omega arith;
-    place = inl refl;
-    is_left = subst (Appends held held) (sym none) (nothing_more held);
-  };
-}
-
 module _ (programs : Programs) where
   lines_at_first : (mode : Mode) (file : List ℕ) (held : Option (List ℕ)) → StopsIn programs mode file (Some file) held held run.Read
   unfolding split_at_newlines
-  lines_at_first Dump file held = nothing_printed _ _ _ file held refl
-  lines_at_first Calls file held = nothing_printed _ _ _ file held refl
+  lines_at_first Dump file held = stops_unread run.Read _ _ _ file held refl refl (nothing_more held)
+  lines_at_first Calls file held = stops_unread run.Read _ _ _ file held refl refl (nothing_more held)
   lines_at_first Sim file held = record {
     read = [];
     consumed = refl;
@@ -102,8 +77,8 @@ module _ (programs : Programs) where
   }
 
   pub at_first : (b : Bool) (times : Times) (mode : Mode) (file : List ℕ) (held : Option (List ℕ)) → StopsAs programs b times mode file (Some file) held held (Run run.Read)
-  at_first true times Dump file held = ([], 0, record { rest = packets_of file; joined = refl; few = omega arith; place = inl refl }, nothing_more held)
-  at_first true times Calls file held = ([], 0, record { rest = packets_of file; joined = refl; few = omega arith; place = inl refl }, nothing_more held)
+  at_first true times Dump file held = (tt, [], 0, record { rest = packets_of file; joined = refl; few = omega arith; place = inl refl }, nothing_more held)
+  at_first true times Calls file held = (tt, [], 0, record { rest = packets_of file; joined = refl; few = omega arith; place = inl refl }, nothing_more held)
   at_first true times Sim file held = lines_at_first Sim file held
   at_first false times mode file held = lines_at_first mode file held
 

@@ -1,5 +1,5 @@
 -- A description that is longer than one may be is refused as its beginning is.
-use Rattle.std.proofs.Common.{◌≡◌, ◌∙◌, ap, sym, subst, refl, arith, ℕ, ◌<◌, ◌≤◌, ◌-◌, List, [], ◌++◌, length, take, Bool, true, false, nat_lt, Option, Some, None, Result, Ok, Err, length-append, append-nil}
+use Rattle.std.proofs.Common.{◌≡◌, ◌∙◌, ap, sym, subst, refl, arith, ℕ, ◌<◌, ◌≤◌, ◌-◌, List, [], ◌++◌, length, Bool, true, false, nat_lt, Option, Some, None, Result, Ok, Err, length-append, append-nil}
 use Rattle.std.specs.Prelude.{IfSome}
 use Rattle.std.specs.Io.KnownBytes.{Consumes, IsAtEnd}
 use Rattle.std.proofs.lemmas.Bool.{lt-leb, ltb-false, ltb-true}
@@ -14,7 +14,7 @@ use Rattle.courier_programs.specs.Texts.{TextFault, position_behind, text_meant}
 use Rattle.xns_lines.specs.declared.fault.RunFault.TheVariants as run
 use Rattle.xns_command.specs.declared.description_fault.DescriptionFault.{DescriptionFault}
 use Rattle.xns_command.specs.declared.description_fault.DescriptionFault.TheVariants.{Run, Wrong}
-use Rattle.xns_command.specs.Descriptions.{IsDescribed, IsFaultOf, IsWrong}
+use Rattle.xns_command.specs.Descriptions.{IsDescribed}
 
 -- one that is too long has that fault, whatever else it has
 long_refused : (text : List ℕ) (before : List Program) → 262144 < length text → text_meant text before ≡ Err (262144, reasons.Notation notation.TooLong)

@@ -3,7 +3,7 @@ use Rattle.std.proofs.Common.{◌≡◌, ◌∙◌, ℕ, List, Option, Some, sli
 use Rattle.std.specs.Prelude.{slice_set}
 use Rattle.xns_host.specs.Hosting.{IsApart}
 use Rattle.xns_host.specs.declared.guest.Guest.{Guest}
-use Rattle.xns_host.proofs.Noting.{place_other, place_set}
+use Rattle.xns_agenda.proofs.Putting.{place_other, place_set}
 
 pub apart_then : (a b c : List (Option Guest)) (number : ℕ) → IsApart a b number → IsApart b c number → IsApart a c number
 apart_then a b c number first next = record { others = λ k other. next.others k other ∙ first.others k other }

@@ -15,7 +15,7 @@ use Rattle.xns_connection.specs.declared.connection.Connection.{Connection}
 use Rattle.xns_agenda.specs.declared.due.Due.{Due}
 use Rattle.xns_agenda.specs.declared.due.Due.TheVariants.{Never, AgainAt, AskAt, ForgetAt}
 use Rattle.xns_host.specs.declared.guest.Guest.{Guest}
-use Rattle.xns_host.proofs.Noting.{same_or_other}
+use Rattle.xns_agenda.proofs.Putting.{same_or_other}
 use Rattle.xns_host.proofs.Undone.{not_gone_yet}
 use Rattle.xns_host.proofs.Waking.{HasTime, has_time}
 

@@ -10,7 +10,7 @@ use Rattle.xns_agenda.specs.Turns.{HasNoTurn, Line, has_turn, with_turn}
 use Rattle.xns_connection.specs.declared.connection.Connection.{Connection}
 use Rattle.xns_host.specs.declared.guest.Guest.{Guest}
 use Rattle.xns_connection.specs.declared.why.Why.{Why}
-use Rattle.xns_host.proofs.Noting.{within}
+use Rattle.xns_agenda.proofs.Putting.{within}
 
 abbrev Places : Type 0
 Places = List (Option Guest)

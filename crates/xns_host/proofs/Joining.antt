@@ -15,7 +15,7 @@ use Rattle.xns_host.specs.Registered.{HasRegistered, IsAllRegistered, IsAnother,
 use Rattle.xns_host.specs.declared.guest.Guest.{Guest}
 use Rattle.xns_host.specs.declared.peer.Peer.{Peer}
 use Rattle.xns_host.specs.declared.register.Register.{Register}
-use Rattle.xns_host.proofs.Noting.{same_or_other}
+use Rattle.xns_agenda.proofs.Putting.{same_or_other}
 use Rattle.xns_host.proofs.Openers.{is_equal, same_peer, stays}
 use Rattle.xns_host.proofs.Registered.{free_owner}
 

@@ -14,7 +14,7 @@ use Rattle.xns_host.specs.Registered.{HasLeft, HasRegistered, IsAllRegistered, I
 use Rattle.xns_host.specs.declared.guest.Guest.{Guest}
 use Rattle.xns_host.specs.declared.peer.Peer.{Peer}
 use Rattle.xns_host.specs.declared.register.Register.{Register}
-use Rattle.xns_host.proofs.Noting.{one_place, place_other, place_set, same_or_other}
+use Rattle.xns_agenda.proofs.Putting.{one_place, place_other, place_set, same_or_other}
 use Rattle.xns_host.proofs.Openers.{is_equal, same_peer, stays}
 
 abbrev Places : Type 0

@@ -1,10 +1,11 @@
 -- The agenda says of each place what the connection in it says.
-use Rattle.std.proofs.Common.{◌≡◌, ◌≢◌, ◌∙◌, ◌⊎◌, inl, inr, ap, refl, subst, sym, ℕ, zero, suc, ◌<◌, Bool, true, false, List, [], ◌∷◌, length, replicate, Option, Some, None, slice_get, get_or, arith}
+use Rattle.std.proofs.Common.{◌≡◌, ◌≢◌, ◌∙◌, ◌⊎◌, inl, inr, ap, refl, subst, sym, ℕ, ◌<◌, Bool, true, false, List, length, replicate, Option, Some, None, slice_get, get_or, arith}
 use Rattle.std.specs.Prelude.{not, ◌&&◌, ◌||◌, slice_set, if◌then◌else◌}
 use Rattle.std.specs.Option.{is_some, is_none}
-use Rattle.std.proofs.lemmas.List.{get_or-replicate, get_or-set_other, get_or-set_same, length-replicate, length-set, set-get_or}
-use Rattle.std.proofs.lemmas.Option.{get_or_from_slice_get, slice_get-get_or, slice_get_read, slice_get_within}
+use Rattle.std.proofs.lemmas.List.{get_or-replicate, get_or-set_other, get_or-set_same, length-replicate, set-get_or}
+use Rattle.std.proofs.lemmas.Option.{get_or_from_slice_get, slice_get_read, slice_get_within}
 use Rattle.courier_messages.specs.declared.message.Message.{Message}
+use Rattle.xns_agenda.proofs.Putting.{one_place, place_other, place_set, same_or_other}
 use Rattle.xns_agenda.specs.Agenda.{Plan, HasNobody, IsFor, IsNoted, noted, released}
 use Rattle.xns_host.specs.Events.{event_by, event_in, is_newly_open, later_event}
 use Rattle.xns_host.specs.Hosting.{IsAllNoted, IsNotedBut, IsNotedIn, facts_in, tells}
@@ -21,31 +22,7 @@ use Rattle.xns_connection.specs.declared.side.Side.{Side}
 use Rattle.xns_connection.specs.declared.side.Side.TheVariants.{Calls, Answers}
 use Rattle.xns_connection.specs.declared.why.Why.{Why}
 
--- ---- places
-
-pub same_or_other : (a b : ℕ) → (a ≡ b) ⊎ (a ≢ b)
-same_or_other a b = grind arith
-
-pub place_set : {X : Type 0} (xs : List X) (n : ℕ) (v : X) → n < length xs → slice_get (slice_set xs n v) n ≡ Some v
-place_set xs n v less = slice_get-get_or (slice_set xs n v) n v (omega (arith, length-set xs n v, less)) ∙ ap Some (get_or-set_same xs n v v less)
-
-pub place_other : {X : Type 0} (xs : List X) (n k : ℕ) (v : X) → k ≢ n → slice_get (slice_set xs n v) k ≡ slice_get xs k
-place_other [] n k v other = refl
-place_other (x ∷ xs) zero zero v other = absurd (other refl)
-place_other (x ∷ xs) zero (suc k) v other = refl
-place_other (x ∷ xs) (suc n) zero v other = refl
-place_other (x ∷ xs) (suc n) (suc k) v other = place_other xs n k v (λ e. other (ap suc e))
-
-pub one_place : {X : Type 0} (a b : X) (o : Option X) → o ≡ Some a → o ≡ Some b → a ≡ b
-one_place a b o left right = cc
-
 -- ---- turns
-
--- who has a turn has a number
-pub within : (xs : List (Option ℕ)) (k : ℕ) → is_some (get_or xs k None) ≡ true → k < length xs
-within [] k has = absurd (cc)
-within (x ∷ xs) zero has = omega arith
-within (x ∷ xs) (suc k) has = let less = within xs k has in omega (arith, less)
 
 last_same : (line : Line) (n : ℕ) → n < length line.tickets → has_turn (with_last line n) n ≡ true
 last_same line n less = ap is_some (get_or-set_same line.tickets n (Some line.next) None less)

@@ -16,7 +16,8 @@ use Rattle.xns_host.specs.declared.guest.Guest.{Guest}
 use Rattle.xns_host.specs.declared.peer.Peer.{Peer}
 use Rattle.xns_host.specs.declared.register.Register.{Register}
 use Rattle.xns_host.proofs.Ends.{same_id, same_opener}
-use Rattle.xns_host.proofs.Noting.{none_there, one_place, place_other, place_set, same_or_other}
+use Rattle.xns_agenda.proofs.Putting.{one_place, place_other, place_set, same_or_other}
+use Rattle.xns_host.proofs.Noting.{none_there}
 
 abbrev Places : Type 0
 Places = List (Option Guest)

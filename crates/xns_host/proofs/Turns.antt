@@ -28,7 +28,8 @@ use Rattle.xns_host.specs.declared.register.Register.{Register}
 use Rattle.xns_connection.specs.declared.why.Why.{Why}
 use Rattle.xns_host.proofs.Ends.{from_story, goes_story, hears_story, still_keeps, still_story}
 use Rattle.xns_host.proofs.Meant.{acts_so, given_so, handed_story, handing, handing_steps, heard_hears}
-use Rattle.xns_host.proofs.Noting.{kept_but, place_other, place_set, same_or_other}
+use Rattle.xns_agenda.proofs.Putting.{place_other, place_set, same_or_other}
+use Rattle.xns_host.proofs.Noting.{kept_but}
 use Rattle.xns_host.proofs.Placed.{set_back, settled_apart, settled_gone, settled_kept}
 use Rattle.xns_host.proofs.Registered.{still_registered}
 use Rattle.xns_host.proofs.Undone.{not_done_act, not_done_after, not_done_steps, not_done_told, still_not_done, waits_on}

@@ -19,7 +19,7 @@ use Rattle.xns_connection.specs.declared.connection.Connection.{Connection}
 use Rattle.xns_host.specs.declared.guest.Guest.{Guest}
 use Rattle.xns_connection.specs.declared.why.Why.{Why}
 use Rattle.xns_host.proofs.Apart.{set_there}
-use Rattle.xns_host.proofs.Noting.{place_other, place_set, same_or_other}
+use Rattle.xns_agenda.proofs.Putting.{place_other, place_set, same_or_other}
 
 abbrev Places : Type 0
 Places = List (Option Guest)

@@ -14,7 +14,7 @@ use Rattle.xns_agenda.specs.Waiting.{due_time}
 use Rattle.xns_agenda.specs.declared.facts.Facts.{Facts}
 use Rattle.xns_host.specs.declared.guest.Guest.{Guest}
 use Rattle.xns_host.specs.declared.outgoing.Outgoing.{Outgoing}
-use Rattle.xns_host.proofs.Noting.{within}
+use Rattle.xns_agenda.proofs.Putting.{within}
 use Rattle.xns_host.proofs.Ordered.{place_within}
 
 abbrev Places : Type 0

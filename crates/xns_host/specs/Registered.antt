@@ -27,7 +27,7 @@ pub record HasStory (g : Guest) : Type 0 where
   pub tells : Tells g.connection.conversation story
   pub opener : story.state.ends.role ≡ Responder → who_opened g ≡ Some (opener_at story.state.ends)
 
--- this connection has a story, and the register leads each of its names to this number
+-- a connection has a story, and the register leads each of its names to a number
 pub record IsRegistered (r : Register) (number : ℕ) (g : Guest) : Type 0 where
   pub story : ∥ HasStory g ∥₁
   pub known : 0 < id_of g

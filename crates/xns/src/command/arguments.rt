@@ -68,21 +68,16 @@ fn with_flag<'a>(
     command.arg(flag)
 }
 
-/// A command that takes an option more, with a file, which may come again.
-fn with_option<'a>(
-    alloc: Global,
-    command: Command<'a>,
-    name: &'a str,
-    help: &'a str,
-) -> Result<Command<'a>, AllocError>
-    ensures app { IfOk result (λ r. app_of r ≡ with_rule (app_of command.entry) (option_rule name.entry.now)) }
+/// A command that takes an option for descriptions of programs, which may come again.
+fn with_programs<'a>(alloc: Global, command: Command<'a>) -> Result<Command<'a>, AllocError>
+    ensures app { IfOk result (λ r. app_of r ≡ with_rule (app_of command.entry) (option_rule (codes "programs"))) }
     ensures local { IfOk result (λ r. (fields_of r).has_globals ≡ (fields_of command.entry).has_globals) }
 {
-    let option = Arg::new(alloc, name)
-        .long(name)
+    let option = Arg::new(alloc, PROGRAMS)
+        .long(PROGRAMS)
         .value_name("FILE")
         .action(ArgAction::Append)
-        .help(help);
+        .help(NAMING_HELP);
     command.arg(option)
 }
 
@@ -108,7 +103,7 @@ fn calls_command<'a>(alloc: Global) -> Result<Command<'a>, AllocError>
     let calls = with_file(alloc, calls, CAPTURE)?;
     let calls = with_flag(alloc, calls, TIMES, TIMES_HELP)?;
     let calls = with_flag(alloc, calls, RELATIVE, RELATIVE_HELP)?;
-    with_option(alloc, calls, PROGRAMS, NAMING_HELP)
+    with_programs(alloc, calls)
 }
 
 /// `sim`, with its file.

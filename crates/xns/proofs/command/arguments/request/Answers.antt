@@ -8,35 +8,29 @@ use Rattle.xns_command.specs.Modes.{name_of}
 use Rattle.xns.specs.Command.Arguments.{is_programs, named_subcommand, texts, words_of, words_of_named_calls, words_of_programs, words_with_file}
 use Rattle.xns.proofs.command.arguments.request.Goals as goal
 
-is_named : (mode : Mode) → named_subcommand (words_of mode) ≡ Some (name_of mode)
+is_named : (mode : Mode) → (named_subcommand (words_of mode) ≡ Some (name_of mode)) × (named_subcommand (words_with_file mode) ≡ Some (name_of mode))
 unfolding clap_on_literals
-is_named Dump = refl
-is_named Calls = refl
-is_named Sim = refl
+is_named Dump = (refl, refl)
+is_named Calls = (refl, refl)
+is_named Sim = (refl, refl)
 
 pub returns-in_err-error-clause-alone : goal.returns-in_err-error-clause-alone
 returns-in_err-error-clause-alone c =
     let p = err_from_is_err_and c.from_residual-in_err-error.result c.from_residual-in_err-error.ensures.1 in
     rw p.1 (λ mode h. p.2)
 
-pub returns-in_default-clause-alone : goal.returns-in_default-clause-alone
-returns-in_default-clause-alone c = λ mode h.
-    absurd (c.in_default.ensures.none mode (c.in_ok-name.ensures.named ∙ ap named_subcommand h ∙ is_named mode))
-
-is_named_with_file : (mode : Mode) → named_subcommand (words_with_file mode) ≡ Some (name_of mode)
-unfolding clap_on_literals
-is_named_with_file Dump = refl
-is_named_with_file Calls = refl
-is_named_with_file Sim = refl
-
 pub returns-in_err-error-clause-of_file : goal.returns-in_err-error-clause-of_file
 returns-in_err-error-clause-of_file c =
     let p = err_from_is_err_and c.from_residual-in_err-error.result c.from_residual-in_err-error.ensures.1 in
     rw p.1 (λ mode h. p.2)
 
+pub returns-in_default-clause-alone : goal.returns-in_default-clause-alone
+returns-in_default-clause-alone c = λ mode h.
+    absurd (c.in_default.ensures.none mode (c.in_ok-name.ensures.named ∙ ap named_subcommand h ∙ (is_named mode).0))
+
 pub returns-in_default-clause-of_file : goal.returns-in_default-clause-of_file
 returns-in_default-clause-of_file c = λ mode h.
-    absurd (c.in_default.ensures.none mode (c.in_ok-name.ensures.named ∙ ap named_subcommand h ∙ is_named_with_file mode))
+    absurd (c.in_default.ensures.none mode (c.in_ok-name.ensures.named ∙ ap named_subcommand h ∙ (is_named mode).1))
 
 pub returns-in_err-name-clause-kinds : goal.returns-in_err-name-clause-kinds
 returns-in_err-name-clause-kinds c =
