@@ -1,14 +1,13 @@
 -- By which steps what is done at a connection changes what a program sees of it.
 use Rattle.std.proofs.Common.{◌≡◌, ◌∙◌, ap, refl, sym, ℕ, ◌+◌, Bool, true, false, List, [], ◌∷◌, ◌++◌, length, Option, Some, None, Result}
 use Rattle.std.specs.Prelude.{◌||◌, if◌then◌else◌}
-use Rattle.std.specs.Option.{is_none}
 use Rattle.courier_messages.specs.RawCalls.{RawCall, call_message, transaction_of}
 use Rattle.courier_sessions.specs.Answering.{answer_message, transaction_in}
 use Rattle.courier_sessions.specs.declared.answer.Answer.{Answer}
 use Rattle.xns_connection.specs.Closing.{drains}
 use Rattle.xns_connection.specs.Deeds as deeds
 use Rattle.xns_connection.specs.Ends.{AConnectionKeepsItsEnd}
-use Rattle.xns_connection.specs.Deeds.{side_answered, side_called, side_taken}
+use Rattle.xns_connection.specs.Deeds.{side_answered, side_called}
 use Rattle.xns_connection.specs.Refusing.{side_answer_fault, side_call_fault}
 use Rattle.xns_host.specs.Went.{GuestActs, GuestGives, GuestHears, GuestStep, GuestUnserved, hears, lost}
 use Rattle.xns_connection.specs.declared.connection.Connection.{Connection}
@@ -22,7 +21,7 @@ use Rattle.host_world.specs.Dialogue.{Dialogue, held, calls, answers, asks}
 use Rattle.host_world.specs.Dialogue.{calling, answering, asking}
 use Rattle.host_world.proofs.Deeds.{makes, gives}
 use Rattle.host_world.proofs.Stepping.{acts, gives as gives_packet, not_served, steps}
-use Rattle.host_world.proofs.Shown.{Nearly, Passes, Shows, by_itself, first_said, nearly_by, not_true, settled, some_not, stays}
+use Rattle.host_world.proofs.Shown.{Nearly, Passes, Shows, by_itself, first_said, nearly, nearly_by, not_true, settled, some_not, stays}
 
 -- ---- the program closes a connection
 
@@ -43,7 +42,7 @@ neither : (a b : Bool) → (a || b) ≡ false → (a ≡ false) × (b ≡ false)
 neither true b e = absurd (cc)
 neither false b e = (refl, e)
 
--- one that is read is not closed, and the program was not told that it is
+-- a connection that is read is not closed, and the program was not told that it is
 unclosed : (c : Connection) → drains c.conversation.side c.conversation.closing ≡ false → (o : Option Why) → c.closed ≡ o → o ≡ None
 unclosed c reads None is = refl
 unclosed c reads (Some why) is = let drained = c.fits.deaf (λ none. absurd (cc)) in absurd (cc)
@@ -60,18 +59,9 @@ after_call ends now d g h c s step =
     let none : d.closed ≡ None = sym s.closed ∙ unclosed g.connection both.0 g.connection.closed refl in
     let e : Dialogue = record d { calls = d.calls ++ call_message (transaction_of (length d.calls + 1)) c ∷ [] } in
     let ch = steps now (deeds.made c) g.connection h.connection s.state (side_called t.side c) t.closing.wanted s.stands step.step refl refl refl in
-    let near : Nearly e h = record {
-      state = ch.state;
-      stands = ch.stands;
-      side = ch.keeps e.ours e.calls e.answers k.has;
-      ours = ap is_none (ends.steps now (deeds.made c) g.connection h.connection step.step).opener ∙ s.ours;
-      asked = λ z. ch.wanted ∙ s.asked z;
-      stays = λ some. absurd (some none);
-      told = ch.told ∙ s.told;
-      over = λ z. absurd (untold d g s none z);
-      unheard = λ z theirs. let our = k.is_ours in absurd (cc);
-      newly = λ z. s.newly (sym (ap (λ (x : Guest). x.opening_untold) step.same) ∙ z);
-    } in
+    let near : Nearly e h
+    = nearly d e g h (side_called t.side c) t.closing.wanted s ch (ends.steps now (deeds.made c) g.connection h.connection step.step).opener refl refl refl k.has s.asked
+    (λ z. absurd (untold d g s none z)) (λ z theirs. let our = k.is_ours in absurd (cc)) (λ z. s.newly (sym (ap (λ (x : Guest). x.opening_untold) step.same) ∙ z)) in
     first_said (held d) (held e) (calls c) [] (Some (Some h))
     (calling d c k.is_ours k.even (not_true d.asked (λ z. let wanted = s.asked z in let unwanted = both.1 in cc)) none) refl (settled e h near)
 
@@ -84,20 +74,10 @@ after_answer ends now d g h kind words s step =
     let none : d.closed ≡ None = sym s.closed ∙ unclosed g.connection may.0 g.connection.closed refl in
     let e : Dialogue = record d { answers = d.answers ++ answer_message kind (transaction_in k.call) words ∷ [] } in
     let ch = steps now (deeds.gave kind words) g.connection h.connection s.state (side_answered t.side kind words) t.closing.wanted s.stands step.step refl refl refl in
-    let near : Nearly e h = record {
-      state = ch.state;
-      stands = ch.stands;
-      side = ch.keeps e.ours e.calls e.answers k.has;
-      ours = ap is_none (ends.steps now (deeds.gave kind words) g.connection h.connection step.step).opener ∙ s.ours;
-      asked = λ z. ch.wanted ∙ s.asked z;
-      stays = λ some. absurd (some none);
-      told = ch.told ∙ s.told;
-      over = λ z. absurd (untold d g s none z);
-      unheard = λ z. s.unheard (sym (ap (λ (x : Guest). x.heard_of) step.same) ∙ z);
-      newly = λ z.
-          let ours : d.ours ≡ true = (s.newly (sym (ap (λ (x : Guest). x.opening_untold) step.same) ∙ z)).0 in
-          let theirs = k.is_theirs in absurd (cc);
-    } in
+    let near : Nearly e h
+    = nearly d e g h (side_answered t.side kind words) t.closing.wanted s ch (ends.steps now (deeds.gave kind words) g.connection h.connection step.step).opener refl refl refl k.has s.asked
+    (λ z. absurd (untold d g s none z)) (λ z. s.unheard (sym (ap (λ (x : Guest). x.heard_of) step.same) ∙ z))
+    (λ z. let ours : d.ours ≡ true = (s.newly (sym (ap (λ (x : Guest). x.opening_untold) step.same) ∙ z)).0 in let theirs = k.is_theirs in absurd (cc)) in
     first_said (held d) (held e) (answers kind words) [] (Some (Some h)) (answering d k.call kind words k.is_theirs k.is_open_call none) refl (settled e h near)
 
 -- ---- by itself, in each way

@@ -9,8 +9,10 @@ use Rattle.xns_host.specs.Hosting.{may_go}
 use Rattle.xns_connection.specs.Living.{Deeds}
 use Rattle.xns_host.specs.Places.{Acts, ActsAt, AsksEvent, AsksInVain, GivesNone, Places, Turns, became, packet_passed, seated, vacated_if}
 use Rattle.xns_host.specs.Places as places
-use Rattle.xns_connection.specs.Step.{AStepKeepsItsPromises}
-use Rattle.xns_host.specs.Went.{GuestGives}
+use Rattle.xns_connection.specs.Step.{AStepKeepsItsPromises, parts_of}
+use Rattle.xns_connection.specs.Deeds.{Parts}
+use Rattle.xns_agenda.specs.Waiting.{act_at}
+use Rattle.xns_host.specs.Went.{GuestActs, GuestGives}
 use Rattle.xns_host.specs.declared.guest.Guest.{Guest}
 use Rattle.xns_host.specs.declared.host_fault.HostFault.{HostFault}
 use Rattle.xns_host.specs.declared.outgoing.Outgoing.{Outgoing}
@@ -25,22 +27,42 @@ use Rattle.host_world.proofs.Guests.{acts, gives}
 use Rattle.host_world.proofs.Led.{kept_then}
 use Rattle.host_world.proofs.Numbers.{at_place, beside, may_be_told, same_or_other}
 use Rattle.host_world.proofs.Paired.{stays_so}
+use Rattle.host_world.proofs.Untold.{acted_told, given_told}
 
 -- ---- one connection
 
+-- a function tells the program that the connection is closed, or the program was told that before
+abbrev pub WasTold : Bool → Guest → Type 0
+WasTold told g = (told ≡ true) ⊎ (g.connection.told ≡ true)
+
+-- where the program was told in the end that the connection is closed, a function told it, or it was told before
+abbrev pub TellsOn : Bool → Guest → Guest → Type 0
+TellsOn told g h = h.connection.told ≡ true → WasTold told g
+
 -- a connection went on to the one in this place, or was forgotten and nobody is there
-pub data Led (a b : Station) (programs : List Program) (m : Meeting) (side : Side) (did : Deeds → Deeds) (gave : List (List ℕ)) : Option (Option Guest) → Type 0 where
-  led : (h : Guest) → LeadsTo a b programs m side h did gave → Led a b programs m side did gave (Some (Some h))
-  left : (h : Guest) → LeadsTo a b programs m side h did gave → MayBeForgotten h → Led a b programs m side did gave (Some None)
+pub data Led (a b : Station) (programs : List Program) (m : Meeting) (side : Side) (did : Deeds → Deeds) (gave : List (List ℕ)) (told : Bool) (g : Guest) : Option (Option Guest) → Type 0 where
+  led : (h : Guest) → LeadsTo a b programs m side h did gave → TellsOn told g h → Led a b programs m side did gave told g (Some (Some h))
+  left : (h : Guest) → LeadsTo a b programs m side h did gave → WasTold told g → Led a b programs m side did gave told g (Some None)
 
-abbrev pub Goes : (did : Deeds → Deeds) (gave : List (List ℕ)) (g : Guest) (place : Option (Option Guest)) → Type 0
-Goes did gave g place = (a b : Station) (programs : List Program) (m : Meeting) (side : Side) → Meets a b programs m → (at m side).conversation ≡ g.connection.conversation
-    → Led a b programs m side did gave place
+abbrev pub Goes : (did : Deeds → Deeds) (gave : List (List ℕ)) (told : Bool) (g : Guest) (place : Option (Option Guest)) → Type 0
+Goes did gave told g place = (a b : Station) (programs : List Program) (m : Meeting) (side : Side) → Meets a b programs m → (at m side).conversation ≡ g.connection.conversation
+    → Led a b programs m side did gave told g place
 
--- a guest that was there went on by itself, and no guest came
+-- a guest that was there went on by itself, and no guest came: one that is there was there
 pub record Still (old new : Option (Option Guest)) : Type 0 where
   pub none : old ≡ Some None → new ≡ Some None
-  pub goes : (g : Guest) → old ≡ Some (Some g) → Goes no_more [] g new
+  pub goes : (g : Guest) → old ≡ Some (Some g) → Goes no_more [] false g new
+  pub from : (h : Guest) → new ≡ Some (Some h) → (g : Guest) × (old ≡ Some (Some g))
+
+pub tells_on : (g h : Guest) → h.connection.told ≡ g.connection.told → TellsOn false g h
+tells_on g h same z = inr (sym same ∙ z)
+
+pub told_before : (told : Bool) (f g : Guest) → TellsOn false f g → WasTold told g → WasTold told f
+told_before told f g on (inl now) = inl now
+told_before told f g on (inr was) = by (on was) where
+  by : WasTold false f → WasTold told f
+  by (inl never) = absurd (cc)
+  by (inr before) = inr before
 
 pub at_once : (g : Guest) → LeadsOn g g no_more []
 at_once g a b programs m side meets here = record { next = m; meets = meets; same = here; does = stays_so m side }
@@ -63,32 +85,37 @@ joined {m = m} {side = side} {did = did} {gave = gave} one two = record {
   };
 }
 
-pub led_on : {a b : Station} {programs : List Program} {m : Meeting} {side : Side} {g : Guest} {did : Deeds → Deeds} {gave : List (List ℕ)} {place : Option (Option Guest)}
-    → (one : LeadsTo a b programs m side g no_more []) → Led a b programs one.next side did gave place → Led a b programs m side did gave place
-led_on one (led h two) = led h (joined one two)
-led_on one (left h two may) = left h (joined one two) may
+pub led_on : {a b : Station} {programs : List Program} {m : Meeting} {side : Side} {f g : Guest} {did : Deeds → Deeds} {gave : List (List ℕ)} {told : Bool} {place : Option (Option Guest)}
+    → (one : LeadsTo a b programs m side g no_more []) → TellsOn false f g → Led a b programs one.next side did gave told g place → Led a b programs m side did gave told f place
+led_on {f = f} {g = g} {told = told} one on (led h two tells) = led h (joined one two) (λ z. told_before told f g on (tells z))
+led_on {f = f} {g = g} {told = told} one on (left h two was) = left h (joined one two) (told_before told f g on was)
 
 pub still : (o : Option (Option Guest)) → Still o o
-still o = record { none = λ e. e; goes = λ g e a b programs m side meets here. subst (Led a b programs m side no_more []) (sym e) (led g (at_once g a b programs m side meets here)) }
+still o = record { none = λ e. e; goes = λ g e a b programs m side meets here. subst (Led a b programs m side no_more [] false g) (sym e) (led g (at_once g a b programs m side meets here) inr); from = λ h e. (h, e) }
 
 pub still_then : (x y z : Option (Option Guest)) → Still x y → Still y z → Still x z
 still_then x y z p q = record {
   none = λ e. q.none (p.none e);
-  goes = λ g e a b programs m side meets here. by a b programs m side y q (p.goes g e a b programs m side meets here);
+  goes = λ g e a b programs m side meets here. by g a b programs m side y q (p.goes g e a b programs m side meets here);
+  from = λ h e. let k = q.from h e in p.from k.0 k.1;
 } where
-  by : (a b : Station) (programs : List Program) (m : Meeting) (side : Side) (o : Option (Option Guest)) → Still o z → Led a b programs m side no_more [] o → Led a b programs m side no_more [] z
-  by a b programs m side o s (led h l) = led_on l (s.goes h refl a b programs l.next side l.meets l.same)
-  by a b programs m side o s (left h l may) = subst (Led a b programs m side no_more []) (sym (s.none refl)) (left h l may)
+  by : (g : Guest) (a b : Station) (programs : List Program) (m : Meeting) (side : Side) (o : Option (Option Guest)) → Still o z → Led a b programs m side no_more [] false g o → Led a b programs m side no_more [] false g z
+  by g a b programs m side o s (led h l on) = led_on l on (s.goes h refl a b programs l.next side l.meets l.same)
+  by g a b programs m side o s (left h l was) = subst (Led a b programs m side no_more [] false g) (sym (s.none refl)) (left h l was)
 
 pub one_guest : (g h : Guest) → (let a : Option (Option Guest) = Some (Some g) in a) ≡ Some (Some h) → g ≡ h
 one_guest g h e = cc
 
 -- first by itself, and then so
-pub then_does : (x y z : Option (Option Guest)) (k : Guest) (did : Deeds → Deeds) (gave : List (List ℕ)) → Still x y → y ≡ Some (Some k) → Goes did gave k z → (g : Guest) → x ≡ Some (Some g) → Goes did gave g z
-then_does x y z k did gave p is does g e a b programs m side meets here = by y (p.goes g e a b programs m side meets here) is where
-  by : (o : Option (Option Guest)) → Led a b programs m side no_more [] o → o ≡ Some (Some k) → Led a b programs m side did gave z
-  by o (led h l) same = led_on l (does a b programs l.next side l.meets (l.same ∙ ap (λ (g : Guest). g.connection.conversation) (one_guest h k same)))
-  by o (left h l may) same = absurd (cc)
+pub then_does : (x y z : Option (Option Guest)) (k : Guest) (did : Deeds → Deeds) (gave : List (List ℕ)) (told : Bool) → Still x y → y ≡ Some (Some k) → Goes did gave told k z
+    → (g : Guest) → x ≡ Some (Some g) → Goes did gave told g z
+then_does x y z k did gave told p is does g e a b programs m side meets here = by y (p.goes g e a b programs m side meets here) is where
+  by : (o : Option (Option Guest)) → Led a b programs m side no_more [] false g o → o ≡ Some (Some k) → Led a b programs m side did gave told g z
+  by o (led h l on) same =
+      let k_is : h ≡ k = one_guest h k same in
+      led_on {f = g} l on
+      (subst (λ (x : Guest). Led a b programs l.next side did gave told x z) (sym k_is) (does a b programs l.next side l.meets (l.same ∙ ap (λ (x : Guest). x.connection.conversation) k_is)))
+  by o (left h l was) same = absurd (cc)
 
 -- ---- places
 
@@ -113,33 +140,46 @@ set_still gs number old new is one k = by (same_or_other k number) where
       (subst (Still (Some old)) (sym (at_place gs number new (slice_get_within gs number old is))) one))
   by (inr other) = subst (Still (slice_get gs k)) (sym (beside gs number k new other)) (still (slice_get gs k))
 
-guest_still : (g h : Guest) → LeadsOn g h no_more [] → Still (Some (Some g)) (Some (Some h))
-guest_still g h on = record {
-  none = λ e. absurd (cc);
-  goes = λ k e a b programs m side meets here. led h (on a b programs m side meets (here ∙ ap (λ (x : Guest). x.connection.conversation) (sym (one_guest g k e))));
-}
+-- the one connection leads on to the other, and the program was told no more of it
+pub record GoesOn (g h : Guest) (gave : List (List ℕ)) : Type 0 where
+  pub on : LeadsOn g h no_more gave
+  pub told : h.connection.told ≡ g.connection.told
 
-forgotten_still : (g : Guest) → MayBeForgotten g → Still (Some (Some g)) (Some None)
-forgotten_still g may = record {
+guest_still : (g h : Guest) → GoesOn g h [] → Still (Some (Some g)) (Some (Some h))
+guest_still g h goes = record {
   none = λ e. absurd (cc);
   goes = λ k e a b programs m side meets here.
-      left g (at_once g a b programs m side meets (here ∙ ap (λ (x : Guest). x.connection.conversation) (sym (one_guest g k e)))) may;
+      led h (goes.on a b programs m side meets (here ∙ ap (λ (x : Guest). x.connection.conversation) (sym (one_guest g k e))))
+      (tells_on k h (goes.told ∙ ap (λ (x : Guest). x.connection.told) (one_guest g k e)));
+  from = λ k e. (g, refl);
 }
 
-pub turns_still : (P : Guest → Guest → Type 0) (number : ℕ) (p r : Places) → ((g h : Guest) → P g h → LeadsOn g h no_more []) → Turns P number p r → EachStill p.guests r.guests
+forgotten_still : (g : Guest) → g.connection.told ≡ true → Still (Some (Some g)) (Some None)
+forgotten_still g told = record {
+  none = λ e. absurd (cc);
+  goes = λ k e a b programs m side meets here.
+      left g (at_once g a b programs m side meets (here ∙ ap (λ (x : Guest). x.connection.conversation) (sym (one_guest g k e))))
+      (inr (ap (λ (x : Guest). x.connection.told) (sym (one_guest g k e)) ∙ told));
+  from = λ k e. absurd (cc);
+}
+
+pub turns_still : (P : Guest → Guest → Type 0) (number : ℕ) (p r : Places) → ((g h : Guest) → P g h → GoesOn g h []) → Turns P number p r → EachStill p.guests r.guests
 turns_still P number p r each t =
     subst (EachStill p.guests) (sym (ap (λ (q : Places). q.guests) t.is)) (set_still p.guests number (Some t.guest) (Some t.next) t.was (guest_still t.guest t.next (each t.guest t.next t.turn)))
 
 leaves : (p : Places) (number : ℕ) (h : Guest) (b : Bool) → may_go h.connection ≡ b → slice_get p.guests number ≡ Some (Some h) → EachStill p.guests (vacated_if b p number).guests
 leaves p number h false is there = all_still p.guests
-leaves p number h true is there = set_still p.guests number (Some h) None there (forgotten_still h (inl (may_be_told h.connection is)))
+leaves p number h true is there = set_still p.guests number (Some h) None there (forgotten_still h (may_be_told h.connection is))
+
+acts_on : (now : ℕ) (g h : Guest) → GuestActs now g h → GoesOn g h []
+acts_on now g h a = record { on = acts now g h a; told = ap (λ (p : Parts). p.told) a.parts ∙ acted_told (parts_of g.connection) (act_at g.connection.wait now) now }
 
 acts_at : (now number : ℕ) (p r : Places) → ActsAt now number p r → EachStill p.guests r.guests
 acts_at now number p r a =
     let q = seated p number a.next in
     subst (EachStill p.guests) (sym (ap (λ (s : Places). s.guests) a.is))
     (each_then p.guests q.guests (became p number a.next).guests
-    (set_still p.guests number (Some a.guest) (Some a.next) a.was (guest_still a.guest a.next (acts now a.guest a.next a.acts)))
+    (set_still p.guests number (Some a.guest) (Some a.next) a.was (guest_still a.guest a.next (acts_on now a.guest a.next a.acts)))
     (leaves q number a.next (may_go a.next.connection) refl (at_place p.guests number (Some a.next) (slice_get_within p.guests number (Some a.guest) a.was))))
 
 pub all_act : (now : ℕ) (p : Places) {r : Places} → Acts now p r → EachStill p.guests r.guests
@@ -148,10 +188,14 @@ all_act now p (Acts.another {q = q} {r = r} number before first act) = each_then
 
 -- ---- what goes out
 
+-- the program is told nothing where a packet is asked for
+pub gives_on : (law : AStepKeepsItsPromises) (now : ℕ) (result : Result (Option Outgoing) HostFault) (g h : Guest) → GuestGives now result g h → GoesOn g h (packets_in result)
+gives_on law now result g h s = record { on = gives now result g h law s; told = given_told now g.connection h.connection s.gave }
+
 pub no_packet : (law : AStepKeepsItsPromises) (now number : ℕ) (result : Result (Option Outgoing) HostFault) (p r : Places) → packets_in result ≡ [] → Turns (GuestGives now result) number (packet_passed p number) r
     → EachStill p.guests r.guests
 no_packet law now number result p r none t =
-    turns_still (GuestGives now result) number (packet_passed p number) r (λ g h s. subst (LeadsOn g h no_more) none (gives now result g h law s)) t
+    turns_still (GuestGives now result) number (packet_passed p number) r (λ g h s. subst (GoesOn g h) none (gives_on law now result g h s)) t
 
 pub gives_none : (law : AStepKeepsItsPromises) (now : ℕ) (p : Places) {r : Places} → GivesNone now p r → EachStill p.guests r.guests
 gives_none law now p GivesNone.nobody = all_still p.guests
@@ -169,12 +213,16 @@ in_vain now p (AsksInVain.another {q = q} {r = r} number before first asked) = e
 
 -- ---- what becomes of a guest in the words of the law
 
-pub follows : {a b : Station} {programs : List Program} {m : Meeting} {side : Side} {did : Deeds → Deeds} {gave : List (List ℕ)} {place : Option (Option Guest)}
-    → Led a b programs m side did gave place → IsFollowedTo a b programs m side did gave place
-follows (led h l) = following.stays h refl l
-follows (left h l may) = following.forgotten h l may
+may_go_then : (told : Bool) (g : Guest) → WasTold told g → MayBeForgotten told g
+may_go_then told g (inl now) = inl now
+may_go_then told g (inr before) = inr (inl before)
 
-pub followed : (may : Meeting → Side → Type 0) (x y : Option (Option Guest)) → Still x y → IsFollowed may no_more [] x y
+pub follows : {a b : Station} {programs : List Program} {m : Meeting} {side : Side} {did : Deeds → Deeds} {gave : List (List ℕ)} {told : Bool} {g : Guest} {place : Option (Option Guest)}
+    → Led a b programs m side did gave told g place → IsFollowedTo a b programs m side did gave told g place
+follows (led h l on) = following.stays h refl l
+follows {told = told} {g = g} (left h l was) = following.forgotten h l (may_go_then told g was) (inl refl)
+
+pub followed : (may : Meeting → Side → Type 0) (x y : Option (Option Guest)) → Still x y → IsFollowed may no_more [] false x y
 followed may x y s g e a b programs m side meets here z = follows (s.goes g e a b programs m side meets here)
 
 pub did_same : (number k : ℕ) (did : Deeds → Deeds) → k ≡ number → did_at number did k ≡ did

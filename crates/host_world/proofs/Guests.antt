@@ -9,13 +9,13 @@ use Rattle.courier_sessions.specs.Answering.{answer_message}
 use Rattle.courier_sessions.specs.declared.answer.Answer.{Answer}
 use Rattle.courier_sessions.specs.declared.program.Program.{Program}
 use Rattle.item_world.specs.declared.side.Side.{Side}
-use Rattle.xns_agenda.specs.Waiting.{act_at, lingering}
+use Rattle.xns_agenda.specs.Waiting.{act_at}
 use Rattle.xns_agenda.specs.declared.act.Act.{Act}
 use Rattle.xns_agenda.specs.declared.act.Act.TheVariants.{Nothing, Again, Ask, GiveUp, Forget}
 use Rattle.xns_connection.specs.Acting.{Acts, idling, calling, handing, answering}
 use Rattle.xns_connection.specs.Connecting.{is_dead}
 use Rattle.xns_connection.specs.Deeds as deeds
-use Rattle.xns_connection.specs.Deeds.{Parts, acted_by, given_up, side_taken, why_left, with_answer}
+use Rattle.xns_connection.specs.Deeds.{Parts, acted_by, given_up, side_taken, with_answer}
 use Rattle.xns_connection.specs.Living.{Deeds}
 use Rattle.xns_connection.specs.Step.{AStepKeepsItsPromises, Hands, MovesOwed, calmly, moving_on, none_waits, parts_of}
 use Rattle.xns_connection.specs.Story.{GoesOn as StoryGoesOn, Story, asked_of, waiting_message, with_handed}
@@ -26,7 +26,6 @@ use Rattle.xns_connection.specs.declared.conversation.Conversation.{Conversation
 use Rattle.xns_host.specs.declared.guest.Guest.{Guest}
 use Rattle.xns_host.specs.declared.host_fault.HostFault.{HostFault}
 use Rattle.xns_host.specs.declared.outgoing.Outgoing.{Outgoing}
-use Rattle.xns_connection.specs.declared.why.Why.TheVariants.{NotServed}
 use Rattle.host_world.specs.Guests.{LeadsOn, HearsOn, LeadsTo, packets_in}
 use Rattle.host_world.specs.Meeting.{Meeting, at}
 use Rattle.host_world.specs.Meets.{Meets}
@@ -52,6 +51,20 @@ acts_so c d base did same act on a b programs m side meets here =
     acts_on m meets side (base h) did d (subst (λ (k : Conversation). Acts k h (at m side).deeds (base h) (did (at m side).deeds)) (sym here) (act h (at m side).deeds))
     (same ∙ sym (ap (λ (k : Conversation). k.packets) here)) goes.0 goes.1 goes.2
 
+-- the packets of a connection stay, and its story goes on with nothing of the program's
+abbrev GoesIdly : (c d : Conversation) → Type 0
+GoesIdly c d = (d.packets ≡ c.packets) × ((h : Story) → Tells c h → (m : Story) × Tells d m × StoryGoesOn h m)
+
+idly : (g h : Guest) → GoesIdly g.connection.conversation h.connection.conversation → LeadsOn g h no_more []
+idly g h on a b programs m side meets here =
+    leads h (acts_so g.connection.conversation h.connection.conversation (λ k. k) no_more on.0 (λ k l. idling) on.1 a b programs m side meets here)
+
+as_before : (c d : Conversation) → d ≡ c → GoesIdly c d
+as_before c d same = (ap (λ (k : Conversation). k.packets) same, λ h t. (h, subst (λ (k : Conversation). Tells k h) (sym same) t, stays h))
+
+as_given_up : (c d : Conversation) → d ≡ given_up c → GoesIdly c d
+as_given_up c d same = (ap (λ (k : Conversation). k.packets) same, λ h t. (h, subst (λ (k : Conversation). Tells k h) (sym same) (tells_given_up c h t), stays h))
+
 -- ---- the program's part
 
 pub calls : (now : ℕ) (c : RawCall) (g h : Guest) → AStepKeepsItsPromises → GuestStep now (deeds.made c) g h → LeadsOn g h (one_call_more c) []
@@ -60,9 +73,7 @@ calls now c g h law s a b programs m side meets here =
     (λ k t. (law now (deeds.made c) g.connection h.connection s.step).story k t) a b programs m side meets here)
 
 pub closes : (now : ℕ) (g h : Guest) → AStepKeepsItsPromises → GuestStep now deeds.asked g h → LeadsOn g h no_more []
-closes now g h law s a b programs m side meets here =
-    leads h (acts_so g.connection.conversation h.connection.conversation (λ k. k) no_more s.step.packets (λ k l. idling)
-    (λ k t. (law now deeds.asked g.connection h.connection s.step).story k t) a b programs m side meets here)
+closes now g h law s = idly g h (s.step.packets, (law now deeds.asked g.connection h.connection s.step).story)
 
 pub answers : (now : ℕ) (kind : Answer) (k : ℕ) (words : List ℕ) (g h : Guest) → AStepKeepsItsPromises → GuestStep now (deeds.gave kind words) g h → asked_of g.connection.conversation.side ≡ Some k
     → LeadsOn g h (one_answer_more (answer_message kind k words)) []
@@ -104,57 +115,37 @@ hands now m g h law t is a b programs x side meets here =
     (λ k told_it. by_hands now c h.connection m k law is told_it hand) a b programs x side meets here)
 
 pub tells : (now : ℕ) (g h : Guest) → GuestTells now g h → waiting_message g.connection.conversation.side ≡ None → LeadsOn g h no_more []
-tells now g h t is a b programs m side meets here =
-    let same : h.connection.conversation ≡ g.connection.conversation = ap (λ (k : Connection). k.conversation) (t.closed is) in
-    leads h (acts_so g.connection.conversation h.connection.conversation (λ k. k) no_more (ap (λ (k : Conversation). k.packets) same) (λ k l. idling)
-    (λ k told_it. (k, subst (λ (c : Conversation). Tells c k) (sym same) told_it, stays k)) a b programs m side meets here)
+tells now g h t is = idly g h (as_before g.connection.conversation h.connection.conversation (ap (λ (k : Connection). k.conversation) (t.closed is)))
 
 pub announced : (g h : Guest) → GuestAnnounced g h → LeadsOn g h no_more []
-announced g h is a b programs m side meets here =
-    let same : h.connection.conversation ≡ g.connection.conversation = ap (λ (k : Guest). k.connection.conversation) is in
-    leads h (acts_so g.connection.conversation h.connection.conversation (λ k. k) no_more (ap (λ (k : Conversation). k.packets) same) (λ k l. idling)
-    (λ k told_it. (k, subst (λ (c : Conversation). Tells c k) (sym same) told_it, stays k)) a b programs m side meets here)
+announced g h is = idly g h (as_before g.connection.conversation h.connection.conversation (ap (λ (k : Guest). k.connection.conversation) is))
 
 -- ---- by itself
 
-acted_on : (c : Conversation) (d : Conversation) → (h : Story) → Tells c h → d ≡ c → (m : Story) × Tells d m × StoryGoesOn h m
-acted_on c d h t same = (h, subst (λ (k : Conversation). Tells k h) (sym same) t, stays h)
-
-given_up_on : (c : Conversation) (d : Conversation) → (h : Story) → Tells c h → d ≡ given_up c → (m : Story) × Tells d m × StoryGoesOn h m
-given_up_on c d h t same = (h, subst (λ (k : Conversation). Tells k h) (sym same) (tells_given_up c h t), stays h)
-
-acts_by : (c d : Connection) (now : ℕ) (act : Act) → parts_of d ≡ acted_by (parts_of c) act now
-    → (d.conversation.packets ≡ c.conversation.packets) × ((h : Story) → Tells c.conversation h → (m : Story) × Tells d.conversation m × StoryGoesOn h m)
-acts_by c d now Nothing is = let same = ap (λ (p : Parts). p.conversation) is in (ap (λ (k : Conversation). k.packets) same, λ h t. acted_on c.conversation d.conversation h t same)
-acts_by c d now Again is = let same = ap (λ (p : Parts). p.conversation) is in (ap (λ (k : Conversation). k.packets) same, λ h t. acted_on c.conversation d.conversation h t same)
-acts_by c d now Ask is = let same = ap (λ (p : Parts). p.conversation) is in (ap (λ (k : Conversation). k.packets) same, λ h t. acted_on c.conversation d.conversation h t same)
-acts_by c d now GiveUp is = let same = ap (λ (p : Parts). p.conversation) is in (ap (λ (k : Conversation). k.packets) same, λ h t. given_up_on c.conversation d.conversation h t same)
-acts_by c d now Forget is = let same = ap (λ (p : Parts). p.conversation) is in (ap (λ (k : Conversation). k.packets) same, λ h t. acted_on c.conversation d.conversation h t same)
+acts_by : (c d : Connection) (now : ℕ) (act : Act) → d.conversation ≡ (acted_by (parts_of c) act now).conversation → GoesIdly c.conversation d.conversation
+acts_by c d now Nothing is = as_before c.conversation d.conversation is
+acts_by c d now Again is = as_before c.conversation d.conversation is
+acts_by c d now Ask is = as_before c.conversation d.conversation is
+acts_by c d now GiveUp is = as_given_up c.conversation d.conversation is
+acts_by c d now Forget is = as_before c.conversation d.conversation is
 
 pub acts : (now : ℕ) (g h : Guest) → GuestActs now g h → LeadsOn g h no_more []
-acts now g h s a b programs m side meets here =
-    let on = acts_by g.connection h.connection now (act_at g.connection.wait now) s.parts in
-    leads h (acts_so g.connection.conversation h.connection.conversation (λ k. k) no_more on.0 (λ k l. idling) on.1 a b programs m side meets here)
+acts now g h s = idly g h (acts_by g.connection h.connection now (act_at g.connection.wait now) (ap (λ (p : Parts). p.conversation) s.parts))
 
-unserved_by : (b : Bool) (c d : Connection) (error now : ℕ)
-    → parts_of d ≡ (if b then parts_of c else record (parts_of c) { conversation = given_up c.conversation; closed = Some (why_left c.conversation (NotServed error)); wait = lingering c.wait now })
-    → (d.conversation.packets ≡ c.conversation.packets) × ((h : Story) → Tells c.conversation h → (m : Story) × Tells d.conversation m × StoryGoesOn h m)
-unserved_by true c d error now is = let same = ap (λ (p : Parts). p.conversation) is in (ap (λ (k : Conversation). k.packets) same, λ h t. acted_on c.conversation d.conversation h t same)
-unserved_by false c d error now is = let same = ap (λ (p : Parts). p.conversation) is in (ap (λ (k : Conversation). k.packets) same, λ h t. given_up_on c.conversation d.conversation h t same)
+unserved_by : (closed : Bool) (c d : Conversation) (p q : Parts) → d ≡ (if closed then p else q).conversation → p.conversation ≡ c → q.conversation ≡ given_up c → GoesIdly c d
+unserved_by true c d p q is still left = as_before c d (is ∙ still)
+unserved_by false c d p q is still left = as_given_up c d (is ∙ left)
 
 pub not_served : (now error : ℕ) (g h : Guest) → GuestUnserved now error g h → LeadsOn g h no_more []
-not_served now error g h s a b programs m side meets here =
-    let on = unserved_by (is_some g.connection.closed) g.connection h.connection error now s.parts in
-    leads h (acts_so g.connection.conversation h.connection.conversation (λ n. n) no_more on.0 (λ n l. idling) on.1 a b programs m side meets here)
+not_served now error g h s =
+    idly g h (unserved_by (is_some g.connection.closed) g.connection.conversation h.connection.conversation (parts_of g.connection) _
+    (ap (λ (p : Parts). p.conversation) s.parts) refl refl)
 
 -- ---- what goes out
 
-owed_on : (b : Bool) (now : ℕ) (c d : Connection) → AStepKeepsItsPromises → MovesOwed b now c d
-    → (d.conversation.packets ≡ c.conversation.packets) × ((h : Story) → Tells c.conversation h → (m : Story) × Tells d.conversation m × StoryGoesOn h m)
-owed_on true now c d law step = (step.packets, λ h t. (law now deeds.nothing c d step).story h t)
-owed_on false now c d law same =
-    let is = ap (λ (k : Connection). k.conversation) same in
-    (ap (λ (k : Conversation). k.packets) is, λ h t. acted_on c.conversation d.conversation h t is)
+owed_on : (b : Bool) (now : ℕ) (c d : Connection) → AStepKeepsItsPromises → MovesOwed b now c d → GoesIdly c.conversation d.conversation
+owed_on true now c d law step = (step.packets, (law now deeds.nothing c d step).story)
+owed_on false now c d law same = as_before c.conversation d.conversation (ap (λ (k : Connection). k.conversation) same)
 
 packets_given : (way : ℕ) (left : Bool) (answer : Result (Option (List ℕ)) AllocError) → packets_in (given_by way left answer) ≡ option_to_list (packet_of answer)
 packets_given way left (Ok (Some p)) = refl
@@ -183,4 +174,4 @@ hears_it now bytes confirming g h law (hears {h = k} s) a b programs m side meet
     leads k (hears_on m meets side bytes k.connection.conversation (subst (λ (c : Conversation). Hears c k.connection.conversation bytes) (sym here) heard_so)
     (s.step.packets ∙ sym (ap (λ (c : Conversation). c.packets) here)) may)
 hears_it now bytes confirming g h law (lost stores) a b programs m side meets here may =
-    leads g (acts_so g.connection.conversation g.connection.conversation (λ k. k) no_more refl (λ k l. idling) (λ k t. (k, t, stays k)) a b programs m side meets here)
+    idly g g (as_before g.connection.conversation g.connection.conversation refl) a b programs m side meets here

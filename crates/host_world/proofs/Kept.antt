@@ -294,7 +294,7 @@ is_met laws keeps stories a b programs m here there meets =
 
 -- ---- a packet that was given may come
 
-made_there : (w : World) (side : Side) (bytes : List ℕ) → HasMade w side bytes → (k : ℕ) × (x : Emitted) × (slice_get w.bag k ≡ Some x) × (sender_and_bytes x ≡ (side, bytes))
+pub made_there : (w : World) (side : Side) (bytes : List ℕ) → HasMade w side bytes → (k : ℕ) × (x : Emitted) × (slice_get w.bag k ≡ Some x) × (sender_and_bytes x ≡ (side, bytes))
 made_there w side bytes made = there (slice_get w.bag made.0) refl (sym (slice_get-map sender_and_bytes w.bag made.0) ∙ made.1) where
   there : (o : Option Emitted) → slice_get w.bag made.0 ≡ o → option_map sender_and_bytes o ≡ Some (side, bytes) → (k : ℕ) × (x : Emitted) × (slice_get w.bag k ≡ Some x) × (sender_and_bytes x ≡ (side, bytes))
   there None is e = absurd (cc)

@@ -10,6 +10,7 @@ mod Hosts
 mod Telling
 mod Gives
 mod Guests
+mod Untold
 mod Following
 mod Followed
 mod Agreed
@@ -17,3 +18,4 @@ mod Kept
 mod Led
 mod Paired
 mod Onward
+mod Awaited

@@ -1,12 +1,11 @@
 -- What happens at each number where places change.
-use Rattle.std.proofs.Common.{◌≡◌, ◌≢◌, ◌∙◌, ◌⊎◌, inl, inr, ap, refl, sym, subst, ℕ, zero, suc, ◌+◌, ◌<◌, Bool, true, false, List, [], ◌∷◌, ◌++◌, length, Option, Some, None, Result, Ok, Err, append-nil, arith}
+use Rattle.std.proofs.Common.{◌≡◌, ◌≢◌, ◌∙◌, ◌⊎◌, inl, inr, ap, refl, sym, subst, ℕ, ◌+◌, Bool, true, false, List, [], ◌∷◌, ◌++◌, length, Option, Some, None, Result, Ok, Err, append-nil, arith}
 use Rattle.std.specs.Prelude.{cond, not, ◌&&◌, ◌==◌, if◌then◌else◌, slice_get, slice_set}
 use Rattle.std.specs.List.{filter}
 use Rattle.std.specs.Option.{is_some, is_none, option_to_list}
 use Rattle.std.proofs.lemmas.Bool.{eqb-true, eq-eqb}
-use Rattle.std.proofs.lemmas.List.{get_or-set_same, length-set}
 use Rattle.std.proofs.lemmas.List.Elements.{filter-append}
-use Rattle.std.proofs.lemmas.Option.{slice_get-get_or, slice_get_within}
+use Rattle.std.proofs.lemmas.Option.{slice_get_within}
 use Rattle.courier_messages.specs.Conversation.{conversation}
 use Rattle.courier_sessions.specs.Talks.{count_if}
 use Rattle.courier_sessions.specs.declared.program.Program.{Program}
@@ -14,6 +13,7 @@ use Rattle.xns_idp.specs.declared.address.Address.{Address}
 use Rattle.xns_spp.specs.Held.{Held}
 use Rattle.xns_spp.specs.State.{State}
 use Rattle.xns_host.specs.Hosting.{IsConnected, IsAnswering, IsPlace, free_place, of_closed, of_stranger, is_past, may_go, tells as has_news}
+pub use Rattle.xns_agenda.proofs.Putting.{place_other as beside, place_set as at_place, same_or_other}
 use Rattle.xns_agenda.specs.Waiting.{due_time}
 use Rattle.xns_host.specs.Places.{Acts, ActsAt, AsksEvent, AsksInVain, GivesNone, NextEvent, NextPacket, Places, Turns, became, event_passed, packet_passed, seated, taken_by, vacated, vacated_if}
 use Rattle.xns_host.specs.Places as places
@@ -50,21 +50,6 @@ passes_then xs ys v a b p next =
       course = course_on v p.events p.view q.events q.view p.course q.course;
       is = filter-append is_said p.events q.events ∙ (ap (λ (zs : List Happening). zs ++ filter is_said q.events) p.is ∙ ap (λ (zs : List Happening). xs ++ zs) q.is);
     }
-
--- ---- a place among places
-
-pub same_or_other : (a b : ℕ) → (a ≡ b) ⊎ (a ≢ b)
-same_or_other a b = grind arith
-
-pub at_place : {X : Type 0} (xs : List X) (n : ℕ) (v : X) → n < length xs → slice_get (slice_set xs n v) n ≡ Some v
-at_place xs n v less = slice_get-get_or (slice_set xs n v) n v (omega (arith, length-set xs n v, less)) ∙ ap Some (get_or-set_same xs n v v less)
-
-pub beside : {X : Type 0} (xs : List X) (n k : ℕ) (v : X) → k ≢ n → slice_get (slice_set xs n v) k ≡ slice_get xs k
-beside [] n k v other = refl
-beside (x ∷ xs) zero zero v other = absurd (other refl)
-beside (x ∷ xs) zero (suc k) v other = refl
-beside (x ∷ xs) (suc n) zero v other = refl
-beside (x ∷ xs) (suc n) (suc k) v other = beside xs n k v (λ e. other (ap suc e))
 
 -- at this number that is said, and at each other nothing
 abbrev pub One : ℕ → List Happening → ℕ → List Happening

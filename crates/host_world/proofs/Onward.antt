@@ -35,7 +35,7 @@ pub record Laws : Type 0 where
   pub stories : StoryLaws
 
 -- the two invariants of the world of items
-abbrev IsSound : World → Type 0
+abbrev pub IsSound : World → Type 0
 IsSound w = Holds w × Linked w
 
 stepped_sound : Laws → (w : World) (s : Step) → IsStep s → IsSound w → IsSound (stepped w s)
@@ -69,7 +69,7 @@ arrived_end w j x s e =
     same_end marks side (after_receive (end_of marks side) x.bytes) (option_to_list (receive_answer (end_of marks side) x.bytes).reply)
     ∙ ap (λ (t : State). after_receive t x.bytes) (same_marked w j x side ∙ e)
 
-sound : Laws → (a b : Station) (programs : List Program) → IsStation a → IsStation b → {m : Meeting} → Meets a b programs m → IsSound m.world
+pub sound : Laws → (a b : Station) (programs : List Program) → IsStation a → IsStation b → {m : Meeting} → Meets a b programs m → IsSound m.world
 sound laws a b programs here there (opens c d calls answers none empty) = (new_holds laws.ends a b here there, new_linked a b)
 sound laws a b programs here there (acts {m = m} before side act n same) =
     let k : Keeps a b programs m = kept laws.ends laws.order laws.stories a b programs here there before in

@@ -8,7 +8,7 @@ use Rattle.xns_spp.specs.Held.{StandsFor}
 use Rattle.xns_spp.specs.State.{State}
 use Rattle.xns_connection.specs.Deeds as deeds
 use Rattle.xns_connection.specs.Ends.{AConnectionKeepsItsEnd, opener_of}
-use Rattle.xns_connection.specs.Deeds.{side_answered, side_called, side_taken}
+use Rattle.xns_connection.specs.Deeds.{side_taken}
 use Rattle.xns_host.specs.Events.{event_by, event_in, event_of, is_newly_open, later_event}
 use Rattle.xns_connection.specs.Step.{Hands, calmly, moving_on, none_waits}
 use Rattle.xns_connection.specs.Story.{waiting_message}
@@ -24,7 +24,7 @@ use Rattle.host_world.specs.Seen.{news_of, number_of}
 use Rattle.host_world.proofs.Deeds.{answer_handed, call_handed}
 use Rattle.host_world.proofs.Sides.{Has}
 use Rattle.host_world.proofs.Stepping.{Changes, by_parts, steps}
-use Rattle.host_world.proofs.Shown.{Nearly, Passes, Shows, first_said, not_true, settled, stays}
+use Rattle.host_world.proofs.Shown.{Nearly, Passes, Shows, first_said, nearly, not_true, settled, shown_as, stays}
 
 -- ---- the program is told
 
@@ -50,18 +50,10 @@ after_hand ends now d g h m s t is = by d.ours refl where
   told_of = ap (λ (k : Guest). k.heard_of) t.same ∙ ap (λ (o : Option Message). is_some o || g.heard_of) is
 
   near : (e : Dialogue) → e.ours ≡ d.ours → e.asked ≡ d.asked → e.closed ≡ d.closed → e.told ≡ d.told → Has e.ours e.calls e.answers (side_taken g.connection.conversation.side) → Nearly e h
-  near e ours asked closed told has = record {
-    state = change.state;
-    stands = change.stands;
-    side = change.keeps e.ours e.calls e.answers has;
-    ours = ap is_none (ends.hands now g.connection h.connection (t.handed some)).opener ∙ (s.ours ∙ sym ours);
-    asked = λ z. change.wanted ∙ s.asked (sym asked ∙ z);
-    stays = λ k. change.stays (λ none. k (closed ∙ (sym s.closed ∙ none))) ∙ (s.closed ∙ sym closed);
-    told = change.told ∙ (s.told ∙ sym told);
-    over = λ z. absurd (some (s.over (sym told ∙ z)).1);
-    unheard = λ z. absurd (cc);
-    newly = λ z. let told_something : h.opening_untold ≡ false = ap (λ (k : Guest). k.opening_untold) t.same in absurd (cc);
-  }
+  near e ours asked closed told has =
+      nearly d e g h (side_taken g.connection.conversation.side) g.connection.conversation.closing.wanted s change
+      (ends.hands now g.connection h.connection (t.handed some)).opener ours closed told has (λ z. s.asked (sym asked ∙ z)) (λ z. absurd (some (s.over z).1))
+      (λ z. absurd (cc)) (λ z. let told_something : h.opening_untold ≡ false = ap (λ (k : Guest). k.opening_untold) t.same in absurd (cc))
 
   by : (b : Bool) → d.ours ≡ b → Passes (hands m ∷ []) (held d) (Some (Some h))
   by true our =
@@ -137,24 +129,9 @@ first_of false b e = absurd (cc)
 
 after_opening : (d : Dialogue) (g h : Guest) → Shows d g → is_newly_open g ≡ true → GuestAnnounced g h → Passes (announces ∷ []) (held d) (Some (Some h))
 after_opening d g h s is announced =
+    let e : Dialogue = record d { opened = true } in
     first_said (held d) (held e) announces [] (Some (Some h)) (announcing d (s.newly (first_of g.opening_untold g.confirmed is))) refl
-    (stays (held e) (Some (Some h)) (subst (Shows e) (sym announced) shown)) where
-      e : Dialogue
-      e = record d { opened = true }
-
-      shown : Shows e (record g { opening_untold = false })
-      shown = record {
-        state = s.state;
-        stands = s.stands;
-        side = s.side;
-        ours = s.ours;
-        asked = s.asked;
-        closed = s.closed;
-        told = s.told;
-        over = s.over;
-        unheard = s.unheard;
-        newly = λ z. absurd (cc);
-      }
+    (stays (held e) (Some (Some h)) (subst (Shows e) (sym announced) (shown_as g.tag true false d g s (λ z. absurd (cc)))))
 
 tells_by : AConnectionKeepsItsEnd → (now number : ℕ) (d : Dialogue) (g h : Guest) (event : Event) (o : Option Message) → Shows d g → GuestTells now g h → waiting_message g.connection.conversation.side ≡ o
     → event_by number g.tag o (if g.connection.told then None else g.connection.closed) ≡ Some event → Passes (news_of event ∷ []) (held d) (Some (Some h))

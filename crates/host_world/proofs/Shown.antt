@@ -9,6 +9,7 @@ use Rattle.xns_connection.specs.Ends.{opener_of}
 use Rattle.xns_connection.specs.Story.{waiting_message}
 use Rattle.xns_host.specs.Went.{GuestTagged}
 use Rattle.xns_host.specs.declared.guest.Guest.{Guest}
+use Rattle.xns_connection.specs.declared.side.Side.{Side}
 use Rattle.xns_connection.specs.declared.why.Why.{Why}
 use Rattle.host_world.specs.Dialogue.{Dialogue, IsUntold, View, free, held, Happening, closes}
 use Rattle.host_world.specs.Dialogue.{Move, closing, Course, is_said}
@@ -79,48 +80,18 @@ first_unseen v u x said place move e p = record {
 
 -- what a dialogue shows of a connection, but for why it is closed: the connection may be closed where the dialogue is not
 pub record Nearly (d : Dialogue) (g : Guest) : Type 0 where
-  pub state : State
-  pub stands : StandsFor g.connection.conversation.endpoint state
-  pub side : Has d.ours d.calls d.answers g.connection.conversation.side
-  pub ours : is_none (opener_of g.connection) ≡ d.ours
-  pub asked : d.asked ≡ true → g.connection.conversation.closing.wanted ≡ true
+  pub shows : Shows (record d { closed = g.connection.closed }) g
   pub stays : d.closed ≢ None → g.connection.closed ≡ d.closed
-  pub told : g.connection.told ≡ d.told
-  pub over : d.told ≡ true → (is_some d.closed ≡ true) × (waiting_message g.connection.conversation.side ≡ None)
-  pub unheard : g.heard_of ≡ false → d.ours ≡ false → d.calls ≡ []
-  pub newly : g.opening_untold ≡ true → IsUntold d
 
-shown_so : (d : Dialogue) (g : Guest) → Nearly d g → g.connection.closed ≡ d.closed → Shows d g
-shown_so d g n same = record {
-  state = n.state;
-  stands = n.stands;
-  side = n.side;
-  ours = n.ours;
-  asked = n.asked;
-  closed = same;
-  told = n.told;
-  over = n.over;
-  unheard = n.unheard;
-  newly = n.newly;
-}
+shown_so : (d : Dialogue) (g : Guest) → Nearly d g → (o : Option Why) → g.connection.closed ≡ o → Shows (record d { closed = o }) g
+shown_so d g n o is = subst (λ (p : Option Why). Shows (record d { closed = p }) g) is n.shows
 
 settled_by : (d : Dialogue) (g : Guest) → Nearly d g → (o p : Option Why) → d.closed ≡ o → g.connection.closed ≡ p → Passes [] (held d) (Some (Some g))
-settled_by d g n (Some why) p was is = stays (held d) (Some (Some g)) (shown_so d g n (n.stays (λ none. let some = was in absurd (cc))))
-settled_by d g n None None was is = stays (held d) (Some (Some g)) (shown_so d g n (is ∙ sym was))
+settled_by d g n (Some why) p was is = stays (held d) (Some (Some g)) (shown_so d g n d.closed (n.stays (λ none. let some = was in absurd (cc))))
+settled_by d g n None None was is = stays (held d) (Some (Some g)) (shown_so d g n d.closed (is ∙ sym was))
 settled_by d g n None (Some why) was is =
     let e : Dialogue = record d { closed = Some why } in
-    first_unseen (held d) (held e) (closes why) [] (Some (Some g)) (closing d why was) refl (stays (held e) (Some (Some g)) (record {
-      state = n.state;
-      stands = n.stands;
-      side = n.side;
-      ours = n.ours;
-      asked = n.asked;
-      closed = is;
-      told = n.told;
-      over = λ t. (refl, (n.over t).1);
-      unheard = n.unheard;
-      newly = n.newly;
-    }))
+    first_unseen (held d) (held e) (closes why) [] (Some (Some g)) (closing d why was) refl (stays (held e) (Some (Some g)) (shown_so d g n (Some why) is))
 
 pub settled : (d : Dialogue) (g : Guest) → Nearly d g → Passes [] (held d) (Some (Some g))
 settled d g n = settled_by d g n d.closed g.connection.closed refl refl
@@ -131,24 +102,40 @@ pub some_not : {X : Type 0} (o : Option X) → is_some o ≡ true → o ≢ None
 some_not None e z = absurd (cc)
 some_not (Some x) e z = absurd (cc)
 
+-- a connection changed as by a step, and a dialogue goes on from the one that showed it before, with the opener, the reason and whether that
+-- was told as they were
+pub nearly : (d e : Dialogue) (g h : Guest) (side : Side) (wanted : Bool) → Shows d g → Changes side wanted g.connection h.connection
+    → opener_of h.connection ≡ opener_of g.connection → e.ours ≡ d.ours → e.closed ≡ d.closed → e.told ≡ d.told → Has e.ours e.calls e.answers side
+    → (e.asked ≡ true → wanted ≡ true) → (d.told ≡ true → waiting_message h.connection.conversation.side ≡ None)
+    → (h.heard_of ≡ false → e.ours ≡ false → e.calls ≡ []) → (h.opening_untold ≡ true → IsUntold e) → Nearly e h
+nearly d e g h side wanted s c opener ours closed told has asked over unheard newly = record {
+  shows = record {
+    state = c.state;
+    stands = c.stands;
+    side = c.keeps e.ours e.calls e.answers has;
+    ours = ap is_none opener ∙ (s.ours ∙ sym ours);
+    asked = λ z. c.wanted ∙ asked z;
+    closed = refl;
+    told = c.told ∙ (s.told ∙ sym told);
+    over = λ z.
+        let was = sym told ∙ z in
+        let some = (s.over was).0 in
+        (ap is_some (still (some_not d.closed some)) ∙ some, over was);
+    unheard = unheard;
+    newly = newly;
+  };
+  stays = λ some. still (λ none. some (closed ∙ none)) ∙ sym closed;
+} where
+  still : d.closed ≢ None → h.connection.closed ≡ d.closed
+  still some = c.stays (λ none. some (sym s.closed ∙ none)) ∙ s.closed
+
 -- a connection changed by itself, and whether closing was asked for was noted
 pub nearly_by : (d : Dialogue) (g h : Guest) (asked wanted : Bool) → Shows d g → opener_of h.connection ≡ opener_of g.connection → h.heard_of ≡ g.heard_of → h.opening_untold ≡ g.opening_untold
     → Changes g.connection.conversation.side wanted g.connection h.connection → (asked ≡ true → wanted ≡ true) → Nearly (record d { asked = asked }) h
-nearly_by d g h asked wanted s opener heard opening c noted = record {
-  state = c.state;
-  stands = c.stands;
-  side = c.keeps d.ours d.calls d.answers s.side;
-  ours = ap is_none opener ∙ s.ours;
-  asked = λ z. c.wanted ∙ noted z;
-  stays = λ some. c.stays (λ none. some (sym s.closed ∙ none)) ∙ s.closed;
-  told = c.told ∙ s.told;
-  over = λ z.
-      let o = s.over z in
-      let reads_no_more = g.connection.fits.deaf (λ none. some_not d.closed o.0 (sym s.closed ∙ none)) in
-      (o.0, ap waiting_message (c.drained reads_no_more) ∙ o.1);
-  unheard = λ z. s.unheard (sym heard ∙ z);
-  newly = λ z. s.newly (sym opening ∙ z);
-}
+nearly_by d g h asked wanted s opener heard opening c noted =
+    nearly d (record d { asked = asked }) g h g.connection.conversation.side wanted s c opener refl refl refl s.side noted
+    (λ z. let o = s.over z in ap waiting_message (c.drained (g.connection.fits.deaf (λ none. some_not d.closed o.0 (sym s.closed ∙ none)))) ∙ o.1)
+    (λ z. s.unheard (sym heard ∙ z)) (λ z. s.newly (sym opening ∙ z))
 
 pub by_itself : (d : Dialogue) (g h : Guest) → Shows d g → opener_of h.connection ≡ opener_of g.connection → h.heard_of ≡ g.heard_of → h.opening_untold ≡ g.opening_untold
     → Changes g.connection.conversation.side g.connection.conversation.closing.wanted g.connection h.connection → Passes [] (held d) (Some (Some h))
@@ -158,20 +145,23 @@ pub not_true : (b : Bool) → (b ≡ true → ⊥) → b ≡ false
 not_true true never = absurd (never refl)
 not_true false never = refl
 
--- ---- the program gives it a tag
+-- ---- the program gives the connection a tag
+
+-- neither the tag of a connection nor whether the program was told that it is open changes what else is shown of it
+pub shown_as : (tag : ℕ) (opened untold : Bool) (d : Dialogue) (g : Guest) → Shows d g → (untold ≡ true → IsUntold (record d { opened = opened }))
+    → Shows (record d { opened = opened }) (record g { tag = tag; opening_untold = untold })
+shown_as tag opened untold d g s newly = record {
+  state = s.state;
+  stands = s.stands;
+  side = s.side;
+  ours = s.ours;
+  asked = s.asked;
+  closed = s.closed;
+  told = s.told;
+  over = s.over;
+  unheard = s.unheard;
+  newly = newly;
+}
 
 pub tagging : (tag : ℕ) (d : Dialogue) (g h : Guest) → Shows d g → GuestTagged tag g h → Passes [] (held d) (Some (Some h))
-tagging tag d g h s is = stays (held d) (Some (Some h)) (subst (Shows d) (sym is) same) where
-  same : Shows d (record g { tag = tag })
-  same = record {
-    state = s.state;
-    stands = s.stands;
-    side = s.side;
-    ours = s.ours;
-    asked = s.asked;
-    closed = s.closed;
-    told = s.told;
-    over = s.over;
-    unheard = s.unheard;
-    newly = s.newly;
-  }
+tagging tag d g h s is = stays (held d) (Some (Some h)) (subst (Shows d) (sym is) (shown_as tag d.opened g.opening_untold d g s s.newly))

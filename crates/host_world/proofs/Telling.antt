@@ -1,13 +1,11 @@
 -- What a connection has done is told on where no item moves: it is given up, a message is handed, a packet is made.
-use Rattle.std.proofs.Common.{◌≡◌, ◌⊎◌, inl, inr, ◌∙◌, ap, refl, sym, subst, ℕ, Bool, true, false, List, [], ◌∷◌, ◌++◌, append-nil, map, take, drop, length, Option, Some, None}
-use Rattle.std.specs.Prelude.{◌&&◌, ◌||◌, cond, not, slice_get, if◌then◌else◌, IfSome}
-use Rattle.std.specs.List.{filter}
-use Rattle.std.specs.Option.{is_some, option_to_list}
-use Rattle.std.proofs.lemmas.List.{map-append}
-use Rattle.std.proofs.lemmas.List.Elements.{filter-append}
+use Rattle.std.proofs.Common.{◌≡◌, ◌⊎◌, inl, inr, ◌∙◌, ap, refl, sym, subst, ℕ, Bool, true, false, List, [], ◌∷◌, ◌++◌, take, drop, length, Option, Some, None}
+use Rattle.std.specs.Prelude.{◌&&◌, ◌||◌, slice_get, if◌then◌else◌}
+use Rattle.std.specs.Option.{is_some}
 use Rattle.courier_messages.specs.declared.message.Message.{Message}
-use Rattle.courier_sessions.specs.Answering.{Answering, transaction_in, why_unlisted}
-use Rattle.courier_sessions.specs.Answerings.{is_listed}
+use Rattle.courier_sessions.proofs.Answered.{hands as call_handed}
+use Rattle.courier_sessions.proofs.Done.{hands as outcome_handed}
+use Rattle.courier_sessions.specs.Answering.{Answering, after_call, transaction_in, why_unlisted}
 use Rattle.courier_sessions.specs.Talk.{Talk}
 use Rattle.courier_sessions.specs.declared.program.Program.{Program}
 use Rattle.courier_sessions.specs.declared.unlisted.Unlisted.{Unlisted}
@@ -72,23 +70,8 @@ tells_given_up c h t = record {
 
 caller_handed : (h : Story) (t : Talk) (m : Message) → t.outcome ≡ Some m → CallerHas h t → CallerHas (record h { handed = h.handed ++ m ∷ [] }) (record t { outcome = None })
 caller_handed h t m is has =
-    let d = has.done in
-    record {
-      phase = has.phase;
-      done = record {
-        going = d.going;
-        items = d.items;
-        short = d.short;
-        transaction = d.transaction;
-        messages = append-nil (h.handed ++ m ∷ []) ∙ (ap (λ (o : Option Message). h.handed ++ option_to_list o) (sym is) ∙ d.messages);
-        answers = d.answers;
-        count = d.count;
-        single = λ z. refl;
-        ending = d.ending;
-      };
-      going = has.going;
-      table = has.table;
-    }
+    let done = outcome_handed h.made h.fed h.given h.handed (record t { failed = false; phase = has.phase }) m has.done is in
+    record { phase = has.phase; done = done; going = has.going; table = has.table }
 
 listed_is : (w : Option Unlisted) (n m : Message) → (if is_some w then None else Some n) ≡ Some m → (n ≡ m) × (w ≡ None)
 listed_is None n m e = (cc, refl)
@@ -104,31 +87,13 @@ one_of [] x y (ℕ.suc k) e = absurd (cc)
 one_of (z ∷ zs) x y ℕ.zero e = inl e
 one_of (z ∷ zs) x y (ℕ.suc k) e = one_of zs x y k e
 
-none_asked : (a : Answering) (o : Option Message) (m : Message) → a.call ≡ o → o ≡ Some m → (IfSome a.call (λ n. a.asked ≡ None)) → a.asked ≡ None
-none_asked a None m is e single = absurd (cc)
-none_asked a (Some n) m is e single = subst (λ (p : Option Message). IfSome p (λ k. a.asked ≡ None)) is single
-
 server_handed : (h : Story) (a : Answering) (m : Message) → a.call ≡ Some m → why_unlisted a.programs m ≡ None → ServerHas h a
     → ServerHas (record h { taken = h.taken ++ m ∷ []; handed = h.handed ++ m ∷ [] }) (record a { call = None; asked = Some (transaction_in m) })
 server_handed h a m is listed has =
-    let d = has.done in
-    let none = none_asked a a.call m refl is d.single in
-    let numbers : map transaction_in h.taken ≡ map transaction_in h.answers =
-    d.numbers ∙ (ap (λ (o : Option ℕ). map transaction_in h.answers ++ option_to_list o) none ∙ append-nil (map transaction_in h.answers)) in
+    let done = call_handed a.programs h.fed h.given h.taken h.handed h.answers (record a { failed = false; phase = has.phase }) m has.done is listed in
     record {
       phase = has.phase;
-      done = record {
-        table = d.table;
-        going = d.going;
-        items = d.items;
-        good = d.good;
-        numbers = map-append transaction_in h.taken (m ∷ []) ∙ ap (λ (l : List ℕ). l ++ transaction_in m ∷ []) numbers;
-        calls = append-nil (h.taken ++ m ∷ []) ∙ (ap (λ (o : Option Message). h.taken ++ option_to_list o) (sym is) ∙ d.calls);
-        listed = ap (λ (l : List Message). l ++ m ∷ []) d.listed
-            ∙ sym (filter-append (is_listed a.programs) h.taken (m ∷ []) ∙ ap (λ (l : List Message). filter (is_listed a.programs) h.taken ++ l) (one_listed a.programs m listed));
-        single = tt;
-        ending = d.ending;
-      };
+      done = done;
       going = has.going;
       table = has.table;
       rejected = λ k n u at why. elim (one_of h.taken m n k at) [
@@ -140,27 +105,23 @@ server_handed h a m is listed has =
       some_none None u e f = absurd (cc)
       some_none (Some v) u e f = absurd (cc)
 
-      one_listed : (programs : List Program) (m : Message) → why_unlisted programs m ≡ None → filter (is_listed programs) (m ∷ []) ≡ m ∷ []
-      one_listed programs m e = ap (λ (w : Option Unlisted). cond (not (is_some w)) (m ∷ []) []) e
-
 side_handed : (h : Story) (side : Side) (m : Message) → waiting_message side ≡ Some m → SideHas h side → SideHas (with_handed side h m) (side_taken side)
 side_handed h (Calls t) m is has = caller_handed h t m is has
 side_handed h (Answers a) m is has =
     let call = the_call a.programs a.call m is in
     subst (λ (o : Option Message). SideHas (with_handed (Answers a) h m) (Answers (handed_by o a))) (sym is) (server_handed h a m call.0 call.1 has)
 
+-- where handing any call leaves something as it was, handing none does too
+handed_keeps : {X : Type 0} (f : Answering → X) (a : Answering) (o : Option Message) → ((m : Message) → f (after_call a m) ≡ f a) → f (handed_by o a) ≡ f a
+handed_keeps f a None same = refl
+handed_keeps f a (Some m) same = same m
+
 same_stopped : (side : Side) (k : Closing) → drains (side_taken side) k ≡ drains side k
 same_stopped (Calls t) k = refl
-same_stopped (Answers a) k = taken (listed_call a.programs a.call) where
-  taken : (o : Option Message) → drains (Answers (handed_by o a)) k ≡ drains (Answers a) k
-  taken None = refl
-  taken (Some m) = refl
+same_stopped (Answers a) k = handed_keeps (λ (b : Answering). drains (Answers b) k) a (listed_call a.programs a.call) (λ m. refl)
 
 handed_out : (a : Answering) → out_of (side_taken (Answers a)) ≡ out_of (Answers a)
-handed_out a = by (listed_call a.programs a.call) where
-  by : (o : Option Message) → out_of (Answers (handed_by o a)) ≡ a.out
-  by None = refl
-  by (Some m) = refl
+handed_out a = handed_keeps (λ (b : Answering). b.out) a (listed_call a.programs a.call) (λ m. refl)
 
 pub tells_handed : (c : Conversation) (h : Story) (m : Message) → waiting_message c.side ≡ Some m → Tells c h → Tells (record c { side = side_taken c.side }) (with_handed c.side h m)
 tells_handed c h m is t = by c.side refl where

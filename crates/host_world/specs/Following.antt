@@ -1,5 +1,5 @@
 -- A host goes on with the meetings that its connections are in, whatever is called, until it forgets them.
-use Rattle.std.specs.Prelude.{◌≡◌, ◌⊎◌, ℕ, ◌==◌, true, false, List, [], if◌then◌else◌, Option, Some, None, Result, Ok, Err, slice_get}
+use Rattle.std.specs.Prelude.{◌≡◌, ◌≢◌, ◌⊎◌, ℕ, ◌==◌, Bool, true, false, List, [], ◌∷◌, if◌then◌else◌, Option, Some, None, Result, Ok, Err, slice_get}
 use Rattle.std.specs.Option.{is_some}
 use Rattle.courier_messages.specs.RawCalls.{RawCall}
 use Rattle.courier_sessions.specs.Answering.{answer_message}
@@ -13,6 +13,7 @@ use Rattle.xns_connection.specs.Deeds.{Deed}
 use Rattle.xns_connection.specs.Ends.{opener_of}
 use Rattle.xns_connection.specs.Living.{Deeds}
 use Rattle.xns_connection.specs.Story.{asked_of}
+use Rattle.xns_host.specs.Knowing.{id_of}
 use Rattle.xns_host.specs.Turn.{Abandons, ConnectsTo, MovesTo, ServesAt, Tags, TellsNext, Turn}
 use Rattle.xns_connection.specs.declared.conversation.Conversation.{Conversation}
 use Rattle.xns_host.specs.declared.event.Event.{Event}
@@ -29,32 +30,44 @@ use Rattle.host_world.specs.Seen.{number_of}
 use Rattle.host_world.specs.Station.{IsStation}
 use Rattle.host_world.specs.declared.station.Station.{Station}
 
--- the program was told that the connection is closed; or a peer opened it, and no call of it was handed
-abbrev pub MayBeForgotten : Guest → Type 0
-MayBeForgotten h = (h.connection.told ≡ true) ⊎ ((is_some (opener_of h.connection) ≡ true) × (h.heard_of ≡ false))
+-- a host may forget a connection when a function is called: the connection is over for the program by this function, which tells it so or by
+-- which it abandons the connection; or the program was told before that it is closed; or a peer opened it, and the program was handed no
+-- call of it
+abbrev pub MayBeForgotten : (over : Bool) → Guest → Type 0
+MayBeForgotten over g = (over ≡ true) ⊎ ((g.connection.told ≡ true) ⊎ ((is_some (opener_of g.connection) ≡ true) × (g.heard_of ≡ false)))
 
--- steps of the meeting led on, in which the program at this side did so and the connection gave these packets, to the connection in this
--- place; or to one that was forgotten
+-- a connection is not in this place: nobody is, or one that has another identifier of ours
+abbrev pub IsGone : Guest → Option (Option Guest) → Type 0
+IsGone g place = (place ≡ Some None) ⊎ ((h : Guest) × (place ≡ Some (Some h)) × (id_of h ≢ id_of g))
+
+-- steps of the meeting led on from a connection, in which the program at this side did so and the connection gave these packets, to the
+-- connection in this place; or the host forgot the connection behind them, as it may
 pub data IsFollowedTo (a b : Station) (programs : List Program) (m : Meeting) (side : Side) (did : Deeds → Deeds) (gave : List (List ℕ))
-    (place : Option (Option Guest)) : Type 0 where
-  stays : (h : Guest) → place ≡ Some (Some h) → LeadsTo a b programs m side h did gave → IsFollowedTo a b programs m side did gave place
-  forgotten : (h : Guest) → LeadsTo a b programs m side h did gave → MayBeForgotten h → IsFollowedTo a b programs m side did gave place
+    (over : Bool) (g : Guest) (place : Option (Option Guest)) : Type 0 where
+  stays : (h : Guest) → place ≡ Some (Some h) → LeadsTo a b programs m side h did gave → IsFollowedTo a b programs m side did gave over g place
+  forgotten : (h : Guest) → LeadsTo a b programs m side h did gave → MayBeForgotten over g → IsGone g place
+      → IsFollowedTo a b programs m side did gave over g place
 
 -- the connection that was in a place is followed, whatever meeting it is in, where what was done may be done to that meeting
-abbrev pub IsFollowed : (may : Meeting → Side → Type 0) (did : Deeds → Deeds) (gave : List (List ℕ)) (old new : Option (Option Guest)) → Type 0
-IsFollowed may did gave old new = (g : Guest) → old ≡ Some (Some g) → (a b : Station) (programs : List Program) (m : Meeting) (side : Side)
-    → Meets a b programs m → (at m side).conversation ≡ g.connection.conversation → may m side → IsFollowedTo a b programs m side did gave new
+abbrev pub IsFollowed : (may : Meeting → Side → Type 0) (did : Deeds → Deeds) (gave : List (List ℕ)) (over : Bool) (old new : Option (Option Guest))
+    → Type 0
+IsFollowed may did gave over old new = (g : Guest) → old ≡ Some (Some g) → (a b : Station) (programs : List Program) (m : Meeting) (side : Side)
+    → Meets a b programs m → (at m side).conversation ≡ g.connection.conversation → may m side
+    → IsFollowedTo a b programs m side did gave over g new
 
 -- at each number of a host the connection is followed
-abbrev pub EachFollowed : (may : Meeting → Side → Type 0) (did : ℕ → Deeds → Deeds) (gave : ℕ → List (List ℕ)) (h j : Host) → Type 0
-EachFollowed may did gave h j = (k : ℕ) → IsFollowed may (did k) (gave k) (slice_get h.guests.items k) (slice_get j.guests.items k)
+abbrev pub EachFollowed : (may : Meeting → Side → Type 0) (did : ℕ → Deeds → Deeds) (gave : ℕ → List (List ℕ)) (over : ℕ → Bool) (h j : Host)
+    → Type 0
+EachFollowed may did gave over h j =
+    (k : ℕ) → IsFollowed may (did k) (gave k) (over k) (slice_get h.guests.items k) (slice_get j.guests.items k)
 
 -- bytes may come to the connection, if any do
 abbrev pub MayTake : Option (List ℕ) → Meeting → Side → Type 0
 MayTake None m side = Unit {0}
 MayTake (Some bytes) m side = MayCome m side bytes
 
--- at this number the program did so, and nothing at the others; and so of the packets that a connection gave
+-- at this number the program did so, and nothing at the others; of the packets that a connection gave, and of being over for the
+-- program, likewise
 abbrev pub did_at : ℕ → (Deeds → Deeds) → ℕ → Deeds → Deeds
 did_at number did k = if k == number then did else no_more
 
@@ -64,6 +77,12 @@ gave_at number gave k = if k == number then gave else []
 abbrev pub gave_none : ℕ → List (List ℕ)
 gave_none k = []
 
+abbrev pub over_at : ℕ → Bool → ℕ → Bool
+over_at number over k = if k == number then over else false
+
+abbrev pub over_none : ℕ → Bool
+over_none k = false
+
 -- what the program does by an event that it is told
 abbrev pub deed_of : Event → Deeds → Deeds
 deed_of (events.Opened number tag) = no_more
@@ -71,29 +90,41 @@ deed_of (events.Call number tag program version procedure m) = one_message_more 
 deed_of (events.Answer number tag answer m) = one_message_more m
 deed_of (events.Closed number tag why) = no_more
 
--- what the program does by a function of its host, by number
-pub data ProgramHasDone (h j : Host) : (ℕ → Deeds → Deeds) → Type 0 where
-  called : (now number : ℕ) (c : RawCall) → Turn now number (deeds.made c) (Ok tt) h j → ProgramHasDone h j (did_at number (one_call_more c))
+-- whether an event tells the program that a connection is closed
+abbrev pub is_last : Event → Bool
+is_last (events.Opened number tag) = false
+is_last (events.Call number tag program version procedure m) = false
+is_last (events.Answer number tag answer m) = false
+is_last (events.Closed number tag why) = true
+
+-- what the program does by a function of its host, by number, and at which number the connection is over for it: it is told that the connection
+-- is closed, or abandons it
+pub data ProgramHasDone (h j : Host) : (ℕ → Deeds → Deeds) → (ℕ → Bool) → Type 0 where
+  called : (now number : ℕ) (c : RawCall) → Turn now number (deeds.made c) (Ok tt) h j → ProgramHasDone h j (did_at number (one_call_more c)) over_none
   answered : (now number k : ℕ) (kind : Answer) (words : List ℕ) (g : Guest) → slice_get h.guests.items number ≡ Some (Some g)
       → asked_of g.connection.conversation.side ≡ Some k → Turn now number (deeds.gave kind words) (Ok tt) h j
-      → ProgramHasDone h j (did_at number (one_answer_more (answer_message kind k words)))
-  closed : (now number : ℕ) → Turn now number deeds.asked (Ok tt) h j → ProgramHasDone h j (did_at number no_more)
-  was_told : (event : Event) → TellsNext (Some event) h j → ProgramHasDone h j (did_at (number_of event) (deed_of event))
-  connected : (now way socket : ℕ) (peer : Address) (number : ℕ) → ConnectsTo now way socket peer (Ok number) h j → ProgramHasDone h j (λ k. no_more)
-  was_refused : (now number : ℕ) (deed : Deed) (fault : HostFault) → Turn now number deed (Err fault) h j → ProgramHasDone h j (λ k. no_more)
-  abandoned_none : (number : ℕ) (fault : HostFault) → Abandons number (Err fault) h j → ProgramHasDone h j (λ k. no_more)
+      → ProgramHasDone h j (did_at number (one_answer_more (answer_message kind k words))) over_none
+  closed : (now number : ℕ) → Turn now number deeds.asked (Ok tt) h j → ProgramHasDone h j (did_at number no_more) over_none
+  was_told : (event : Event) → TellsNext (Some event) h j
+      → ProgramHasDone h j (did_at (number_of event) (deed_of event)) (over_at (number_of event) (is_last event))
+  connected : (now way socket : ℕ) (peer : Address) (number : ℕ) → ConnectsTo now way socket peer (Ok number) h j → ProgramHasDone h j (λ k. no_more) over_none
+  was_refused : (now number : ℕ) (deed : Deed) (fault : HostFault) → Turn now number deed (Err fault) h j → ProgramHasDone h j (λ k. no_more) over_none
+  abandoned : (number : ℕ) → Abandons number (Ok tt) h j → ProgramHasDone h j (λ k. no_more) (over_at number true)
+  abandoned_none : (number : ℕ) (fault : HostFault) → Abandons number (Err fault) h j → ProgramHasDone h j (λ k. no_more) over_none
   found_no_room : (now way socket : ℕ) (peer : Address) (fault : HostFault) → ConnectsTo now way socket peer (Err fault) h j
-      → ProgramHasDone h j (λ k. no_more)
-  was_told_nothing : TellsNext None h j → ProgramHasDone h j (λ k. no_more)
+      → ProgramHasDone h j (λ k. no_more) over_none
+  was_told_nothing : TellsNext None h j → ProgramHasDone h j (λ k. no_more) over_none
   served : (socket : ℕ) (programs : List Program) (result : Result (Unit {0}) HostFault) → ServesAt socket programs result h j
-      → ProgramHasDone h j (λ k. no_more)
-  moved : (network : ℕ) → MovesTo network h j → ProgramHasDone h j (λ k. no_more)
-  tagged : (number tag : ℕ) (result : Result (Unit {0}) HostFault) → Tags number tag result h j → ProgramHasDone h j (λ k. no_more)
+      → ProgramHasDone h j (λ k. no_more) over_none
+  moved : (network : ℕ) → MovesTo network h j → ProgramHasDone h j (λ k. no_more) over_none
+  tagged : (number tag : ℕ) (result : Result (Unit {0}) HostFault) → Tags number tag result h j → ProgramHasDone h j (λ k. no_more) over_none
 
--- a packet went out that the connection with this number gave, or none did that a connection gave
-pub data HasGiven (result : Result (Option Outgoing) HostFault) : (ℕ → List (List ℕ)) → Type 0 where
-  one : (number : ℕ) → HasGiven result (gave_at number (packets_in result))
-  none : HasGiven result gave_none
+-- the packet that goes out of the host is one that a connection gave that it has at this number; or none goes out; or the first of the host's
+-- stray replies does, which no connection gave
+pub data HasGiven (h : Host) (result : Result (Option Outgoing) HostFault) : (ℕ → List (List ℕ)) → Type 0 where
+  one : (number : ℕ) (g : Guest) → slice_get h.guests.items number ≡ Some (Some g) → HasGiven h result (gave_at number (packets_in result))
+  none : packets_in result ≡ [] → HasGiven h result gave_none
+  stray : (o : Outgoing) (others : List Outgoing) → h.strays.waiting ≡ o ∷ others → result ≡ Ok (Some o) → HasGiven h result gave_none
 
 -- ---- two hosts
 
@@ -111,7 +142,10 @@ pub record HostsStandFor (h k : Host) (here there : ℕ) (a b : Station) (progra
   pub calls : Has h here (at m A).conversation
   pub called : Has k there (at m B).conversation
 
--- two hosts stand for a meeting to which what was done led; or the connection at this side was forgotten
-pub data StandsOn (m : Meeting) (side : Side) (did : Deeds → Deeds) (gave : List (List ℕ)) (Stands : Meeting → Type 0) : Type 0 where
-  stands : (n : Meeting) → Stands n → DoesAt m n side did gave → StandsOn m side did gave Stands
-  forgot : (g : Guest) → MayBeForgotten g → StandsOn m side did gave Stands
+-- hosts stand for a meeting to which what was done led; or the host at this side forgot the connection behind such steps, as it may, and the
+-- connection is gone from the place
+pub data StandsOn (a b : Station) (programs : List Program) (m : Meeting) (side : Side) (did : Deeds → Deeds) (gave : List (List ℕ)) (over : Bool)
+    (old new : Option (Option Guest)) (Stands : Meeting → Type 0) : Type 0 where
+  stands : (n : Meeting) → Stands n → DoesAt m n side did gave → StandsOn a b programs m side did gave over old new Stands
+  forgot : (g : Guest) → old ≡ Some (Some g) → MayBeForgotten over g → IsGone g new
+      → (n : Meeting) → Meets a b programs n → DoesAt m n side did gave → StandsOn a b programs m side did gave over old new Stands

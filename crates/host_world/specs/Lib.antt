@@ -7,3 +7,4 @@ pub mod Dialogue
 pub mod Seen
 pub mod Guests
 pub mod Following
+pub mod Awaiting

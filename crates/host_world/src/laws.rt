@@ -1,14 +1,15 @@
 //! What the definitions imply, each as the contract of a function that does nothing.
 
-ghost use Rattle.std.specs.Prelude.{◌≡◌, ◌≢◌, ◌⊎◌, ◌≤◌, ◌∷◌, ◌++◌, [], ℕ, Bool, List, Option, Result, Some, None, Ok, Contains, length, slice_get, true};
+ghost use Rattle.std.specs.Prelude.{◌≡◌, ◌≢◌, ◌⊎◌, ◌≤◌, ◌∷◌, ◌++◌, [], ℕ, Bool, List, Option, Result, Some, None, Ok, Contains, length, slice_get, true, false};
 ghost use Rattle.courier_sessions.specs.declared.program.Program.{Program};
 ghost use Rattle.item_world.specs.Side.{other};
 ghost use Rattle.item_world.specs.World.{lifetime};
 ghost use Rattle.item_world.specs.declared.side.Side.{Side};
 ghost use Rattle.item_world.specs.declared.side.Side.TheVariants.{A, B};
+ghost use Rattle.host_world.specs.Awaiting.{CannotOpen, HasCalled, HasOpened, HostAwaits, IsSentFrom};
 ghost use Rattle.host_world.specs.Dialogue.{Course, Dialogue, Happened, Happening, IsInOrder, IsNewlyConnected, IsOpening, IsUnheard, View, WasTold};
 ghost use Rattle.host_world.specs.Dialogue.{announces, closes, free, goes, held, is_going, is_news, tells};
-ghost use Rattle.host_world.specs.Following.{EachFollowed, ProgramHasDone, HasGiven, HostsStandFor, IsFollowed, MayTake, StandsOn, gave_none};
+ghost use Rattle.host_world.specs.Following.{EachFollowed, ProgramHasDone, HasGiven, HostsStandFor, IsFollowed, MayTake, StandsOn, gave_none, over_none};
 ghost use Rattle.host_world.specs.Going.{CanFinish};
 ghost use Rattle.host_world.specs.Guests.{WhatAHostDoesIsAStepOfTheMeeting};
 ghost use Rattle.host_world.specs.Meeting.{Meeting, at};
@@ -18,7 +19,13 @@ ghost use Rattle.host_world.specs.Seen.{NumberHasHistory, HasLived};
 ghost use Rattle.host_world.specs.Station.{IsStation};
 ghost use Rattle.host_world.specs.declared.station.Station.{Station};
 ghost use Rattle.xns_connection.specs.Living.{Deeds};
-ghost use Rattle.xns_host.specs.Turn.{Abandons, GivesOut, TakesIn};
+ghost use Rattle.xns_connection.specs.declared.conversation.Conversation.{Conversation};
+ghost use Rattle.xns_idp.specs.declared.address.Address.{Address};
+ghost use Rattle.xns_spp.specs.Packet.{SppPacketModel, spp_packet_of};
+ghost use Rattle.xns_host.specs.Hosting.{address_in};
+ghost use Rattle.xns_host.specs.Ours.{IsOpener};
+ghost use Rattle.xns_host.specs.Turn.{Abandons, ConnectsTo, GivesOut, TakesIn, places_of, whole_of};
+ghost use Rattle.xns_host.specs.declared.guest.Guest.{Guest};
 ghost use Rattle.xns_host.specs.declared.host.Host.{Host};
 ghost use Rattle.xns_host.specs.declared.host_fault.HostFault.{HostFault};
 ghost use Rattle.xns_host.specs.declared.outgoing.Outgoing.{Outgoing};
@@ -78,36 +85,76 @@ pub fn what_a_host_does_is_a_step_of_the_meeting()
 
 /// Whatever is called of a host, it goes on with the meetings that its connections are in: by what the program does (`done`), by a packet that
 /// goes out, which one of them gave or none (`gives`), and by bytes that come, where they may come to the connection (`hears`). At each
-/// number the connection is led on by steps of the meeting until it is forgotten. Where the program abandons one, each other one stays
-/// (`abandons`).
+/// number the connection is led on by steps of the meeting, and is in its place then; or the host forgot it behind them, and it is gone from
+/// its place. A host forgets a connection only if the function tells the program that it is closed, or the program abandons it by the
+/// function or was told before, or a peer opened it and the program was handed no call of it. Where the program abandons one, each other
+/// one stays (`abandons`).
 pub fn a_host_goes_on_with_its_meetings()
-    ensures done { (h j : Host) (did : ℕ → Deeds → Deeds) → ProgramHasDone h j did → EachFollowed (MayTake None) did gave_none h j }
+    ensures done { (h j : Host) (did : ℕ → Deeds → Deeds) (over : ℕ → Bool) → ProgramHasDone h j did over
+        → EachFollowed (MayTake None) did gave_none over h j }
     ensures abandons { (number : ℕ) (h j : Host) → Abandons number (Ok tt) h j → (k : ℕ) → k ≢ number
-        → IsFollowed (MayTake None) no_more [] (slice_get h.guests.items k) (slice_get j.guests.items k) }
+        → IsFollowed (MayTake None) no_more [] false (slice_get h.guests.items k) (slice_get j.guests.items k) }
     ensures gives { (now : ℕ) (result : Result (Option Outgoing) HostFault) (h j : Host) → GivesOut now result h j
-        → (gave : ℕ → List (List ℕ)) × HasGiven result gave × EachFollowed (MayTake None) (λ k. no_more) gave h j }
+        → (gave : ℕ → List (List ℕ)) × HasGiven h result gave × EachFollowed (MayTake None) (λ k. no_more) gave over_none h j }
     ensures hears { (now way : ℕ) (bytes : List ℕ) (result : Bool) (h j : Host) → TakesIn now way bytes result h j
-        → EachFollowed (MayTake (Some bytes)) (λ k. no_more) gave_none h j }
+        → EachFollowed (MayTake (Some bytes)) (λ k. no_more) gave_none over_none h j }
 {
     xns_connection::laws::a_step_keeps_its_promises();
+    xns_connection::laws::a_connection_keeps_its_end();
 }
 
 /// Two hosts of which each has a connection of one meeting at a number. Their programs agree, and what each end handed up begins what the
 /// other's accepted (`agree`). Whatever is called of the host that calls (`calls`), or of the one that is called (`called`), the hosts stand for
-/// a meeting to which that led, until the host forgets the connection: so their programs still agree.
+/// a meeting to which that led: so their programs still agree. Or the host forgot the connection, as [`a_host_goes_on_with_its_meetings`]
+/// says it may, behind steps that led to such a meeting.
 pub fn two_hosts_agree()
     ensures agree { (h k : Host) (here there : ℕ) (a b : Station) (programs : List Program) (m : Meeting)
         → HostsStandFor h k here there a b programs m → IsMet programs m }
     ensures calls { (h j k : Host) (here there : ℕ) (a b : Station) (programs : List Program) (m : Meeting)
-        (taken : Option (List ℕ)) (did : ℕ → Deeds → Deeds) (gave : ℕ → List (List ℕ))
-        → HostsStandFor h k here there a b programs m → EachFollowed (MayTake taken) did gave h j → MayTake taken m A
-        → StandsOn m A (did here) (gave here) (HostsStandFor j k here there a b programs) }
+        (taken : Option (List ℕ)) (did : ℕ → Deeds → Deeds) (gave : ℕ → List (List ℕ)) (over : ℕ → Bool)
+        → HostsStandFor h k here there a b programs m → EachFollowed (MayTake taken) did gave over h j → MayTake taken m A
+        → StandsOn a b programs m A (did here) (gave here) (over here) (slice_get h.guests.items here) (slice_get j.guests.items here)
+        (HostsStandFor j k here there a b programs) }
     ensures called { (h j k : Host) (here there : ℕ) (a b : Station) (programs : List Program) (m : Meeting)
-        (taken : Option (List ℕ)) (did : ℕ → Deeds → Deeds) (gave : ℕ → List (List ℕ))
-        → HostsStandFor h k here there a b programs m → EachFollowed (MayTake taken) did gave k j → MayTake taken m B
-        → StandsOn m B (did there) (gave there) (HostsStandFor h j here there a b programs) }
+        (taken : Option (List ℕ)) (did : ℕ → Deeds → Deeds) (gave : ℕ → List (List ℕ)) (over : ℕ → Bool)
+        → HostsStandFor h k here there a b programs m → EachFollowed (MayTake taken) did gave over k j → MayTake taken m B
+        → StandsOn a b programs m B (did there) (gave there) (over there) (slice_get k.guests.items there) (slice_get j.guests.items there)
+        (HostsStandFor h j here there a b programs) }
 {
     two_connections_over_a_network_agree();
+}
+
+/// How two hosts come to such a meeting. A host that connects awaits its peer's connection, whichever that will be (`connects`), and goes on
+/// to, whatever is called of it, until it forgets its own (`goes_on`). Each packet that its connection gave says that it comes from there
+/// (`names`). Another host takes in a packet that says so and opens a connection. It makes that one, the packet comes to it, and if it may,
+/// the two hosts stand for a meeting; or it has no room or no memory, and its connections stay as they were (`opens`). Where a place that
+/// was free has a connection then, the packet opened that one so (`fills`).
+///
+/// Which connection the peer makes is known only once the packet comes. So what is said before holds of each that it can be, at the address
+/// that the host connected to.
+pub fn two_hosts_come_to_a_meeting()
+    ensures connects { (now way socket here : ℕ) (peer : Address) (h j : Host) → ConnectsTo now way socket peer (Ok here) h j
+        → HasCalled j here (address_in h.network h.host socket) peer }
+    ensures goes_on { (h j : Host) (here : ℕ) (a b : Station) (programs : List Program) (d : Conversation) (m : Meeting)
+        (taken : Option (List ℕ)) (did : ℕ → Deeds → Deeds) (gave : ℕ → List (List ℕ)) (over : ℕ → Bool)
+        → HostAwaits h here a b programs d m → EachFollowed (MayTake taken) did gave over h j → MayTake taken m A
+        → StandsOn a b programs m A (did here) (gave here) (over here) (slice_get h.guests.items here) (slice_get j.guests.items here)
+        (HostAwaits j here a b programs d) }
+    ensures names { (h : Host) (here : ℕ) (a b : Station) (programs : List Program) (d : Conversation) (m : Meeting) (bytes : List ℕ)
+        → HostAwaits h here a b programs d m → Contains (at m A).given bytes → IsSentFrom a bytes }
+    ensures opens { (now way : ℕ) (bytes : List ℕ) (result : Bool) (k l : Host) (p : SppPacketModel) (a : Station)
+        → TakesIn now way bytes result k l → spp_packet_of bytes ≡ Ok p → IsOpener (whole_of k) p → IsSentFrom a bytes
+        → ((there : ℕ) × HasOpened k l there bytes a) ⊎ ((places_of l ≡ places_of k) × CannotOpen k l) }
+    ensures fills { (now way there : ℕ) (bytes : List ℕ) (result : Bool) (k l : Host) (g : Guest) (a : Station)
+        → TakesIn now way bytes result k l → slice_get k.guests.items there ≡ Some None → slice_get l.guests.items there ≡ Some (Some g)
+        → IsSentFrom a bytes → HasOpened k l there bytes a }
+{
+    item_world::laws::end_laws_are_given();
+    item_world::laws::each_step_keeps_the_order();
+    item_world::laws::no_world_is_stuck();
+    xns_connection::laws::one_story_goes_on();
+    xns_connection::laws::two_programs_agree();
+    xns_connection::laws::a_step_keeps_its_promises();
 }
 
 /// From every meeting, whatever was lost, repeated and reordered, some further steps of the world that it goes through lead to one in which

@@ -5,6 +5,7 @@ ghost use Rattle.std.specs.Borrow.{sem};
 ghost use Rattle.std.specs.Option.{is_some, option_to_list};
 ghost use Rattle.courier_sessions.specs.Answering.{answer_message};
 ghost use Rattle.courier_sessions.specs.declared.program.Program.{Program};
+ghost use Rattle.xns_spp.specs.Ends.{is_ours_at};
 ghost use Rattle.xns_spp.specs.Held.{StandsFor};
 ghost use Rattle.xns_spp.specs.Packet.{SppPacketModel, spp_packet_of};
 ghost use Rattle.xns_spp.specs.Receiving.{StoresBytes};
@@ -12,10 +13,10 @@ ghost use Rattle.xns_spp.specs.State.{State};
 ghost use Rattle.xns_spp.specs.declared.dropped.Dropped.{Dropped};
 ghost use Rattle.xns_connection.specs.Calls.{call_model};
 ghost use Rattle.xns_connection.specs.Connecting.{is_dead};
-ghost use Rattle.xns_connection.specs.Deeds.{acted};
+ghost use Rattle.xns_connection.specs.Deeds.{acted, asked, gave, made};
 ghost use Rattle.xns_connection.specs.Reasons.{call_fault_of, answer_fault_of};
 ghost use Rattle.xns_connection.specs.Refusing.{Answers};
-ghost use Rattle.xns_connection.specs.Step.{IsMade, parts_of};
+ghost use Rattle.xns_connection.specs.Step.{GivesNext, Hands, IsMade, Step, is_ours_by, parts_of};
 ghost use Rattle.xns_connection.specs.Story.{asked_of, waiting_message};
 ghost use Rattle.xns_connection.specs.Telling.{Hears, Rested};
 ghost use Rattle.xns_agenda.specs.Waiting.{HearsAt, StepsAt, act_at};
@@ -105,6 +106,7 @@ impl Pair {
         ensures answer { Answers (call_fault_of (connection_at self.old side).conversation (call_model call.now)) result }
         ensures steps { OnOk result (Steps self.old self.new side (one_call_more (call_model call.now)) []) }
         ensures waits { StepsAt now (connection_at self.old side).wait (connection_at self.new side).wait }
+        ensures step { OnOk result (Step now (made (call_model call.now)) (connection_at self.old side) (connection_at self.new side)) }
         ensures unchanged { OnErr result (self.new ≡ self.old) }
     {
         a_step_keeps_its_promises();
@@ -125,6 +127,7 @@ impl Pair {
         ensures steps { OnOk result ((k : ℕ) × (asked_of (connection_at self.old side).conversation.side ≡ Some k)
             × Steps self.old self.new side (one_answer_more (answer_message kind k words.now)) []) }
         ensures waits { StepsAt now (connection_at self.old side).wait (connection_at self.new side).wait }
+        ensures step { OnOk result (Step now (gave kind words.now) (connection_at self.old side) (connection_at self.new side)) }
         ensures unchanged { OnErr result (self.new ≡ self.old) }
     {
         a_step_keeps_its_promises();
@@ -136,6 +139,7 @@ impl Pair {
         ensures steps { Steps self.old self.new side no_more [] }
         ensures asked { (connection_at self.new side).conversation.closing.wanted ≡ true }
         ensures waits { StepsAt now (connection_at self.old side).wait (connection_at self.new side).wait }
+        ensures step { Step now asked (connection_at self.old side) (connection_at self.new side) }
     {
         a_step_keeps_its_promises();
         self.at(side).close(alloc, now);
@@ -146,6 +150,7 @@ impl Pair {
         ensures message { result ≡ waiting_message (connection_at self.old side).conversation.side }
         ensures steps { IfSome result (λ m. Steps self.old self.new side (one_message_more m) []) }
         ensures waits { StepsAt now (connection_at self.old side).wait (connection_at self.new side).wait }
+        ensures step { Hands now (connection_at self.old side) (connection_at self.new side) }
         ensures none { result ≡ None → self.new ≡ self.old }
     {
         a_message_is_handed_as_by_a_step();
@@ -158,6 +163,7 @@ impl Pair {
         ensures why { result ≡ (if (connection_at self.old side).told then None else (connection_at self.old side).closed) }
         ensures told { (connection_at self.new side).told ≡ (connection_at self.old side).told
             || is_some (connection_at self.old side).closed }
+        ensures rest { connection_at self.new side ≡ record (connection_at self.old side) { told = (connection_at self.new side).told } }
     {
         self.at(side).take_why()
     }
@@ -192,6 +198,7 @@ impl Pair {
         ensures gives { IfOk result (λ o. Steps self.old self.new side no_more (option_to_list o)) }
         ensures given_none { OnErr result (Steps self.old self.new side no_more []) }
         ensures waits { StepsAt now (connection_at self.old side).wait (connection_at self.new side).wait }
+        ensures step { GivesNext now result (connection_at self.old side) (connection_at self.new side) }
         ensures rested { is_dead (connection_at self.new side).closed ≡ false → result ≡ Ok None
             → Rested (connection_at self.old side).conversation (connection_at self.new side).conversation }
         ensures none { result ≡ Ok None → ((connection_at self.new side).owed.again ≡ false)
@@ -215,10 +222,11 @@ impl Pair {
             → Hears (connection_at self.old side).conversation (connection_at self.new side).conversation bytes.now) }
         ensures waits { OnOk result ((p : SppPacketModel) → spp_packet_of bytes.now ≡ Ok p
             → HearsAt now (connection_at self.old side).wait (connection_at self.new side).wait) }
-        ensures nothing { (why : Dropped) → spp_packet_of bytes.now ≡ Err why → self.new ≡ self.old }
-        ensures unchanged { OnErr result (self.new ≡ self.old) }
-        ensures memory { OnErr result ((s : State) → StandsFor (connection_at self.old side).conversation.endpoint s
-            → StoresBytes s bytes.now) }
+        ensures ours { (s : State) (p : SppPacketModel) → StandsFor (connection_at self.old side).conversation.endpoint s
+            → spp_packet_of bytes.now ≡ Ok p → is_ours_at s.ends p ≡ is_ours_by result }
+        ensures nothing { (why : Dropped) → spp_packet_of bytes.now ≡ Err why → (self.new ≡ self.old) × (result ≡ Ok false) }
+        ensures unchanged { OnErr result ((self.new ≡ self.old) × ((s : State)
+            → StandsFor (connection_at self.old side).conversation.endpoint s → StoresBytes s bytes.now)) }
     {
         let Ok(packet) = read_packet(bytes) else {
             return Ok(false);

@@ -1,9 +1,15 @@
-use Rattle.std.proofs.Common.{◌∙◌, ap, subst, sym}
+use Rattle.std.proofs.Common.{◌≡◌, ◌∙◌, ap, subst, sym, ℕ, List, Bool, Result, Ok, Err, OnErr}
+use Rattle.std.specs.declared.alloc.AllocError.{AllocError}
+use Rattle.xns_spp.specs.Held.{StandsFor}
+use Rattle.xns_spp.specs.Packet.{SppPacketModel, spp_packet_of}
+use Rattle.xns_spp.specs.Receiving.{StoresBytes}
+use Rattle.xns_spp.specs.State.{State}
 use Rattle.xns_agenda.specs.Waiting.{HearsAt, no_word, still}
 use Rattle.xns_connection.specs.Step.{is_ours_by}
 use Rattle.xns_connection.specs.Telling.{Hears}
 use Rattle.xns_connection.specs.declared.connection.Connection.{Connection}
-use Rattle.host_world.proofs.Paired.{heard_there, hears_none, pair_heard, pair_takes_in}
+use Rattle.host_world.specs.Pairing.{connection_at}
+use Rattle.host_world.proofs.Paired.{pair_unchanged, heard_there, hears_none, pair_heard, pair_takes_in}
 use Rattle.host_world.proofs.pair.Pair.receive.Goals as goal
 
 pub returns-clause-takes_in : goal.returns-clause-takes_in
@@ -25,3 +31,19 @@ returns-clause-waits c =
     pair_heard (λ (x y : Connection). HearsAt c.args.now x.wait y.wait) c.args.self.now c.at.result.now c.receive.new.self c.args.side c.args.now c.args.bytes.now c.in-Ok.packet
     c.receive.result c.at.ensures.value (sym c.in-Ok.ensures.value) (λ step. step.steps) c.receive.ensures.step
     (λ none. subst (λ (y : Connection). HearsAt c.args.now c.at.result.now.wait y.wait) (sym (c.receive.ensures.foreign none)) (no_word still))
+
+-- where memory was refused, both stand
+both : (X Y : Type 0) (r : Result Bool AllocError) → OnErr r X → OnErr r Y → OnErr r (X × Y)
+both X Y (Ok b) x y = tt
+both X Y (Err e) x y = (x, y)
+
+stores : (r : Result Bool AllocError) (x y : Connection) (bytes : List ℕ) (p : SppPacketModel) → y ≡ x → spp_packet_of bytes ≡ Ok p
+    → OnErr r ((s : State) (b : List ℕ) → StandsFor y.conversation.endpoint s → spp_packet_of b ≡ Ok p → StoresBytes s b)
+    → OnErr r ((s : State) → StandsFor x.conversation.endpoint s → StoresBytes s bytes)
+stores (Ok b) x y bytes p same is memory = tt
+stores (Err e) x y bytes p same is memory = λ s stands. memory s bytes (subst (λ (k : Connection). StandsFor k.conversation.endpoint s) (sym same) stands) is
+
+pub returns-clause-unchanged : goal.returns-clause-unchanged
+returns-clause-unchanged c =
+    both _ _ c.receive.result (pair_unchanged c.args.self.now c.at.result.now c.receive.new.self c.args.side c.receive.result c.at.ensures.value c.receive.ensures.unchanged)
+    (stores c.receive.result (connection_at c.args.self.now c.args.side) c.at.result.now c.args.bytes.now c.in-Ok.packet c.at.ensures.value (sym c.in-Ok.ensures.value) c.receive.ensures.memory)

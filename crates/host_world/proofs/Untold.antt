@@ -1,0 +1,54 @@
+-- What leaves it as it was whether the program was told that a connection is closed, and which identifier the connection has.
+use Rattle.std.proofs.Common.{◌≡◌, ap, refl, ℕ, Bool, true, false, List, Option, Result, ◌∙◌}
+use Rattle.std.specs.Prelude.{if◌then◌else◌}
+use Rattle.std.specs.Option.{is_some}
+use Rattle.std.specs.declared.alloc.AllocError.{AllocError}
+use Rattle.xns_connection.specs.Deeds as deeds
+use Rattle.xns_connection.specs.Deeds.{Parts, acted_by, unserved}
+use Rattle.xns_connection.specs.Ends.{AConnectionKeepsItsEnd}
+use Rattle.xns_connection.specs.Step.{GivesNext, Hands, MovesOwed, none_waits, calmly, moving_on}
+use Rattle.xns_agenda.specs.declared.act.Act.{Act}
+use Rattle.xns_agenda.specs.declared.act.Act.TheVariants.{Nothing, Again, Ask, GiveUp, Forget}
+use Rattle.xns_connection.specs.declared.connection.Connection.{Connection}
+use Rattle.xns_host.specs.Knowing.{id_of}
+use Rattle.xns_host.specs.Went.{GuestHears, hears, lost}
+use Rattle.xns_host.specs.declared.guest.Guest.{Guest}
+use Rattle.xns_spp.specs.declared.ends.Ends.{Ends}
+
+-- ---- whether the program was told
+
+pub acted_told : (p : Parts) (act : Act) (now : ℕ) → (acted_by p act now).told ≡ p.told
+acted_told p Nothing now = refl
+acted_told p Again now = refl
+acted_told p Ask now = refl
+acted_told p GiveUp now = refl
+acted_told p Forget now = refl
+
+either_told : (b : Bool) (p q : Parts) → q.told ≡ p.told → (if b then p else q).told ≡ p.told
+either_told true p q same = refl
+either_told false p q same = same
+
+pub unserved_told : (p : Parts) (error now : ℕ) → (unserved p error now).told ≡ p.told
+unserved_told p error now = either_told (is_some p.closed) p _ refl
+
+moved_told : (b : Bool) (now : ℕ) (old mid : Connection) → MovesOwed b now old mid → mid.told ≡ old.told
+moved_told true now old mid step = step.told
+moved_told false now old mid same = ap (λ (c : Connection). c.told) same
+
+pub given_told : (now : ℕ) (old new : Connection) {result : Result (Option (List ℕ)) AllocError} → GivesNext now result old new → new.told ≡ old.told
+given_told now old new g = g.told ∙ moved_told old.owed.moving now old g.mid g.moved
+
+pub handed_told : (now : ℕ) (old new : Connection) → Hands now old new → new.told ≡ old.told
+handed_told now old new (none_waits none same) = ap (λ (c : Connection). c.told) same
+handed_told now old new (calmly waits calm is) = ap (λ (p : Parts). p.told) is
+handed_told now old new (moving_on waits moves step) = step.told
+
+pub heard_told : (now : ℕ) (bytes : List ℕ) (confirming : Bool) (g h : Guest) → GuestHears now bytes confirming g h → h.connection.told ≡ g.connection.told
+heard_told now bytes confirming g h (hears step) = step.step.told
+heard_told now bytes confirming g h (lost stores) = refl
+
+-- ---- which identifier it has
+
+pub heard_id : AConnectionKeepsItsEnd → (now : ℕ) (bytes : List ℕ) (confirming : Bool) (g h : Guest) → GuestHears now bytes confirming g h → id_of h ≡ id_of g
+heard_id ends now bytes confirming g h (hears step) = ap (λ (e : Ends). e.id) (ends.steps now (deeds.heard bytes) g.connection h.connection step.step).end.same
+heard_id ends now bytes confirming g h (lost stores) = refl
