@@ -1,8 +1,12 @@
 -- What is given to C through its own memory, and taken from it.
-use Rattle.std.specs.Prelude.{◌≡◌, ◌<◌, ◌≤◌, ℕ, Bool, not, ◌==◌, if◌then◌else◌, List, ◌++◌, drop, length, Option, Some, None}
+use Rattle.std.specs.Prelude.{◌≡◌, ◌≢◌, ◌<◌, ◌≤◌, ◌-◌, ℕ, Bool, not, ◌==◌, if◌then◌else◌, List, ◌++◌, drop, length, Option, Some, None}
+use Rattle.xns_spp.specs.Receiving.{receive_answer, after_receive}
+use Rattle.xns_spp.specs.State.{State}
+use Rattle.xns_spp.specs.Telling.{unacknowledged_count}
 use Rattle.xns_spp.specs.declared.item.Item.{Item}
-use Rattle.xns_c.specs.Results.{ok, short_buffer}
+use Rattle.xns_c.specs.Results.{ok, nothing, no_memory, short_buffer, dropped_number}
 use Rattle.xns_c.specs.declared.item.XnsItem.{XnsItem}
+use Rattle.xns_c.specs.declared.received.XnsReceived.{XnsReceived}
 
 -- C's yes or no: 0 is no
 abbrev pub is_yes : ℕ → Bool
@@ -32,3 +36,20 @@ abbrev pub ItemIsGiven : Item → XnsItem → XnsItem → List ℕ → List ℕ 
 ItemIsGiven x before after old new number =
     (length x.body ≤ length old → (number ≡ ok) × GivesItem x after × IsPut x.body old new after.length)
     × (length old < length x.body → (number ≡ short_buffer) × (after ≡ record before { length = length x.body }))
+
+-- the next item is given, its bytes to the front of a buffer that has room for them, or there is none
+abbrev pub NextIsTaken : Option Item → XnsItem → List ℕ → List ℕ → ℕ → Type 0
+NextIsTaken None after old new number = number ≡ nothing
+NextIsTaken (Some x) after old new number = (number ≡ ok) × GivesItem x after × IsPut x.body old new after.length
+
+-- a packet, if there is one, is put to the front of a buffer that has room for it, unless memory is refused
+abbrev pub PacketIsGiven : Option (List ℕ) → List ℕ → List ℕ → ℕ → ℕ → Type 0
+PacketIsGiven None old new size number = number ≡ nothing
+PacketIsGiven (Some packet) old new size number = number ≢ no_memory → (number ≡ ok) × IsPut packet old new size
+
+-- an end with this history tells this of a packet that came, and its reply, if there is one, is put to the front of a buffer
+pub record TellsReceived (s : State) (packet : List ℕ) (told : XnsReceived) (old new : List ℕ) : Type 0 where
+  pub took : told.took ≡ (receive_answer s packet).took
+  pub acknowledged : told.acknowledged ≡ unacknowledged_count s - unacknowledged_count (after_receive s packet)
+  pub dropped : told.dropped ≡ dropped_number (receive_answer s packet).dropped
+  pub reply : IsPutIfThere (receive_answer s packet).reply old new told.reply

@@ -1,5 +1,5 @@
 -- What becomes of a host that C holds.
-use Rattle.std.specs.Prelude.{◌≡◌, ◌≢◌, ◌⊎◌, ◌<◌, ◌≤◌, ℕ, Bool, true, false, ◌&&◌, ◌==◌, if◌then◌else◌, List, [], ◌∷◌, ◌++◌, length, max, Option, Some, None, Result, Ok, Err, slice_get}
+use Rattle.std.specs.Prelude.{◌≡◌, ◌≢◌, ◌⊎◌, ◌<◌, ◌≤◌, ℕ, Bool, true, false, ◌&&◌, ◌==◌, if◌then◌else◌, List, length, Option, Some, None, Result, Ok, Err, slice_get}
 use Rattle.courier_messages.specs.RawCalls.{RawCall}
 use Rattle.courier_sessions.specs.declared.answer.Answer.{Answer}
 use Rattle.courier_sessions.specs.declared.program.Program.{Program}
@@ -23,7 +23,7 @@ use Rattle.xns_host.specs.declared.settings.Settings.{Settings}
 use Rattle.xns_c.specs.Events.{EventIsGiven, event_number, is_answer, with_tag}
 use Rattle.xns_c.specs.Faults.{host_fault_number, host_told}
 use Rattle.xns_c.specs.Given.{IsPut}
-use Rattle.xns_c.specs.Results.{ok, nothing, no_memory, short_buffer, bad_argument, busy, no_host, no_connection, no_slot}
+use Rattle.xns_c.specs.Results.{ok, nothing, no_memory, short_buffer, bad_argument, busy, no_host, no_slot}
 use Rattle.xns_c.specs.Settings.{never}
 use Rattle.xns_c.specs.declared.event.XnsEvent.{XnsEvent}
 use Rattle.xns_c.specs.declared.kept_host.KeptHost.{KeptHost}
@@ -84,9 +84,10 @@ pub record AnswersCall (k n : KeptHost) (now number : ℕ) (answer : Option Answ
   pub bad : answer ≡ None → (result ≡ bad_argument) × (n ≡ k)
   pub event : n.event ≡ kept_after k.event number result
 
--- the connection was asked to close
+-- the connection was asked to close, as each one is that is there
 pub record Closes (k n : KeptHost) (now number result : ℕ) : Type 0 where
   pub turns : Turns k n now number asked (λ t. None) result
+  pub some : (g : Guest) → guest_at k number ≡ Some (Some g) → result ≡ ok
   pub event : n.event ≡ kept_closing k.event number result
 
 -- the connection is gone, and its event that is kept; or there was none, and the answer is told. A packet that is kept stays

@@ -8,7 +8,6 @@ use Rattle.call_texts.specs.declared.unread.UnreadReason.TheVariants as unread
 use Rattle.courier_notation.specs.Lexing.{HasToken}
 use Rattle.courier_programs.specs.Declarations.{error_by, procedure_by}
 use Rattle.courier_programs.specs.Meanings.{ErrorModel, ProcedureModel, ResolvedModel, resolved_model}
-use Rattle.courier_programs.specs.Scopes.{program_by}
 use Rattle.courier_programs.specs.Texts.{TextFault, position_behind, text_meant}
 use Rattle.courier_programs.specs.declared.program.Program.{Program}
 use Rattle.program_tables.specs.Tables.{NodeModel, program_nodes}

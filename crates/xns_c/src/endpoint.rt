@@ -1,19 +1,16 @@
 //! An endpoint that C holds by its handle.
 
-ghost use Rattle.std.specs.Prelude.{◌≡◌, ◌≢◌, ◌⊎◌, ◌<◌, ◌≤◌, ◌-◌, ℕ, List, [], ◌∷◌, length, false, All, IfSome, Some, None};
-ghost use Rattle.xns_idp.specs.Packet.{most_packet};
-ghost use Rattle.xns_spp.specs.Ends.{is_open, most_pending};
+ghost use Rattle.std.specs.Prelude.{◌≡◌, ◌≢◌, ◌⊎◌, ◌<◌, ◌≤◌, ℕ, List, [], ◌∷◌, length, IfSome, Some, None};
+ghost use Rattle.xns_spp.specs.Ends.{most_pending};
 ghost use Rattle.xns_spp.specs.Held.{StandsFor};
 ghost use Rattle.xns_spp.specs.Packet.{most_body};
-ghost use Rattle.xns_spp.specs.Receiving.{receive_answer, after_receive, NeedsMemory};
-ghost use Rattle.xns_spp.specs.Sending.{send_answer, after_send, take_answer, after_take, is_full, waiting_count, flush_answer};
+ghost use Rattle.xns_spp.specs.Receiving.{after_receive, NeedsMemory};
+ghost use Rattle.xns_spp.specs.Sending.{send_answer, after_send, take_answer, after_take, flush_answer};
 ghost use Rattle.xns_spp.specs.Sending.{after_flush, tick_answer, after_tick};
 ghost use Rattle.xns_spp.specs.State.{State, initiator_state, responder_state};
-ghost use Rattle.xns_spp.specs.Telling.{unacknowledged_count};
-ghost use Rattle.xns_spp.specs.declared.item.Item.{Item};
-ghost use Rattle.xns_c.specs.Given.{GivesItem, IsPut, IsPutIfThere};
+ghost use Rattle.xns_c.specs.Given.{IsPut, IsPutIfThere, NextIsTaken, TellsReceived};
 ghost use Rattle.xns_c.specs.Handle.{line_of};
-ghost use Rattle.xns_c.specs.Line.{Keeps, packets_of};
+ghost use Rattle.xns_c.specs.Line.{Keeps, Makes, packets_of};
 ghost use Rattle.xns_c.specs.Results.{ok, nothing, no_memory, no_endpoint, short_buffer, bad_argument, too_long, send_number};
 ghost use Rattle.xns_c.specs.Results.{dropped_number};
 ghost use Rattle.xns_c.specs.Structs.{address_in, item_given};
@@ -140,36 +137,6 @@ pub extern "C" fn xns_endpoint_clear(alloc: Global, handle: &mut XnsEndpoint)
     let _freed = handle.take(alloc);
 }
 
-/// Whether the peer is known. False where there is no endpoint.
-#[unsafe(no_mangle)]
-pub extern "C" fn xns_endpoint_is_open(alloc: Global, handle: &mut XnsEndpoint) -> bool
-    ensures answer { (s : State) → Keeps (line_of handle.old) s → result ≡ is_open s.ends }
-    ensures none { line_of handle.old ≡ None → result ≡ false }
-    ensures same { line_of handle.new ≡ line_of handle.old }
-{
-    handle.ask(alloc, false, |connection| connection.is_open())
-}
-
-/// Whether an item would be refused as `EXHAUSTED` or `FULL`. False where there is no endpoint.
-#[unsafe(no_mangle)]
-pub extern "C" fn xns_endpoint_is_full(alloc: Global, handle: &mut XnsEndpoint) -> bool
-    ensures answer { (s : State) → Keeps (line_of handle.old) s → result ≡ is_full s }
-    ensures none { line_of handle.old ≡ None → result ≡ false }
-    ensures same { line_of handle.new ≡ line_of handle.old }
-{
-    handle.ask(alloc, false, |connection| connection.is_full())
-}
-
-/// How many items wait to be taken. 0 where there is no endpoint.
-#[unsafe(no_mangle)]
-pub extern "C" fn xns_endpoint_waiting(alloc: Global, handle: &mut XnsEndpoint) -> usize
-    ensures answer { (s : State) → Keeps (line_of handle.old) s → result ≡ waiting_count s }
-    ensures none { line_of handle.old ≡ None → result ≡ 0 }
-    ensures same { line_of handle.new ≡ line_of handle.old }
-{
-    handle.ask(alloc, 0, |connection| connection.waiting())
-}
-
 /// Accepts an item, whose bytes are copied. `attention` and `last` are 0 for no.
 ///
 /// `NO_ENDPOINT`; `TOO_LONG` for more than 534 bytes, which are not looked at; `NO_MEMORY` where memory is refused; else 0, or why the item
@@ -212,19 +179,15 @@ pub extern "C" fn xns_endpoint_take(
     item: &mut XnsItem,
     buffer: &mut [u8],
 ) -> u32
+    ensures taken { (s : State) → Keeps (line_of handle.old) s → most_body ≤ length buffer.old
+        → NextIsTaken (take_answer s) item.new buffer.old buffer.new result }
     ensures stands { (s : State) → Keeps (line_of handle.old) s → most_body ≤ length buffer.old
         → Keeps (line_of handle.new) (after_take s) }
     ensures packets { packets_of (line_of handle.new) ≡ packets_of (line_of handle.old) }
-    ensures nothing { (s : State) → Keeps (line_of handle.old) s → most_body ≤ length buffer.old → take_answer s ≡ None → result ≡ nothing }
-    ensures some { (s : State) (x : Item) → Keeps (line_of handle.old) s → most_body ≤ length buffer.old → take_answer s ≡ Some x
-        → (result ≡ ok) × GivesItem x item.new }
-    ensures bytes { (s : State) (x : Item) → Keeps (line_of handle.old) s → most_body ≤ length buffer.old → take_answer s ≡ Some x
-        → IsPut x.body buffer.old buffer.new item.new.length }
     ensures short { length buffer.old < most_body → (result ≡ short_buffer) × (item.new ≡ record item.old { length = most_body })
         × (line_of handle.new ≡ line_of handle.old) }
     ensures none { line_of handle.old ≡ None → most_body ≤ length buffer.old → (result ≡ no_endpoint) × (line_of handle.new ≡ None) }
-    ensures unchanged { result ≢ ok → buffer.new ≡ buffer.old }
-    ensures untold { result ≢ ok → result ≢ short_buffer → item.new ≡ item.old }
+    ensures unchanged { result ≢ ok → (buffer.new ≡ buffer.old) × (result ≢ short_buffer → item.new ≡ item.old) }
 {
     if buffer.len() < MOST_BODY {
         item.length = MOST_BODY;
@@ -275,20 +238,15 @@ pub extern "C" fn xns_endpoint_receive(
     buffer: &mut [u8],
 ) -> u32
     ensures stands { (s : State) → Keeps (line_of handle.old) s → result ≡ ok → Keeps (line_of handle.new) (after_receive s bytes.now) }
-    ensures packets { packets_of (line_of handle.new) ≡ packets_of (line_of handle.old) }
-    ensures took { (s : State) → Keeps (line_of handle.old) s → result ≡ ok → received.new.took ≡ (receive_answer s bytes.now).took }
-    ensures acknowledged { (s : State) → Keeps (line_of handle.old) s → result ≡ ok
-        → received.new.acknowledged ≡ unacknowledged_count s - unacknowledged_count (after_receive s bytes.now) }
-    ensures dropped { (s : State) → Keeps (line_of handle.old) s → result ≡ ok
-        → received.new.dropped ≡ dropped_number (receive_answer s bytes.now).dropped }
-    ensures reply { (s : State) → Keeps (line_of handle.old) s → result ≡ ok
-        → IsPutIfThere (receive_answer s bytes.now).reply buffer.old buffer.new received.new.reply }
+    ensures told { (s : State) → Keeps (line_of handle.old) s → result ≡ ok
+        → TellsReceived s bytes.now received.new buffer.old buffer.new }
     ensures memory { (s : State) → Keeps (line_of handle.old) s → 42 ≤ length buffer.old → result ≢ ok → (result ≡ no_memory)
         × NeedsMemory s bytes.now }
     ensures short { length buffer.old < 42 → (result ≡ short_buffer) × (received.new ≡ record received.old { reply = 42 }) }
     ensures none { line_of handle.old ≡ None → 42 ≤ length buffer.old → result ≡ no_endpoint }
-    ensures unchanged { result ≢ ok → (line_of handle.new ≡ line_of handle.old) × (buffer.new ≡ buffer.old) }
-    ensures untold { result ≢ ok → result ≢ short_buffer → received.new ≡ received.old }
+    ensures unchanged { (packets_of (line_of handle.new) ≡ packets_of (line_of handle.old))
+        × (result ≢ ok → (line_of handle.new ≡ line_of handle.old) × (buffer.new ≡ buffer.old)
+        × (result ≢ short_buffer → received.new ≡ received.old)) }
 {
     if buffer.len() < REPLY {
         received.reply = REPLY;
@@ -321,13 +279,7 @@ pub extern "C" fn xns_endpoint_receive(
 /// `NO_ENDPOINT`, or `NO_MEMORY` where memory is refused: all is then as it was.
 #[unsafe(no_mangle)]
 pub extern "C" fn xns_endpoint_flush(alloc: Global, handle: &mut XnsEndpoint) -> u32
-    ensures stands { (s : State) → Keeps (line_of handle.old) s → result ≡ ok → Keeps (line_of handle.new) (after_flush s) }
-    ensures packets { (s : State) → Keeps (line_of handle.old) s → result ≡ ok → packets_of (line_of handle.new) ≡ flush_answer s }
-    ensures short { (s : State) → Keeps (line_of handle.old) s → result ≡ ok
-        → All (λ p. length p ≤ most_packet) (packets_of (line_of handle.new)) }
-    ensures memory { (s : State) → Keeps (line_of handle.old) s → result ≢ ok → (result ≡ no_memory) × (0 < length (flush_answer s)) }
-    ensures none { line_of handle.old ≡ None → result ≡ no_endpoint }
-    ensures unchanged { result ≢ ok → line_of handle.new ≡ line_of handle.old }
+    ensures { Makes (line_of handle.old) (line_of handle.new) flush_answer after_flush result }
 {
     let Some(mut connection) = handle.take(alloc) else {
         return NO_ENDPOINT;
@@ -344,13 +296,7 @@ pub extern "C" fn xns_endpoint_flush(alloc: Global, handle: &mut XnsEndpoint) ->
 /// Makes the packets that are to go out when time has passed; else as `xns_endpoint_flush`.
 #[unsafe(no_mangle)]
 pub extern "C" fn xns_endpoint_tick(alloc: Global, handle: &mut XnsEndpoint) -> u32
-    ensures stands { (s : State) → Keeps (line_of handle.old) s → result ≡ ok → Keeps (line_of handle.new) (after_tick s) }
-    ensures packets { (s : State) → Keeps (line_of handle.old) s → result ≡ ok → packets_of (line_of handle.new) ≡ tick_answer s }
-    ensures short { (s : State) → Keeps (line_of handle.old) s → result ≡ ok
-        → All (λ p. length p ≤ most_packet) (packets_of (line_of handle.new)) }
-    ensures memory { (s : State) → Keeps (line_of handle.old) s → result ≢ ok → (result ≡ no_memory) × (0 < length (tick_answer s)) }
-    ensures none { line_of handle.old ≡ None → result ≡ no_endpoint }
-    ensures unchanged { result ≢ ok → line_of handle.new ≡ line_of handle.old }
+    ensures { Makes (line_of handle.old) (line_of handle.new) tick_answer after_tick result }
 {
     let Some(mut connection) = handle.take(alloc) else {
         return NO_ENDPOINT;
@@ -382,8 +328,8 @@ pub extern "C" fn xns_endpoint_next_packet(
     ensures nothing { (s : State) → Keeps (line_of handle.old) s → packets_of (line_of handle.old) ≡ [] → result ≡ nothing }
     ensures stands { (s : State) → Keeps (line_of handle.old) s → Keeps (line_of handle.new) s }
     ensures none { line_of handle.old ≡ None → result ≡ no_endpoint }
-    ensures unchanged { result ≢ ok → (line_of handle.new ≡ line_of handle.old) × (buffer.new ≡ buffer.old) }
-    ensures untold { result ≢ ok → result ≢ short_buffer → written.new ≡ written.old }
+    ensures unchanged { result ≢ ok → (line_of handle.new ≡ line_of handle.old) × (buffer.new ≡ buffer.old)
+        × (result ≢ short_buffer → written.new ≡ written.old) }
 {
     let Some(mut connection) = handle.take(alloc) else {
         return NO_ENDPOINT;

@@ -1,5 +1,5 @@
 use Rattle.std.proofs.Common.{rules}
 use Rattle.xns_c.proofs.telling.xns_endpoint_unacknowledged.Goals as goal
 
-pub returns-clause-answer : goal.returns-clause-answer
-returns-clause-answer c = search rules
+pub returns : goal.returns
+returns c = record { answer = search rules steps 1000000; none = search rules; same = search rules }

@@ -1,4 +1,4 @@
-use Rattle.std.proofs.Common.{◌≡◌, ap, refl, subst, sym, rules, Some}
+use Rattle.std.proofs.Common.{◌≡◌, ap, refl, subst, rules}
 use Rattle.courier_sessions.specs.declared.answer.Answer.{Answer}
 use Rattle.xns_connection.specs.Deeds.{gave}
 use Rattle.xns_connection.specs.Reasons.{answer_fault_of}

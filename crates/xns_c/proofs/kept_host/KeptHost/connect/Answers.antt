@@ -1,4 +1,4 @@
-use Rattle.std.proofs.Common.{◌≡◌, ◌∙◌, ap, refl, rules, subst, sym, ℕ, Result, Ok, Err}
+use Rattle.std.proofs.Common.{◌≡◌, ◌∙◌, ap, refl, subst, sym, ℕ, Result, Ok, Err}
 use Rattle.xns_idp.specs.declared.address.Address.{Address}
 use Rattle.xns_host.specs.Turn.{ConnectsTo}
 use Rattle.xns_host.specs.declared.host_fault.HostFault.{HostFault}

@@ -1,0 +1,5 @@
+use Rattle.std.proofs.Common.{rules}
+use Rattle.xns_c.proofs.telling.xns_endpoint_waiting.Goals as goal
+
+pub returns : goal.returns
+returns c = record { answer = search rules steps 1000000; none = search rules; same = search rules }
