@@ -10,7 +10,7 @@ from measuring import MANY_RUNS, RUNS, compare, held_by, instructions_of, made_b
 
 README = BENCH.parent / "README.md"
 HEAD = "| What | Time | Instructions |\n|---|---|---|\n"
-CAPTURES = "short", "flows", "long", "endless"
+CAPTURES = "short", "flows", "long", "endless", "reversed"
 FEW = 8_192  # packets of long messages
 
 
@@ -70,7 +70,7 @@ def dump_row(folder, given):
 def calls_rows(folder, given):
     ours, peer = [built_program("xns"), "calls"], [built_peer("captures_peer", folder)]
     yield Row(
-        "`xns calls` of as many: short calls, each in a flow of its own, long ones, messages that never end",
+        "`xns calls` of as many: short calls, each in a flow of its own, long ones, messages that never end, out of order",
         [[beside_lines(ours, peer, given, "captures.py", which) for which in CAPTURES]],
     )
     held = [held_by(ours, made(given, "captures.py", which)[0]) for which in ("endless", "endless-flows")]

@@ -86,11 +86,25 @@ for kind in pcap pcapng nsecpcap; do
     editcap -F $kind mixture.pcap mixture.$kind 2> /dev/null
     xns dump mixture.$kind > from_mixture
     same "a mixture as $kind" mixture_expected from_mixture
+    xns_hex -r mixture.$kind 2> /dev/null | xns dump > lines_of_mixture
+    same "a mixture as $kind, by tshark" mixture_expected lines_of_mixture
 done
 mergecap -a -w merged.pcapng ethernet.pcap cooked.pcap llc.pcap 2> /dev/null
 for link in ethernet cooked llc; do cat in.hex; done | xns dump > merged_expected
 xns dump merged.pcapng > from_merged
 same 'a merged capture' merged_expected from_merged
+xns_hex -r merged.pcapng 2> /dev/null | xns dump > lines_of_merged
+same 'a merged capture, by tshark' merged_expected lines_of_merged
+
+# Links that are not read: tshark makes lines of the Ethernet in a tunnel, and none of a packet that lies in the frame itself.
+frames tunnel 101 "4500 LENGTH+38 0000 0000 402f 0000 0a000001 0a000002 0000 6558 $ends 0600"
+xns_hex -r tunnel.pcap 2> /dev/null | xns dump > lines_of_tunnel
+same 'Ethernet in a tunnel of raw IP, by tshark' text lines_of_tunnel
+frames null 0 '00000002'
+xns_hex -r null.pcap 2> /dev/null > lines_of_null
+[ -s lines_of_null ] || echo none > lines_of_null
+echo none > none
+same 'packets in frames of the loopback' none lines_of_null
 
 # ---- calls, and one conversation of them
 

@@ -2,10 +2,15 @@
 """Random captures of calls in hex, for a comparison of readers.
 
     random_calls.py SEED COUNT DIR      writes COUNT captures: DIR/K.hex
+    random_calls.py SEED COUNT DIR whole    writes as many of two other kinds: DIR/sent_K.hex and overtaken_K.hex, and again_N_K.hex
 
 A capture has the packets of some connections, whose ends call, answer and close, in the order in which they were captured. They overtake one
 another, are lost, repeated and damaged. Acknowledgements are false, identifiers are used again with a closing before and without, one side
 alone is captured, and lines are no packets.
+
+Of the other kinds nothing is lost, repeated, damaged or false. `sent_K.hex` has the packets of some connections in the order in which they were
+sent. In `overtaken_K.hex` they overtake one another by up to 60 places, but none overtakes the first item of an end of its connection.
+`again_N_K.hex` has N conversations of the same two ends, with one call and a closing each; packets of the same one overtake one another.
 """
 import os
 import random
@@ -31,16 +36,16 @@ class End:
 
 
 class Conversation:
-    """The packets of a conversation in the order in which they are sent."""
+    """The packets of a conversation in the order in which they are sent. Of a true one each acknowledges all that was sent before it."""
 
-    def __init__(self, rng, ends):
-        self.rng, self.ends, self.packets = rng, ends, []
+    def __init__(self, rng, ends, is_true=False):
+        self.rng, self.ends, self.is_true, self.packets = rng, ends, is_true, []
 
     def packet(self, side, control, stream, sequence, data):
         own, other = self.ends[side], self.ends[1 - side]
-        lag = 0 if self.rng.random() < 0.7 else self.rng.randrange(4)
+        lag = 0 if self.is_true or self.rng.random() < 0.7 else self.rng.randrange(4)
         acknowledge = max(other.sequence - lag, 0)
-        if self.rng.random() < 0.003:
+        if not self.is_true and self.rng.random() < 0.003:
             acknowledge = self.rng.choice([acknowledge + self.rng.randrange(300), self.rng.randrange(65536)])
         fields = struct.pack(">BBHHHHH", control, stream, own.identifier, other.identifier, sequence % 65536, acknowledge % 65536, (acknowledge + 8) % 65536)
         length = 42 + len(data)
@@ -110,12 +115,58 @@ class Conversation:
             if self.rng.random() < 0.03:
                 self.open(1)
         if is_closed:
-            self.send(1, END, True, b"")
-            self.send(0, END_REPLY, True, b"")
-            self.send(1, END_REPLY, True, b"")
-            if self.rng.random() < 0.3:
-                self.tell(0)
+            self.close()
         return self.packets
+
+    def close(self):
+        self.send(1, END, True, b"")
+        self.send(0, END_REPLY, True, b"")
+        self.send(1, END_REPLY, True, b"")
+        if self.rng.random() < 0.3:
+            self.tell(0)
+
+    def play_once(self):
+        """A whole call with its answer, and a closing."""
+        self.open(1)
+        self.tell(0)
+        for side in self.rng.choice([(0, 1), (1, 0)]):
+            self.send(side, 0, True, b"\0\3\0\3")
+        for side, words in (1, self.words(0, 1, 0, 7, 2, 1)), (0, self.words(self.rng.choice([1, 2, 3]), 1, 4)):
+            most = self.rng.choice([7, 64, 534])
+            for at in range(0, len(words), most):
+                self.send(side, 0, at + most >= len(words), words[at:at + most])
+                if self.rng.random() < 0.2:
+                    self.tell(1 - side)
+        self.close()
+        return self.packets
+
+
+def reach(order):
+    """How many places a packet stands before one that it overtakes, at most."""
+    places = {at: place for place, at in enumerate(order)}
+    first, most = len(order), 0
+    for at in reversed(range(len(order))):
+        most = max(most, places[at] - first)
+        first = min(first, places[at])
+    return most
+
+
+def overtaken(rng, packets, most):
+    """The packets in another order: one that overtakes another stands before it by at most so many places. No packet is overtaken before each
+    end of its connection has sent an item."""
+    share = rng.choice([0.02, 0.2, 0.7])
+    begun, later = {}, []
+    for packet in packets:
+        own = begun.setdefault(frozenset((packet[6:18] + packet[34:36], packet[18:30] + packet[32:34])), set())
+        is_front = len(own) < 2
+        if not packet[30] & SYSTEM:
+            own.add(packet[18:30])
+        later.append(rng.random() * most if not is_front and rng.random() < share else 0)
+    while True:
+        order = sorted(range(len(packets)), key=lambda at: (at + later[at], at))
+        if reach(order) <= most:
+            return [packets[at] for at in order]
+        later = [0.9 * places for places in later]
 
 
 class Maker:
@@ -182,17 +233,45 @@ class Maker:
             return packet.hex()
         return self.rng.choice(["", "0", "5g", packet.hex()[:-1], packet.hex().upper() + "\r", " ".join(packet.hex()), packet.hex() + "0000"])
 
+    def sent(self):
+        """Whole conversations, each of ends of its own."""
+        lists = []
+        for number in range(self.rng.choice([1, 1, 2, 4])):
+            ends = End(self.place(1), 0x5678, 0), End(self.place(number + 2), 0x1234, 0)
+            lists.append(Conversation(self.rng, ends, True).play(self.rng.choice([2, 10, 40]), True, self.rng.random() < 0.7))
+        return list(self.merged(lists))
+
+    def again(self, count):
+        """Closed conversations of the same ends, one after the other."""
+        packets = []
+        for _ in range(count):
+            ends = End(self.place(1), 0x5678, 0), End(self.place(2), 0x1234, 0)
+            packets += overtaken(self.rng, Conversation(self.rng, ends, True).play_once(), self.rng.choice([0, 4, 60]))
+        return packets
+
     def capture(self):
         packets = list(self.merged([self.conversations(number) for number in range(self.rng.choice([1, 1, 1, 2, 4]))]))
-        return "".join(self.line(packet) + "\n" for packet in self.captured(packets))
+        return [self.line(packet) for packet in self.captured(packets)]
+
+
+def write(folder, name, lines):
+    with open(os.path.join(folder, f"{name}.hex"), "w") as file:
+        file.write("".join(line + "\n" for line in lines))
 
 
 def main():
     seed, count, folder = int(sys.argv[1]), int(sys.argv[2]), sys.argv[3]
     rng = random.Random(seed)
     for number in range(count):
-        with open(os.path.join(folder, f"{number}.hex"), "w") as file:
-            file.write(Maker(rng).capture())
+        maker = Maker(rng)
+        if sys.argv[4:] != ["whole"]:
+            write(folder, number, maker.capture())
+            continue
+        sent = maker.sent()
+        write(folder, f"sent_{number}", [packet.hex() for packet in sent])
+        write(folder, f"overtaken_{number}", [packet.hex() for packet in overtaken(rng, sent, rng.choice([2, 8, 40, 60]))])
+        conversations = rng.choice([1, 2, 20, 200])
+        write(folder, f"again_{conversations}_{number}", [packet.hex() for packet in maker.again(conversations)])
 
 
 if __name__ == "__main__":
