@@ -12,8 +12,8 @@ A block of a page is compared where its first line says where it is from:
 
 Each page in docs/crates has a quoted contract, and there no block of Rust may be without one of these two.
 A file or folder that a page or README.md names from the root, as `crates/xns_idp/src/places.rt`, is to be there. In a row of
-docs/MAP.md a name without its folder, as `places.rt`, stands for one in the crate that was named before it. A name in brackets behind a
-file of the map, as `most_items`, is to stand in that file. Each line of crates.txt has one row in the tables of docs/CALLING.md and
+docs/MAP.md a name without its folder, as `places.rt` or `_told.py`, stands for one in the crate, or in the folder, that was named before it.
+A name in brackets behind a file of the map, as `most_items`, is to stand in that file. Each line of crates.txt has one row in the tables of docs/CALLING.md and
 docs/MAP.md.
 A name of code that a page in docs/ has, as `Endpoint::send` or `xns_decode`, is to stand somewhere in the code.
 A clause that docs/PROMISES.md names behind its functions, as `exact` in "`read`: `exact`", is to be a clause of one of them.
@@ -30,7 +30,7 @@ NAMED = re.compile(r"`([^`\s]+)`")
 FILE_AND_NAMES = re.compile(r"`([^`\s]+)`(?: \((`\w+`(?:, `\w+`)*)\))?")
 FROM_ROOT = re.compile(r"(?:crates|tests|docs|examples|python|bench|include)/[\w./+-]+")
 PARTS = ("src", "specs", "proofs", "must-fail")
-IN_CRATE = re.compile(r"(?:[\w+-]+/)*[\w+-]+\.(?:rt|antt)")
+IN_FOLDER = re.compile(r"(?:[\w+-]+/)*[\w+-]+\.(?:rt|antt|py|sh|c|h|rs)")
 CODE_NAME = re.compile(r"[A-Za-z]\w*(?:(?:::|\.)\w+)*(?:\(\))?")
 CODE = ("crates/*/src/**/*", "crates/*/specs/**/*", "crates/*/stdin", "crates.txt", "include/*", "python/**/*", "bench/**/*", "tests/**/*",
         "examples/**/*")
@@ -226,32 +226,35 @@ def missing_files(root, path):
                if FROM_ROOT.fullmatch(name) and not MADE.match(name) and not (root / name).exists()]
     if path.name == "MAP.md":
         for row in text.split("\n"):
-            missing += missing_in_crate(root, row)
+            missing += missing_in_row(root, row)
     return missing
 
 
-def missing_in_crate(root, row):
-    """The files without their folder that a row of the map names."""
-    crate, missing = None, []
+def folders_behind(root, name, folders):
+    """Where the files without their folder lie that a row of the map names behind this name: in its crate, or in its folder."""
+    if name.startswith("crates/"):
+        return [root / "crates" / name.split("/")[1]]
+    return [(root / name).parent] if FROM_ROOT.fullmatch(name) else folders
+
+
+def missing_in_row(root, row):
+    """The files without their folder that a row of the map names and that are not there."""
+    folders, missing = [], []
     for name in names(row):
-        if name.startswith("crates/"):
-            crate = root / "crates" / name.split("/")[1]
-        elif crate and IN_CRATE.fullmatch(name):
-            folders = [crate / "src", crate / "specs"] if name.split("/")[0] not in PARTS else [crate]
-            if not any(folder.joinpath(name).exists() or any(folder.rglob(name)) for folder in folders):
-                missing.append("%s of %s" % (name, crate.name))
+        folders = folders_behind(root, name, folders)
+        if folders and IN_FOLDER.fullmatch(name) and not (root / name).exists():
+            bare = name.endswith((".rt", ".antt")) and name.split("/")[0] not in PARTS
+            searched = [folder / part for folder in folders for part in ("src", "specs")] if bare else folders
+            if not any(folder.joinpath(name).exists() or any(folder.rglob(name)) for folder in searched):
+                missing.append("%s of %s" % (name, folders[0].name))
     return missing
 
 
 def absent_in_row(root, row):
-    """The names in brackets behind a file, in a row of the map, that do not stand in that file. A file without its folder is one of the
-    crate, or of the folder, that was named before it."""
+    """The names in brackets behind a file, in a row of the map, that do not stand in that file."""
     folders, absent = [], []
     for name, bracketed in FILE_AND_NAMES.findall(row):
-        if name.startswith("crates/"):
-            folders = [root / "crates" / name.split("/")[1]]
-        elif FROM_ROOT.fullmatch(name):
-            folders = [(root / name).parent]
+        folders = folders_behind(root, name, folders)
         paths = [root / name] if FROM_ROOT.fullmatch(name) else [path for folder in folders for path in folder.rglob(name)]
         words = {word for path in paths if path.is_file() for word in re.findall(r"\w+", path.read_text())}
         absent += ["%s has no %s" % (name, wanted) for wanted in NAMED.findall(bracketed) if wanted not in words]

@@ -78,6 +78,7 @@ gone tests/refusals.sh tests/refusals.sh
 gone crates/xns_spp/specs/Acceptance.antt crates/xns_spp/specs/Acceptance.antt
 gone crates/xns_idp/src/places.rt 'src/places.rt of xns_idp'
 gone crates/courier_sessions/specs/Talks.antt 'Talks.antt of courier_sessions'
+gone python/xns/_watch.py '_watch.py of xns'
 
 # A changed contract is quoted anew.
 sed -i 's/^    ensures fault { IfErr result (λ f. /    ensures fault { IfErr result (λ e. /' "$right/$code"
