@@ -12,17 +12,12 @@ of Ethernet. The first word says which:
 import struct
 import sys
 
+from packets import cycle
+
 PACKETS = 65536
 HOSTS = bytes.fromhex("0000aa000102"), bytes.fromhex("0000aa000304")
 NETWORK = bytes.fromhex("00000001")
 VERSIONS = bytes.fromhex("00030003")
-
-
-def cycle(data):
-    total = 0
-    for i in range(0, len(data), 2):
-        total = (total + (data[i] << 8 | data[i + 1])) * 2 % 65535
-    return total
 
 
 def packet(side, flow, sequence, acknowledge, last, data, summed=True):

@@ -9,11 +9,12 @@
 import random, sys
 
 
-def cycle(b):
-    s = 0
-    for i in range(0, len(b), 2):
-        s = (s + (b[i] << 8 | b[i + 1])) * 2 % 65535
-    return s
+def cycle(data):
+    """The checksum of the bytes that follow it in a packet."""
+    total = 0
+    for i in range(0, len(data), 2):
+        total = (total + (data[i] << 8 | data[i + 1])) * 2 % 65535
+    return total
 
 
 def packet(kind, body, source_host=bytes.fromhex("0000aa000304")):
@@ -52,8 +53,13 @@ def packet_of(which, flows, i):
     return packet(random.choice([1, 6, 7, 20]), some_bytes(546))
 
 
-random.seed(1)
-which = sys.argv[1] if len(sys.argv) > 1 else "data"
-flows = int(sys.argv[2]) if len(sys.argv) > 2 else 1
-for i in range(65536):
-    print(packet_of(which, flows, i))
+def main(words):
+    random.seed(1)
+    which = words[0] if words else "data"
+    flows = int(words[1]) if len(words) > 1 else 1
+    for i in range(65536):
+        print(packet_of(which, flows, i))
+
+
+if __name__ == "__main__":
+    main(sys.argv[1:])

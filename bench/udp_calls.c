@@ -22,12 +22,11 @@ static bool is_right(const struct xns_message *message, size_t length, size_t co
 }
 
 int main(int count, char **given) {
-    struct xns_address here = { 1, { 0 }, 0 }, server = { 1, { 0 }, XNS_SOCKET_COURIER };
+    struct xns_address server = { 1, { 0 }, XNS_SOCKET_COURIER };
     struct xns_settings settings = { 1, 0, 0, FIRST_WAIT, LONGEST_WAIT, 0, TRIES };
     struct link link = { 0 };
     struct xns_event event = XNS_EVENT_INIT;
     uint64_t now = milliseconds();
-    uint8_t secret[32];
     size_t length, returned;
     long left, right = 0;
     if (count != 5) return 2;
@@ -37,16 +36,12 @@ int main(int count, char **given) {
     returned = (size_t)atol(given[2]) / 2;
     if (returned > XNS_MOST_CALL_WORDS) return 2;
     for (size_t i = 0; i < XNS_MOST_CALL_WORDS; i++) sent[i] = (uint16_t)(i * 40503u + 1);
-    memcpy(here.host, link.station, 6);
-    random_bytes(secret, sizeof secret);
-    check(xns_host_new(&host, &here, &settings, secret));
+    link_new_host(&link, &host, &settings);
     check(xns_host_connect(&host, now, link.via, link.socket, &server, &connection));
     go_on(now, left, returned);
     while (event.kind != XNS_EVENT_CLOSED) {
         link_send_packets(&link, &host, now);
-        link_wait(&link, xns_host_wake(&host));
-        now = milliseconds();
-        link_receive_packets(&link, &host, now);
+        now = link_hear(&link, &host);
         while (xns_host_next_event(&host, &event, words, XNS_MOST_MESSAGE_WORDS, &length) == XNS_OK) {
             if (event.kind != XNS_EVENT_ANSWER) continue;
             right += is_right(&event.message, length, returned);

@@ -24,12 +24,7 @@ for capture in "$work"/captures/*.hex; do
         "$program" calls "$capture"
         echo "# $?"
     } > "$work/printed" 2> "$work/err"
-    if cmp -s "$capture.text" "$work/printed"; then
-        pass
-    else
-        diff "$capture.text" "$work/printed" | head -5 > "$work/differs"
-        fail "$(basename "$capture"):" "$work/differs"
-    fi
+    same "${capture##*/}" "$capture.text" "$work/printed"
 done
 
 # Each line of the page is among them.
@@ -60,11 +55,8 @@ for sent in "$work"/captures/sent_*.hex.text; do
     if ! cmp -s "$sent" "$overtaken"; then others=$((others + 1)); fi
     if grep -q ' missing ' "$sent" "$overtaken"; then
         fail "${overtaken##*/}: an item is missing"
-    elif [ -s "$work/wanted" ] && cmp -s "$work/wanted" "$work/printed"; then
-        pass
     else
-        diff "$work/wanted" "$work/printed" | head -5 > "$work/differs"
-        fail "${overtaken##*/}: other messages" "$work/differs"
+        same "${overtaken##*/}: other messages" "$work/wanted" "$work/printed"
     fi
 done
 if [ $others -gt 0 ]; then pass; else fail 'packets overtake one another, and nothing is printed later'; fi

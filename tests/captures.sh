@@ -18,16 +18,6 @@ PATH=$PWD/crates/xns/out:$PATH
 cd "$work" || exit 1
 . ./functions
 
-# The file is what was expected, which is not empty.
-same() {
-    if [ -s "$2" ] && cmp -s "$2" "$3"; then
-        pass
-    else
-        diff "$2" "$3" | head -5 > "$work/differs"
-        fail "$1:" "$work/differs"
-    fi
-}
-
 # An Echo request, its reply, and a short packet without a checksum.
 cat > in.hex << 'END'
 532300220002000000010000aa0001020002000000010000aa000304040000014869

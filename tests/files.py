@@ -107,6 +107,14 @@ def compare_times(program, style, path, capture):
     return None if run([program, "calls", f"--times{style}", path]) == wanted else "other times"
 
 
+def compared(program, path, capture, piece):
+    """What was compared of a capture, and what differs or None."""
+    for mode in ("dump", "calls"):
+        yield f"{mode}, pieces of {piece}", compare(program, mode, path, capture, piece)
+    for style in ("", "=relative"):
+        yield f"calls --times{style}", compare_times(program, style, path, capture)
+
+
 def main(words):
     program, seed, count = os.path.abspath(words[0]), int(words[1]), int(words[2])
     passed = failed = 0
@@ -118,20 +126,12 @@ def main(words):
             piece = [None, 1, 7, 1 << 20][place % 4]
             if piece == 1 and len(capture) > 100000:
                 piece = 7
-            for mode in ("dump", "calls"):
-                differs = compare(program, mode, path, capture, piece)
+            for what, differs in compared(program, path, capture, piece):
                 if differs is None:
                     passed += 1
                 else:
                     failed += 1
-                    print(f"FAILED {mode} of capture {place} of seed {seed}, pieces of {piece}: {differs}")
-            for style in ("", "=relative"):
-                differs = compare_times(program, style, path, capture)
-                if differs is None:
-                    passed += 1
-                else:
-                    failed += 1
-                    print(f"FAILED calls --times{style} of capture {place} of seed {seed}: {differs}")
+                    print(f"FAILED capture {place} of seed {seed}, {what}: {differs}")
     print(f"{passed} passed, {failed} failed")
     return 1 if failed else 0
 

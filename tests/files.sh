@@ -6,22 +6,6 @@ cd "$(dirname "$0")/.."
 . tests/lib.sh
 build_program xns -- sim
 
-# The program on the words, with $work/in as standard input.
-run() {
-    "$program" "$@" < "$work/in" > "$work/out" 2> "$work/err"
-    ended=$?
-}
-
-# The last run ended with the status, said the line (empty: nothing), and wrote the file (-: any).
-ends() {
-    if [ -n "$3" ]; then printf '%s\n' "$3"; fi > "$work/said"
-    if [ "$ended" -eq "$2" ] && cmp -s "$work/said" "$work/err" && { [ "$4" = - ] || cmp -s "$4" "$work/out"; }; then
-        pass
-    else
-        fail "$1: status $ended and not $2, standard error:"
-    fi
-}
-
 # ---- files of lines
 
 example=examples/six-calls.hex

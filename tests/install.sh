@@ -15,7 +15,7 @@ fi
 # ---- the script itself, in a copy of the repository, with a kit that proves nothing and builds little
 
 # Runs the words: they must end with the status, and the last line on standard error is the one that is given.
-ends() {
+ends_with() {
     name=$1 status=$2 line=$3
     shift 3
     "$@" > "$work/out" 2> "$work/err"
@@ -75,23 +75,23 @@ for folder in $(echo "$plain_path" | tr : ' '); do
     if [ ! -x "$folder/rt" ]; then without=$without${without:+:}$folder; fi
 done
 PATH=$without
-ends 'without the kit' 1 'install.sh: there is no rt: the Rattle kit is needed to build' sh "$script" "$work/none/deep"
+ends_with 'without the kit' 1 'install.sh: there is no rt: the Rattle kit is needed to build' sh "$script" "$work/none/deep"
 [ ! -e "$work/none" ] || fail 'without the kit a folder is left'
 
 PATH=$work/kit/bin:$plain_path
 for words in '' --uninstall 'one two' '--uninstall one two'; do
     # shellcheck disable=SC2086
-    ends "the words '$words'" 2 "install.sh: one folder is wanted; try 'sh install.sh --help'" sh "$script" $words
+    ends_with "the words '$words'" 2 "install.sh: one folder is wanted; try 'sh install.sh --help'" sh "$script" $words
 done
-ends 'another option' 2 "install.sh: there is no option --prefix=x; try 'sh install.sh --help'" sh "$script" --prefix=x
-ends 'no name' 2 "install.sh: one folder is wanted; try 'sh install.sh --help'" sh "$script" ''
+ends_with 'another option' 2 "install.sh: there is no option --prefix=x; try 'sh install.sh --help'" sh "$script" --prefix=x
+ends_with 'no name' 2 "install.sh: one folder is wanted; try 'sh install.sh --help'" sh "$script" ''
 for folder in "$work/a blank" "$work/a\$sign" "$work/ü" "$work/a;sign" "$work/a:b"; do
-    ends 'a folder that pkg-config does not take' 2 "install.sh: pkg-config does not take the folder $folder; try 'sh install.sh --help'" sh "$script" "$folder"
+    ends_with 'a folder that pkg-config does not take' 2 "install.sh: pkg-config does not take the folder $folder; try 'sh install.sh --help'" sh "$script" "$folder"
     [ ! -e "$folder" ] || fail 'it is left'
 done
-ends 'a folder that pkg-config does not take, from where one stands' 2 "install.sh: pkg-config does not take the folder $work/a b/c; try 'sh install.sh --help'" \
+ends_with 'a folder that pkg-config does not take, from where one stands' 2 "install.sh: pkg-config does not take the folder $work/a b/c; try 'sh install.sh --help'" \
     sh -c "mkdir '$work/a b' && cd '$work/a b' && sh '$script' c"
-ends 'DESTDIR with a folder from where one stands' 2 "install.sh: with DESTDIR the folder has to begin with /; try 'sh install.sh --help'" env DESTDIR="$work/stage" sh "$script" usr
+ends_with 'DESTDIR with a folder from where one stands' 2 "install.sh: with DESTDIR the folder has to begin with /; try 'sh install.sh --help'" env DESTDIR="$work/stage" sh "$script" usr
 for option in --help -h; do
     expect "$option" sh "$script" $option
     expect 'tells how it is called' grep -qx 'usage: sh install.sh PREFIX' "$work/out"
@@ -100,11 +100,11 @@ done
 # A folder that can't be written in is found before anything is proved, and nothing is left there.
 mkdir "$work/way"
 touch "$work/way/share"
-ends 'a file in the place of a folder' 1 "install.sh: $work/way/share cannot be made" sh "$script" "$work/way"
+ends_with 'a file in the place of a folder' 1 "install.sh: $work/way/share cannot be made" sh "$script" "$work/way"
 holds 'and nothing else is left' "$work/way" share
 rm "$work/way/share"
 mkdir -p "$work/way/lib/libxns.a"
-ends 'a folder in the place of a file' 1 "install.sh: $work/way/lib/libxns.a is a folder" sh "$script" "$work/way"
+ends_with 'a folder in the place of a file' 1 "install.sh: $work/way/lib/libxns.a is a folder" sh "$script" "$work/way"
 holds 'and nothing else is left there' "$work/way" lib lib/libxns.a
 other=
 if [ "$(id -u)" -eq 0 ]; then other='setpriv --reuid=65534 --regid=65534 --clear-groups'; fi
@@ -113,44 +113,44 @@ if [ -z "$other" ] || has setpriv; then
     mkdir "$work/closed" "$work/way/bin"
     chmod 555 "$work/closed" "$work/way" "$work/way/bin"
     # shellcheck disable=SC2086
-    ends 'a folder that is closed' 1 "install.sh: $work/closed/bin cannot be made" $other sh "$script" "$work/closed"
+    ends_with 'a folder that is closed' 1 "install.sh: $work/closed/bin cannot be made" $other sh "$script" "$work/closed"
     # shellcheck disable=SC2086
-    ends 'a closed folder in it' 1 "install.sh: $work/way/bin cannot be written in" $other sh "$script" "$work/way"
+    ends_with 'a closed folder in it' 1 "install.sh: $work/way/bin cannot be written in" $other sh "$script" "$work/way"
     chmod 755 "$work/closed" "$work/way" "$work/way/bin"
 else left_out setpriv 'folders that are closed'; fi
-ends 'and the folder of all processes' 1 'install.sh: /proc/xns cannot be made' sh "$script" /proc/xns
+ends_with 'and the folder of all processes' 1 'install.sh: /proc/xns cannot be made' sh "$script" /proc/xns
 [ ! -e "$work/kit/commands" ] || fail 'something was built before'
 touch "$work/kit/refuses"
-ends 'a proof that fails' 1 "$notice" sh "$script" "$work/none/deep"
+ends_with 'a proof that fails' 1 "$notice" sh "$script" "$work/none/deep"
 [ ! -e "$work/none" ] || fail 'after a proof that fails a folder is left'
 rm "$work/kit/refuses"
 
 # The installed files, and that they are removed with the folders that were made.
-ends 'installing' 0 "$notice" sh "$script" "$work/made/deep"
+ends_with 'installing' 0 "$notice" sh "$script" "$work/made/deep"
 # shellcheck disable=SC2086
 holds 'what is there' "$work/made/deep" $folders $files
-ends 'and again' 0 "$notice" sh "$script" "$work/made/deep"
+ends_with 'and again' 0 "$notice" sh "$script" "$work/made/deep"
 expect 'taking it away' sh "$script" --uninstall "$work/made/deep"
 [ ! -e "$work/made" ] || fail 'a folder that was made is left'
 mkdir -p "$work/kept/lib" "$work/kept/share/doc"
-ends 'installing in a folder that is there' 0 "$notice" sh -c "cd '$work' && sh '$script' ./kept/"
+ends_with 'installing in a folder that is there' 0 "$notice" sh -c "cd '$work' && sh '$script' ./kept/"
 expect 'its folder for pkg-config' grep -qx "prefix=$work/kept" "$work/kept/lib/pkgconfig/xns.pc"
 touch "$work/kept/bin/another"
 mkdir "$work/kept/share/xns/python/xns/__pycache__"
 touch "$work/kept/share/xns/python/xns/__pycache__/_told.cpython-311.pyc"
 expect 'taking it away there' sh "$script" --uninstall "$work/kept"
 holds 'leaves what was there, and what another put there' "$work/kept" bin bin/another lib share share/doc
-ends 'taking it away twice' 1 "install.sh: nothing was installed under $work/kept" sh "$script" --uninstall "$work/kept"
+ends_with 'taking it away twice' 1 "install.sh: nothing was installed under $work/kept" sh "$script" --uninstall "$work/kept"
 
 echo 0.0.9 > "$work/copy/VERSION"
-ends 'an older version' 0 "$notice" sh "$script" "$work/versions"
+ends_with 'an older version' 0 "$notice" sh "$script" "$work/versions"
 cp VERSION "$work/copy/VERSION"
-ends 'a newer one over it' 0 "$notice" sh "$script" "$work/versions"
+ends_with 'a newer one over it' 0 "$notice" sh "$script" "$work/versions"
 # shellcheck disable=SC2086
 holds 'leaves nothing of the older' "$work/versions" $folders $files
 
 # Installing under another folder, whose name may have a blank.
-ends 'installing under DESTDIR' 0 "$notice" env DESTDIR="$work/a stage" sh "$script" /opt/xns/
+ends_with 'installing under DESTDIR' 0 "$notice" env DESTDIR="$work/a stage" sh "$script" /opt/xns/
 # shellcheck disable=SC2046,SC2086
 holds 'what is there under DESTDIR' "$work/a stage" opt opt/xns $(printf 'opt/xns/%s\n' $folders $files)
 expect 'PREFIX for pkg-config' grep -qx 'prefix=/opt/xns' "$work/a stage/opt/xns/lib/pkgconfig/xns.pc"
@@ -159,14 +159,14 @@ expect 'taking it away from DESTDIR' env DESTDIR="$work/a stage" sh "$script" --
 
 # The archive: the same bytes each time, whatever rights new files get, and nothing else than what is installed.
 for place in one two; do mkdir "$work/$place"; done
-ends 'an archive' 0 "$notice" sh "$work/copy/release.sh" "$work/one"
+ends_with 'an archive' 0 "$notice" sh "$work/copy/release.sh" "$work/one"
 printf '%s\n' "$work/one/xns-$version-x86_64-linux.tar.gz" "$work/one/xns-$version-x86_64-linux.tar.gz.sha256" > "$work/names"
 expect 'its name, and that of its sum' cmp "$work/names" "$work/out"
 sleep 1
-ends 'an archive for where one stands' 0 "$notice" sh -c "umask 077 && cd '$work/two' && sh '$work/copy/release.sh'"
+ends_with 'an archive for where one stands' 0 "$notice" sh -c "umask 077 && cd '$work/two' && sh '$work/copy/release.sh'"
 expect 'has the same bytes' cmp "$work/one/xns-$version-x86_64-linux.tar.gz" "$work/two/xns-$version-x86_64-linux.tar.gz"
 expect 'and sum' cmp "$work/one/xns-$version-x86_64-linux.tar.gz.sha256" "$work/two/xns-$version-x86_64-linux.tar.gz.sha256"
-ends 'an archive with an option' 2 'usage: sh release.sh [FOLDER]' sh "$work/copy/release.sh" --all
+ends_with 'an archive with an option' 2 'usage: sh release.sh [FOLDER]' sh "$work/copy/release.sh" --all
 
 PATH=$plain_path
 

@@ -31,6 +31,32 @@ expect() {
     mv "$work/new" "$work/out"
 }
 
+# Runs the program that was built: with the words, and with $work/in as standard input.
+run() {
+    "$program" "$@" < "$work/in" > "$work/out" 2> "$work/err"
+    ended=$?
+}
+
+# The last run ended with the status, said the line (empty: nothing), and wrote the file (-: any).
+ends() {
+    if [ -n "$3" ]; then printf '%s\n' "$3"; fi > "$work/said"
+    if [ "$ended" -eq "$2" ] && cmp -s "$work/said" "$work/err" && { [ "$4" = - ] || cmp -s "$4" "$work/out"; }; then
+        pass
+    else
+        fail "$1: status $ended and not $2, standard error:"
+    fi
+}
+
+# The file is what was expected, which is not empty.
+same() {
+    if [ -s "$2" ] && cmp -s "$2" "$3"; then
+        pass
+    else
+        diff "$2" "$3" | head -5 > "$work/differs"
+        fail "$1:" "$work/differs"
+    fi
+}
+
 left_out() {
     echo "left out, for want of $1: $2"
 }

@@ -121,14 +121,9 @@ class Namer:
 
 
 def name_lines(files):
-    programs = []
-    for file in files:
-        with open(file, "rb") as text:
-            try:
-                programs.append(ref.Resolver(text.read(), programs).program)
-            except ref.Refusal as refusal:
-                print(f"{file}:{refusal}", file=sys.stderr)
-                return 2
+    programs = ref.read_programs(files, sys.stderr)
+    if programs is None:
+        return 2
     namer = Namer(programs)
     for line in sys.stdin:
         print(namer.line(line.rstrip("\n")))

@@ -126,12 +126,6 @@ names_as 'the descriptions of examples/courier' "$work/there" tally.courier time
 
 # ---- `xns programs`
 
-# It ended with the status, said the line (empty: nothing), and printed the file.
-ends() {
-    if [ -n "$3" ]; then printf '%s\n' "$3"; fi > "$work/said"
-    if [ $ended -eq "$2" ] && cmp -s "$work/said" "$work/err" && cmp -s "$4" "$work/out"; then pass; else fail "$1: status $ended"; fi
-}
-
 run_programs() {
     "$xns" programs "$@" < "$work/in" > "$work/out" 2> "$work/err"
     ended=$?

@@ -715,30 +715,31 @@ def listed(program):
     return "\n".join(lines)
 
 
-def list_programs(files):
+def read_programs(files, said, read=lambda program: None):
+    """The programs of the files, each of which knows those before it. None where one is refused: `said` is told where."""
     programs = []
     for file in files:
         with open(file, "rb") as text:
             try:
                 programs.append(Resolver(text.read(), programs).program)
             except Refusal as refusal:
-                print(f"{file}:{refusal}", file=sys.stderr)
-                return 2
-        print(listed(programs[-1]))
-    return 0
+                print(f"{file}:{refusal}", file=said)
+                return None
+        read(programs[-1])
+    return programs
+
+
+def list_programs(files):
+    programs = read_programs(files, sys.stderr, lambda program: print(listed(program)))
+    return 2 if programs is None else 0
 
 
 def main(files):
     if files[0] == "--list":
         return list_programs(files[1:])
-    texts = [open(file, "rb").read() for file in files]
-    programs = []
-    for file, text in zip(files, texts):
-        try:
-            programs.append(Resolver(text, programs).program)
-        except Refusal as refusal:
-            print(f"{file}:{refusal}")
-            return 2
+    programs = read_programs(files, sys.stdout)
+    if programs is None:
+        return 2
     for line in sys.stdin:
         print(answer(programs, line.rstrip("\n")))
     return 0

@@ -10,23 +10,6 @@ if ! has gcc; then
 fi
 build_program xns -- sim
 
-# The status, the line on standard error (empty: nothing is said) and the file of standard output (-: any) of the last run.
-expect() {
-    name=$1 status=$2 line=$3 output=$4
-    if [ -n "$line" ]; then printf '%s\n' "$line"; fi > "$work/expected"
-    if [ "$ended" -eq "$status" ] && cmp -s "$work/expected" "$work/err" && { [ "$output" = - ] || cmp -s "$output" "$work/out"; }; then
-        pass
-    else
-        fail "$name: status $ended and not $status, standard error:"
-    fi
-}
-
-# The program on the words, with $work/in as standard input.
-run() {
-    "$program" "$@" < "$work/in" > "$work/out" 2> "$work/err"
-    ended=$?
-}
-
 # A test ended with the status; if that is not 0, the line says what is wrong.
 saw() {
     if [ "$2" -eq 0 ]; then pass; else fail "$1"; fi
@@ -36,10 +19,10 @@ saw() {
 writes_nowhere_and_reads_a_directory() {
     "$program" "$1" < "$work/in" > /dev/full 2> "$work/err"
     ended=$?
-    expect "$1 for a full device" 3 'xns: write fault' -
+    ends "$1 for a full device" 3 'xns: write fault' -
     "$program" "$1" < / > "$work/out" 2> "$work/err"
     ended=$?
-    expect "$1 of a directory" 3 'xns: read fault' "$work/nothing"
+    ends "$1 of a directory" 3 'xns: read fault' "$work/nothing"
 }
 
 # As many bytes of one kind as asked.
@@ -56,12 +39,12 @@ printf '%s\n' '1 idp length 34 sum 5323 control 0 type 2 to 00000001.0000aa00010
 
 cat "$work/packet" > "$work/in"
 run dump
-expect 'a packet' 0 '' "$work/packet.text"
+ends 'a packet' 0 '' "$work/packet.text"
 
 : > "$work/in"
 : > "$work/text"
 run dump
-expect 'no input' 0 '' "$work/text"
+ends 'no input' 0 '' "$work/text"
 
 # Two version ranges, the answer 0000 0005 to call 1, and then the call. The packet of the answer acknowledges the item of the call (0002), so it waits
 # for that. Where it acknowledges only the caller's version range (0001), it does not.
@@ -80,13 +63,13 @@ for acknowledged in 2 1; do
         printf '%s\n' '3 1b return 1 of - results 0000 0005' '4 1a call 1 program 7 version 2 procedure 1 args 0005'
     fi | cat "$work/flows" - > "$work/text"
     run calls
-    expect "an answer that is captured before its call, and acknowledges $acknowledged items" 0 '' "$work/text"
+    ends "an answer that is captured before its call, and acknowledges $acknowledged items" 0 '' "$work/text"
 done
 
 echo 5g > "$work/in"
 echo '1 hex refused Digit 1' > "$work/text"
 run dump
-expect 'a refused line' 1 '' "$work/text"
+ends 'a refused line' 1 '' "$work/text"
 
 # A flow whose numbers wrap.
 front=ffff002c0005000000010000aa0001020005000000010000aa0003040400400012345678
@@ -95,16 +78,16 @@ run dump
 grep item "$work/out" > "$work/items"
 cp "$work/items" "$work/out"
 printf '%s\n' '1 item 65535' '2 item 65536' '3 item 65534' '4 item 65537' > "$work/text"
-expect 'a flow that wraps' 0 '' "$work/text"
+ends 'a flow that wraps' 0 '' "$work/text"
 
 repeat 65536 '\n' > "$work/in"
 run dump
-expect '65,536 lines' 1 '' -
+ends '65,536 lines' 1 '' -
 
 repeat 4096 ' ' > "$work/in"
 echo '1 idp refused Short 0' > "$work/text"
 run dump
-expect 'a line of 4,096 bytes' 1 '' "$work/text"
+ends 'a line of 4,096 bytes' 1 '' "$work/text"
 
 # The echo request cut to each length.
 echo=$(head -n 1 "$work/packet")
@@ -113,13 +96,13 @@ for length in $(seq 0 33); do
     if [ "$length" -lt 30 ]; then reason="Short $length"; else reason="Cut 34 $length"; fi
     echo "1 idp refused $reason" > "$work/text"
     run dump
-    expect "an echo request cut to $length bytes" 1 '' "$work/text"
+    ends "an echo request cut to $length bytes" 1 '' "$work/text"
 done
 
 # What the examples print: each line of hex that is long enough for a header is a packet, and none is refused.
 grep -x '[0-9a-f]\{60,\}' crates/examples/stdout > "$work/in"
 run dump
-expect 'the packets of the examples' 0 '' -
+ends 'the packets of the examples' 0 '' -
 [ "$(grep -c '^[0-9]* idp length ' "$work/out")" -eq 8 ] && ! grep -q ' refused ' "$work/out"
 saw 'the examples have not 8 packets' $?
 
@@ -136,18 +119,18 @@ behind reordered crates/test_texts/stdout > "$work/text"
 [ "$(grep -c ' call \| return ' "$work/text")" -eq 2 ]
 saw 'no call with its answer to print' $?
 run calls
-expect 'calls and answers out of order' 0 '' "$work/text"
+ends 'calls and answers out of order' 0 '' "$work/text"
 cat "$work/packet" >> "$work/in"
 echo 5g >> "$work/in"
 echo "$(wc -l < "$work/in") hex refused Digit 1" >> "$work/text"
 run calls
-expect 'the same before a refused line' 1 '' "$work/text"
+ends 'the same before a refused line' 1 '' "$work/text"
 cat "$work/in" > "$work/conversation"
 cat "$work/text" > "$work/conversation.text"
 
 : > "$work/in"
 run calls
-expect 'no input for calls' 0 '' "$work/nothing"
+ends 'no input for calls' 0 '' "$work/nothing"
 
 # ---- plays of calls
 
@@ -157,7 +140,7 @@ plays() {
     shift 2
     printf '%s\n' "$@" > "$work/text"
     run sim
-    expect "$name" "$status" '' "$work/text"
+    ends "$name" "$status" '' "$work/text"
 }
 
 # As many lines `rest` as asked.
@@ -167,7 +150,7 @@ rests() {
 
 cat "$crate/stdin" > "$work/in"
 run sim
-expect 'both first answers are lost' 0 '' "$crate/stdout"
+ends 'both first answers are lost' 0 '' "$crate/stdout"
 
 { printf '%s\n' 'call add 5' 'call raw 9 1 1 -' 'call raw 7 9 1 0005' 'call raw 7 2 8 -' 'call raw 7 2 1 0005 0006' 'call total' 'tick a' && rests 14; } > "$work/in"
 plays 'six calls, of which four are rejected' 0 'calls 6' 'carried 6' '1 returned 5' '2 rejected 0 -' '3 rejected 1 0001 0002' '4 rejected 2 -' '5 rejected 3 -' '6 returned 5' 'total 5' 'packets 30'
@@ -227,47 +210,47 @@ for more in 1 2; do
     tail -n 3 "$work/out" | head -n 2 > "$work/tail"
     cp "$work/tail" "$work/out"
     printf '%s\n' "$((14999 + more)) returned $more" "total $more" > "$work/text"
-    expect "a connection of $((29999 + more)) items" $((before + 2 - more - after)) '' "$work/text"
+    ends "a connection of $((29999 + more)) items" $((before + 2 - more - after)) '' "$work/text"
 done
 
 # ---- faults, with 3
 
 { cat "$work/packet" && repeat 4097 ' '; } > "$work/in"
 run dump
-expect 'a line of 4,097 bytes after an echo request' 3 'xns: line too long' "$work/packet.text"
+ends 'a line of 4,097 bytes after an echo request' 3 'xns: line too long' "$work/packet.text"
 
 { echo 48 && repeat 4097 ' '; } > "$work/in"
 echo '1 idp refused Short 1' > "$work/text"
 run dump
-expect 'a line of 4,097 bytes after a good one' 3 'xns: line too long' "$work/text"
+ends 'a line of 4,097 bytes after a good one' 3 'xns: line too long' "$work/text"
 
 { echo 48 && sleep 1 && repeat 4097 ' '; } | "$program" dump > "$work/out" 2> "$work/err"
 ended=$?
-expect 'the same in two pieces' 3 'xns: line too long' "$work/text"
+ends 'the same in two pieces' 3 'xns: line too long' "$work/text"
 
 repeat 65537 '\n' > "$work/in"
 run dump
-expect '65,537 lines' 3 'xns: too many lines' -
+ends '65,537 lines' 3 'xns: too many lines' -
 lines=$(wc -l < "$work/out")
 printf '' > "$work/err"
 ended=$lines
-expect 'the text of 65,536 lines' 65536 '' -
+ends 'the text of 65,536 lines' 65536 '' -
 
 cat "$work/packet" > "$work/in"
 writes_nowhere_and_reads_a_directory dump
 
 "$program" dump < "$work/in" >&- 2> "$work/err"
 ended=$?
-expect 'a closed writer' 3 'xns: write fault' -
+ends 'a closed writer' 3 'xns: write fault' -
 
 "$program" dump <&- > "$work/out" 2> "$work/err"
 ended=$?
-expect 'a closed reader' 3 'xns: read fault' "$work/nothing"
+ends 'a closed reader' 3 'xns: read fault' "$work/nothing"
 
 # Of calls the same faults, behind the text of the lines before them.
 { cat "$work/conversation" && repeat 4097 ' '; } > "$work/in"
 run calls
-expect 'a line of 4,097 bytes after calls' 3 'xns: line too long' "$work/conversation.text"
+ends 'a line of 4,097 bytes after calls' 3 'xns: line too long' "$work/conversation.text"
 # Their number is not limited: behind 70,000 lines calls are read as before them.
 { repeat 70000 '\n' && cat "$work/conversation"; } > "$work/in"
 run calls
@@ -275,7 +258,7 @@ sed 1,70000d "$work/out" | awk '{$1=$1-70000} $5=="of"&&$6!="-"{$6=$6-70000} 1' 
 [ "$(wc -l < "$work/out")" -eq $((70000 + $(wc -l < "$work/conversation.text"))) ]
 saw 'the text of more than 65,536 lines of calls is not there' $?
 cp "$work/behind" "$work/out"
-expect 'more than 65,536 lines of calls' 1 '' "$work/conversation.text"
+ends 'more than 65,536 lines of calls' 1 '' "$work/conversation.text"
 cat "$work/conversation" > "$work/in"
 writes_nowhere_and_reads_a_directory calls
 
@@ -283,18 +266,18 @@ repeat 65536 '\n' > "$work/in"
 plays '65,536 lines of a script' 0 'calls 0' 'carried 0' 'total 0' 'packets 0'
 { echo 'tick c' && repeat 65537 '\n'; } > "$work/in"
 run sim
-expect '65,537 lines behind a bad one' 3 'xns: too many lines' "$work/nothing"
+ends '65,537 lines behind a bad one' 3 'xns: too many lines' "$work/nothing"
 { printf '#' && repeat 4095 ' '; } > "$work/in"
 plays 'a comment of 4,096 bytes' 0 'calls 0' 'carried 0' 'total 0' 'packets 0'
 { echo 'tick c' && repeat 4097 '#'; } > "$work/in"
 run sim
-expect 'a line of 4,097 bytes behind a bad one' 3 'xns: line too long' "$work/nothing"
+ends 'a line of 4,097 bytes behind a bad one' 3 'xns: line too long' "$work/nothing"
 "$program" sim < /dev/zero > "$work/out" 2> "$work/err"
 ended=$?
-expect 'an endless line' 3 'xns: line too long' "$work/nothing"
+ends 'an endless line' 3 'xns: line too long' "$work/nothing"
 yes '' | "$program" sim > "$work/out" 2> "$work/err"
 ended=$?
-expect 'endless lines' 3 'xns: too many lines' "$work/nothing"
+ends 'endless lines' 3 'xns: too many lines' "$work/nothing"
 
 cat "$crate/stdin" > "$work/in"
 writes_nowhere_and_reads_a_directory sim
@@ -303,36 +286,36 @@ writes_nowhere_and_reads_a_directory sim
 
 : > "$work/in"
 run
-expect 'no subcommand' 2 "error: 'xns' requires a subcommand but one was not provided; the subcommands are dump, calls, sim and programs; try 'xns --help'" "$work/nothing"
+ends 'no subcommand' 2 "error: 'xns' requires a subcommand but one was not provided; the subcommands are dump, calls, sim and programs; try 'xns --help'" "$work/nothing"
 
 run Dump
-expect 'a subcommand in another case' 2 "error: unrecognized subcommand 'Dump'; the subcommands are dump, calls, sim and programs; try 'xns --help'" "$work/nothing"
+ends 'a subcommand in another case' 2 "error: unrecognized subcommand 'Dump'; the subcommands are dump, calls, sim and programs; try 'xns --help'" "$work/nothing"
 
 run play
-expect 'another subcommand' 2 "error: unrecognized subcommand 'play'; the subcommands are dump, calls, sim and programs; try 'xns --help'" "$work/nothing"
+ends 'another subcommand' 2 "error: unrecognized subcommand 'play'; the subcommands are dump, calls, sim and programs; try 'xns --help'" "$work/nothing"
 
 run dump one two
-expect 'a word too many' 2 "error: unexpected argument 'two' found; a command reads one FILE, as in 'xns calls x.pcap'; try 'xns --help'" "$work/nothing"
+ends 'a word too many' 2 "error: unexpected argument 'two' found; a command reads one FILE, as in 'xns calls x.pcap'; try 'xns --help'" "$work/nothing"
 
 run dump --loud
-expect 'an option that is none' 2 "error: unexpected argument '--loud' found; a command reads one FILE, as in 'xns calls x.pcap'; try 'xns --help'" "$work/nothing"
+ends 'an option that is none' 2 "error: unexpected argument '--loud' found; a command reads one FILE, as in 'xns calls x.pcap'; try 'xns --help'" "$work/nothing"
 
 run --loud
-expect 'an option before any subcommand' 2 "error: unexpected argument '--loud' found; a command reads one FILE, as in 'xns calls x.pcap'; try 'xns --help'" "$work/nothing"
+ends 'an option before any subcommand' 2 "error: unexpected argument '--loud' found; a command reads one FILE, as in 'xns calls x.pcap'; try 'xns --help'" "$work/nothing"
 
 run "$(printf 'dump\377')"
-expect 'a word that is not UTF-8' 2 "error: a word of the command line is not UTF-8; try 'xns --help'" "$work/nothing"
+ends 'a word that is not UTF-8' 2 "error: a word of the command line is not UTF-8; try 'xns --help'" "$work/nothing"
 
 run calls one two
-expect 'a word too many behind calls' 2 "error: unexpected argument 'two' found; a command reads one FILE, as in 'xns calls x.pcap'; try 'xns --help'" "$work/nothing"
+ends 'a word too many behind calls' 2 "error: unexpected argument 'two' found; a command reads one FILE, as in 'xns calls x.pcap'; try 'xns --help'" "$work/nothing"
 
 run sim one two
-expect 'a word too many behind sim' 2 "error: unexpected argument 'two' found; a command reads one FILE, as in 'xns calls x.pcap'; try 'xns --help'" "$work/nothing"
+ends 'a word too many behind sim' 2 "error: unexpected argument 'two' found; a command reads one FILE, as in 'xns calls x.pcap'; try 'xns --help'" "$work/nothing"
 
 for words in --help -h 'dump --help' 'dump -h' 'calls --help' 'sim --help' 'help' 'help dump' 'help calls' 'help sim'; do
     # shellcheck disable=SC2086
     run $words
-    expect "$words" 0 '' -
+    ends "$words" 0 '' -
     grep -q '^Usage: xns' "$work/out"
     saw "$words: no usage on standard output" $?
 done
@@ -356,10 +339,10 @@ for words in --help 'dump --help' 'calls --help' 'sim --help'; do
     lines=$(sed -n 's/.* at most \([0-9]*\) lines.*/\1/p' "$work/said")
     repeat "$bytes" ' ' > "$work/in"
     run dump
-    expect "$words: a line of '$bytes' bytes" 1 '' -
+    ends "$words: a line of '$bytes' bytes" 1 '' -
     repeat $((bytes + 1)) ' ' > "$work/in"
     run dump
-    expect "$words: a line of a byte more than '$bytes'" 3 'xns: line too long' -
+    ends "$words: a line of a byte more than '$bytes'" 3 'xns: line too long' -
     if [ "$words" = 'calls --help' ]; then
         [ -z "$lines" ]
         saw "$words: names a limit of lines" $?
@@ -367,10 +350,10 @@ for words in --help 'dump --help' 'calls --help' 'sim --help'; do
     fi
     repeat "$lines" '\n' > "$work/in"
     run dump
-    expect "$words: '$lines' lines" 1 '' -
+    ends "$words: '$lines' lines" 1 '' -
     repeat $((lines + 1)) '\n' > "$work/in"
     run dump
-    expect "$words: a line more than '$lines'" 3 'xns: too many lines' -
+    ends "$words: a line more than '$lines'" 3 'xns: too many lines' -
 done
 
 # ---- each read and each write failing in turn, and each growth refused
@@ -404,12 +387,12 @@ fail_streams() {
             take_front
             [ "$mode $call" = 'sim READ' ] && : > "$work/front"
             line=$(echo $call | tr '[:upper:]' '[:lower:]')
-            expect "$mode: $line $at failed" 3 "xns: $line fault" "$work/front"
+            ends "$mode: $line $at failed" 3 "xns: $line fault" "$work/front"
             at=$((at + 1))
         done
         [ $at -gt 1 ]
         saw "$mode: no $call to fail" $?
-        expect "$mode: fewer than $at calls of $call" "$fine" '' "$work/text"
+        ends "$mode: fewer than $at calls of $call" "$fine" '' "$work/text"
     done
 }
 
@@ -421,18 +404,18 @@ refuse_growths() {
         refuse_growth $growth "$program" "$mode" < "$work/in"
         [ -e "$work/refused" ] || break
         if [ "$ended" -eq "$fine" ]; then
-            expect "$mode: growth $growth refused, and done without" "$fine" '' "$work/text"
+            ends "$mode: growth $growth refused, and done without" "$fine" '' "$work/text"
         else
             take_front
             [ "$mode" = sim ] && : > "$work/front"
-            expect "$mode: growth $growth refused" 3 'xns: no memory' "$work/front"
+            ends "$mode: growth $growth refused" 3 'xns: no memory' "$work/front"
         fi
         growth=$((growth + 1))
     done
     echo "$mode: $((growth - 1)) growths were refused"
     [ $growth -gt 1 ]
     saw "$mode: no growth to refuse" $?
-    expect "$mode: a run that asks for fewer than $growth growths" "$fine" '' "$work/text"
+    ends "$mode: a run that asks for fewer than $growth growths" "$fine" '' "$work/text"
 }
 
 # Each growth is refused in turn to a command line in error: 2, by its one line or, where there is no memory for that, by the one that is
@@ -445,20 +428,20 @@ refuse_mistaken() {
         refuse_growth $growth "$program" "$@" < "$work/in"
         [ -e "$work/refused" ] || break
         if [ "$ended" -eq 3 ]; then
-            expect "$*: growth $growth refused" 3 'xns: no memory' "$work/nothing"
+            ends "$*: growth $growth refused" 3 'xns: no memory' "$work/nothing"
         elif [ "$(cat "$work/err")" = "$short" ]; then
             shortly=$((shortly + 1))
-            expect "$*: growth $growth refused, and said shortly" 2 "$short" "$work/nothing"
+            ends "$*: growth $growth refused, and said shortly" 2 "$short" "$work/nothing"
         else
             told=$((told + 1))
-            expect "$*: growth $growth refused, and done without" 2 "$mistake" "$work/nothing"
+            ends "$*: growth $growth refused, and done without" 2 "$mistake" "$work/nothing"
         fi
         growth=$((growth + 1))
     done
     echo "$*: $((growth - 1)) growths were refused, $told of them done without, $shortly said shortly"
     [ $told -gt 0 ] && [ $shortly -gt 0 ] && [ $((told + shortly)) -lt $((growth - 1)) ]
     saw "$*: not each of the three after a refused growth" $?
-    expect "$*: a run that asks for fewer than $growth growths" 2 "$mistake" "$work/nothing"
+    ends "$*: a run that asks for fewer than $growth growths" 2 "$mistake" "$work/nothing"
 }
 
 : > "$work/in"
@@ -491,6 +474,6 @@ refuse_growths calls 1
 library=$work/fail_streams.so
 echo 'tick c' > "$work/in"
 run_failing FAIL_READ 2 sim
-expect 'a bad line before a read that fails' 3 'xns: read fault' "$work/nothing"
+ends 'a bad line before a read that fails' 3 'xns: read fault' "$work/nothing"
 
 finish

@@ -17,15 +17,9 @@ import random
 import struct
 import sys
 
-SYSTEM, ASKS, LAST = 0x80, 0x40, 0x10
-END, END_REPLY = 254, 255
+from calls_account import END, END_REPLY, LAST, SYSTEM, checksum
 
-
-def checksum(data):
-    total = 0
-    for word in struct.unpack(f">{len(data) // 2}H", data):
-        total = (total + word) * 2 % 65535
-    return total
+ASKS = 0x40
 
 
 class End:

@@ -52,10 +52,9 @@ static int status_of(const struct xns_event *closed) {
 }
 
 int main(int count, char **given) {
-    struct xns_address here = { 1, { 0 }, 0 }, server = { 1, { 0 }, XNS_SOCKET_COURIER };
+    struct xns_address server = { 1, { 0 }, XNS_SOCKET_COURIER };
     struct link link = { 0 };
     uint64_t now = milliseconds();
-    uint8_t secret[32];
     struct xns_event event = XNS_EVENT_INIT;
     size_t length;
     if (count > 1 && strcmp(given[1], "--patient") == 0) {
@@ -64,16 +63,12 @@ int main(int count, char **given) {
     }
     given = net_open(&link, NET_ASKS, given + 1, server.host);
     if (given == NULL) return 2;
-    memcpy(here.host, link.station, 6);
-    random_bytes(secret, sizeof secret);
-    check(xns_host_new(&host, &here, &settings, secret));
+    link_new_host(&link, &host, &settings);
     check(xns_host_connect(&host, now, link.via, link.socket, &server, &connection));
     go_on(now, *given);
     while (event.kind != XNS_EVENT_CLOSED) {
         link_send_packets(&link, &host, now);
-        link_wait(&link, xns_host_wake(&host));
-        now = milliseconds();
-        link_receive_packets(&link, &host, now);
+        now = link_hear(&link, &host);
         while (xns_host_next_event(&host, &event, words, XNS_MOST_MESSAGE_WORDS, &length) == XNS_OK) {
             if (event.kind != XNS_EVENT_ANSWER) continue;
             print_answer(&event.message, length);

@@ -56,6 +56,15 @@ static inline void check(enum xns_result told) {
     exit(1);
 }
 
+/* Makes a host of the link's station, with a secret at random. */
+static inline void link_new_host(const struct link *link, struct xns_host *host, const struct xns_settings *settings) {
+    struct xns_address here = { 1, { 0 }, 0 };
+    uint8_t secret[32];
+    memcpy(here.host, link->station, 6);
+    random_bytes(secret, sizeof secret);
+    check(xns_host_new(host, &here, settings, secret));
+}
+
 /* Waits for a packet, but not beyond this time, and a second at most: so a signal that comes just before is seen. */
 static inline void link_wait(struct link *link, uint64_t until) {
     const uint64_t now = milliseconds();
@@ -79,6 +88,15 @@ static inline void link_give(void *given, uint64_t via, const uint8_t *bytes, si
 static inline void link_receive_packets(struct link *link, struct xns_host *host, uint64_t now) {
     struct link_host to = { host, now };
     link->receive(link, link_give, &to);
+}
+
+/* Waits until the host has something to do or a packet comes, and gives it the packets that are there. The time. */
+static inline uint64_t link_hear(struct link *link, struct xns_host *host) {
+    uint64_t now;
+    link_wait(link, xns_host_wake(host));
+    now = milliseconds();
+    link_receive_packets(link, host, now);
+    return now;
 }
 
 /* Sends the packets that the host has made. */

@@ -36,24 +36,18 @@ static void answer(uint64_t now, const struct xns_event *call, const uint16_t *w
 
 int main(int count, char **given) {
     static uint16_t words[XNS_MOST_MESSAGE_WORDS];
-    struct xns_address here = { 1, { 0 }, XNS_SOCKET_COURIER };
     struct link link = { 0 };
-    uint8_t secret[32], server[6];
+    uint8_t server[6];
     struct xns_event event;
     size_t length;
     (void)count;
     signal(SIGTERM, stop);
     given = net_open(&link, NET_SERVES, given + 1, server);
     if (given == NULL || *given != NULL) return 2;
-    memcpy(here.host, link.station, 6);
-    random_bytes(secret, sizeof secret);
-    check(xns_host_new(&host, &here, &SETTINGS, secret));
-    check(xns_host_serve(&host, here.socket, PROGRAMS, 1));
+    link_new_host(&link, &host, &SETTINGS);
+    check(xns_host_serve(&host, XNS_SOCKET_COURIER, PROGRAMS, 1));
     while (!is_stopped) {
-        uint64_t now;
-        link_wait(&link, xns_host_wake(&host));
-        now = milliseconds();
-        link_receive_packets(&link, &host, now);
+        const uint64_t now = link_hear(&link, &host);
         while (xns_host_next_event(&host, &event, words, XNS_MOST_MESSAGE_WORDS, &length) == XNS_OK)
             if (event.kind == XNS_EVENT_CALL) answer(now, &event, words, length);
         link_send_packets(&link, &host, now);

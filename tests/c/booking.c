@@ -7,6 +7,7 @@
 
 static const struct xns_program PROGRAMS[] = { { 7, 1, 1 } };
 static const struct xns_settings SETTINGS = { .connections = 1024 };
+static const uint8_t STATION[6] = { 0, 0, 0xaa, 0, 1, 2 };
 static struct xns_host host;
 static int book;
 
@@ -30,23 +31,18 @@ static void answer(uint64_t now, const struct xns_event *call, const uint16_t *w
 
 int main(int count, char **given) {
     static uint16_t words[XNS_MOST_MESSAGE_WORDS];
-    const struct xns_address here = { 1, { 0, 0, 0xaa, 0, 1, 2 }, XNS_SOCKET_COURIER };
     struct link link = { 0 };
     struct xns_event event;
-    uint8_t secret[32];
     size_t length;
     if (count != 3) return 2;
     book = open(given[2], O_WRONLY | O_APPEND | O_CREAT, 0600);
     if (book < 0) return 1;
     udp_open(&link, (uint32_t)atoi(given[1]));
-    random_bytes(secret, sizeof secret);
-    check(xns_host_new(&host, &here, &SETTINGS, secret));
-    check(xns_host_serve(&host, here.socket, PROGRAMS, 1));
+    memcpy(link.station, STATION, 6);
+    link_new_host(&link, &host, &SETTINGS);
+    check(xns_host_serve(&host, XNS_SOCKET_COURIER, PROGRAMS, 1));
     for (;;) {
-        uint64_t now;
-        link_wait(&link, xns_host_wake(&host));
-        now = milliseconds();
-        link_receive_packets(&link, &host, now);
+        const uint64_t now = link_hear(&link, &host);
         while (xns_host_next_event(&host, &event, words, XNS_MOST_MESSAGE_WORDS, &length) == XNS_OK)
             if (event.kind == XNS_EVENT_CALL) answer(now, &event, words, length);
         link_send_packets(&link, &host, now);

@@ -21,6 +21,18 @@ def bound():
     return one
 
 
+def await_echo(place, client, server, goes_on):
+    """Waits until the server at this place answers Echo: a busy machine may start it late. It stops where `goes_on` returns false."""
+    request = xns.echo_request(client._replace(socket=1024), server._replace(socket=2), b"Hi")
+    with bound() as udp:
+        udp.settimeout(0.1)
+        while goes_on():
+            udp.sendto(request, place)
+            with contextlib.suppress(socket.timeout):
+                udp.recv(2048)
+                return
+
+
 def from_port_0(data, port):
     """Sends a datagram whose source port is 0; nothing where that takes rights that one has not."""
     try:

@@ -10,7 +10,6 @@ chance says of which the server is. Of the packets `--spoiled` is the part that 
 import argparse
 import asyncio
 import collections
-import contextlib
 import os
 import pathlib
 import random
@@ -22,7 +21,7 @@ import threading
 import time
 
 import xns
-from relay import Relay, bound
+from relay import Relay, await_echo, bound
 
 SERVER, CLIENT = xns.Address(1, bytes.fromhex("0000aa000102"), 5), xns.Address(1, bytes.fromhex("0000aa000304"), 0)
 FOLDER = os.environ.get("TALLY_C")
@@ -61,7 +60,7 @@ class Lives(threading.Thread):
     def run(self):
         while True:
             process = subprocess.Popen([*self.chance.choice(self.languages), str(self.place[1]), self.book])
-            self.wait(process)
+            await_echo(self.place, CLIENT, SERVER, lambda: process.poll() is None and not self.stops.is_set())
             is_last = self.stops.wait(self.chance.uniform(0.5, 1.5) * self.life)
             if process.poll() is not None:
                 self.broken = f"the server ended with {process.returncode}"
@@ -71,17 +70,6 @@ class Lives(threading.Thread):
             if is_last:
                 return
             self.stops.wait(self.chance.uniform(0, 0.5) * self.life)
-
-    def wait(self, process):
-        """Waits until the server answers Echo: a busy machine may start it late."""
-        request = xns.echo_request(CLIENT._replace(socket=1024), SERVER._replace(socket=2), b"Hi")
-        with bound() as udp:
-            udp.settimeout(0.1)
-            while process.poll() is None and not self.stops.is_set():
-                udp.sendto(request, self.place)
-                with contextlib.suppress(socket.timeout):
-                    udp.recv(2048)
-                    return
 
 
 class Clients:

@@ -1,7 +1,6 @@
 """The example examples/python/tally.py, and those of examples/c where TALLY_C names the folder of `server` and `client`: servers and clients as processes,
 over a network that spoils one packet in ten. Where `refused_server` and `refused_client` stand there too, each growth of them is refused in turn, and where
 valgrind is there, both are run under it. Each client makes TALLY_CALLS calls, 30 where that is not said."""
-import contextlib
 import os
 import pathlib
 import shutil
@@ -14,7 +13,7 @@ import time
 import unittest
 
 import xns
-from relay import Hub, Peer, Relay, bound, send_all_kinds
+from relay import Hub, Peer, Relay, await_echo, bound, send_all_kinds
 
 TALLY = [sys.executable, str(pathlib.Path(__file__).resolve().parents[2] / "examples" / "python" / "tally.py")]
 PYTHON = [*TALLY, "serve"], [*TALLY, "add"]
@@ -44,22 +43,11 @@ class Serving:
 
     def __enter__(self):
         if not self.is_refused:
-            self.wait()
+            deadline = time.monotonic() + 60
+            await_echo(self.place, CLIENT, SERVER, lambda: time.monotonic() < deadline and self.process.poll() is None)
         if self.relay:
             self.relay.start()
         return self
-
-    def wait(self):
-        """Waits until the server answers Echo: a busy machine may start it later than a client gives up."""
-        request = xns.echo_request(CLIENT, SERVER._replace(socket=2), b"Hi")
-        deadline = time.monotonic() + 60
-        with bound() as udp:
-            udp.settimeout(0.1)
-            while time.monotonic() < deadline and self.process.poll() is None:
-                udp.sendto(request, self.place)
-                with contextlib.suppress(socket.timeout):
-                    udp.recv(2048)
-                    return
 
     def __exit__(self, *_):
         if self.relay:
