@@ -5,6 +5,6 @@ pub enum Parting {
     Answered,
     /// By the client, right behind its last call.
     Called,
-    /// The same; and by the server, when a call comes.
+    /// By the client, right behind its last call; and by the server, when a call comes.
     Both,
 }

@@ -3,7 +3,7 @@ use std::alloc::{AllocError, Global};
 /// What went out of an end of a connection.
 #[derive(Clone, Copy)]
 struct End {
-    /// Its place and identifier.
+    /// The end's place and identifier.
     name: [u8; 14],
     /// The number of the next item that goes out for the first time.
     next: u16,

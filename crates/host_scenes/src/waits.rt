@@ -17,7 +17,7 @@ const LONG: Scene = Scene {
     ..Scene::CALM
 };
 
-/// The same with more room at both ends.
+/// The client of `LONG`, with more room at both ends.
 const ROOMY: Scene = Scene {
     name: "the same, windows and backlogs of 64",
     window: 64,
@@ -34,7 +34,7 @@ const SHORT: Scene = Scene {
     ..Scene::CALM
 };
 
-/// The same, while one packet in ten has each harm.
+/// The client of `SHORT`, while one packet in ten has each harm.
 const HARMED: Scene = Scene {
     name: "the same, 1 in 10 lost, repeated, corrupted and late",
     lost: 10,
