@@ -63,7 +63,7 @@ pub data Happening : Type 0 where
 pub data Move : View → Happening → View → Type 0 where
   connecting : Move free connects (held (new_dialogue true))
   opening : Move free opens (held (new_dialogue false))
-  -- that a connection of ours is open the program is told before all else of it, or never
+  -- the program is told that a connection of ours is open before all else of it, or never
   announcing : (d : Dialogue) → IsUntold d → Move (held d) announces (held (record d { opened = true }))
   -- a call of ours is made once all others are answered, and then its answer is handed; the calls are numbered from 1 on
   calling : (d : Dialogue) (c : RawCall) → d.ours ≡ true → IsEven d → d.asked ≡ false → d.closed ≡ None
