@@ -7,7 +7,7 @@ use Rattle.xns_agenda.specs.declared.measure.Measure.{Measure}
 use Rattle.xns_agenda.specs.declared.pace.Pace.{Pace}
 use Rattle.xns_agenda.specs.declared.smoothed.Smoothed.{Smoothed}
 
--- there are three doubts at least, or each acknowledgement was counted
+-- three doubts are known at least, or each acknowledgement was counted
 abbrev Counts : (m : Measure) (n : ℕ) (k : Measure) → Type 0
 Counts m n k = (3 ≤ k.doubts) ⊎ ((k.ambiguous ≡ m.ambiguous + n) × (m.ambiguous + n < most_ambiguous))
 

@@ -50,7 +50,7 @@ abbrev pub expected_from : Option Smoothed → Pace → ℕ
 expected_from None pace = pace.least - pace.least / 2
 expected_from (Some s) pace = soonest s pace.least
 
--- so long after something went out again it is what the peer acknowledges: half of the smoothed time has passed
+-- how long after something went out again an acknowledgement is one of it: half of the smoothed time
 abbrev pub half_time : Option Smoothed → Pace → ℕ
 half_time None pace = pace.least - pace.least / 2
 half_time (Some s) pace = s.time8 / 8 - s.time8 / 8 / 2
@@ -67,7 +67,7 @@ is_expected o pace passed = nat_le (expected_from o pace) passed && nat_le passe
 abbrev pub sampled : Measure → Pace → (passed : ℕ) → Measure
 sampled m pace passed = record { smoothed = Some (smoothed_by m.smoothed (min passed pace.longest)); doubts = 0; ambiguous = 0 }
 
--- so many ambiguous acknowledgements, between which no time was measured, say that the waits are too short
+-- how many ambiguous acknowledgements, between which no time was measured, say that the waits are too short
 abbrev pub most_ambiguous : ℕ
 most_ambiguous = 8
 

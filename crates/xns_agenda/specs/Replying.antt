@@ -1,4 +1,4 @@
--- That a peer lacks an item, as it says by its replies (XSIS 028112, Sequenced Packet Protocol): a reply acknowledges what the peer has
+-- How a peer says by its replies that it lacks an item (XSIS 028112, Sequenced Packet Protocol): a reply acknowledges what the peer has
 -- received in order, and allocates up to the last number that it accepts. Replies that say the same over and over mean that packets arrive,
 -- but not the first one that is missing. When that one goes out again is this project's rule.
 use Rattle.std.specs.Prelude.{ℕ, ◌+◌, ◌&&◌, ◌==◌, Bool, nat_le, nat_lt, if◌then◌else◌}

@@ -2,7 +2,7 @@
 use Rattle.std.specs.Prelude.{◌≡◌, ◌≢◌, ℕ, ◌+◌, ◌-◌, ◌*◌, ◌<◌, ◌≤◌, nat_le, nat_lt, List, length, if◌then◌else◌, Option, Some, None}
 use Rattle.std.specs.Prelude.{slice_get, slice_index_or}
 
--- there is a time, no later than this one
+-- a time is given, no later than this one
 abbrev pub IsBy : Option ℕ → ℕ → Type 0
 IsBy None t = ⊥
 IsBy (Some s) t = s ≤ t

@@ -57,7 +57,7 @@ impl Model for Agenda {
     }) (length a.dues) };
 }
 
-/// So many numbers, each free.
+/// The numbers below this one, each free.
 fn all_free(alloc: Global, most: usize) -> Result<Turns, AllocError>
     ensures sized { IfOk result (λ t. length t.tickets ≡ most) }
     ensures free { IfOk result (λ t. (k : ℕ) → k < most → has_turn t k ≡ true) }

@@ -44,7 +44,7 @@ impl Measure {
         ambiguous: 0,
     };
 
-    /// So many ambiguous acknowledgements are a doubt.
+    /// How many ambiguous acknowledgements are a doubt.
     const MOST_AMBIGUOUS: u8 = 8;
 
     /// The most packets that are borne: so many are counted by 16 bits.

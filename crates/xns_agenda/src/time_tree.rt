@@ -9,7 +9,7 @@ use std::marker::Model;
 
 /// For each number of a connection a time in milliseconds, or none; and which is the earliest, without a walk over all.
 ///
-/// Its room is made once: a time is never refused. Beside the times stands a tree, in which each node has the sooner time of the
+/// Room for all is made once: a time is never refused. Beside the times stands a tree, in which each node has the sooner time of the
 /// two below it.
 #[derive(Drop)]
 pub struct TimeTree {

@@ -9,7 +9,7 @@ use std::marker::Model;
 
 /// For each number of a connection a time in milliseconds, or none; and which is the earliest, without a walk over all.
 ///
-/// Its room is made once: a time is never refused. The time of the number that was set last stands beside the tree of the others: while
+/// Room for all is made once: a time is never refused. The time of the number that was set last stands beside the tree of the others: while
 /// one connection goes on, no tree is mended.
 #[derive(Drop)]
 pub struct Times {

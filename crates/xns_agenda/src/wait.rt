@@ -17,7 +17,7 @@ use std::marker::Model;
 
 /// What a connection waits for, how long, and how often in vain. Times are in milliseconds, of any clock.
 ///
-/// Its owner tells it each word of the peer (`hear`), and, after each step of an open connection, whether something waits for the
+/// The owner of a wait tells it each word of the peer (`hear`), and, after each step of an open connection, whether something waits for the
 /// peer, and how many items are out (`step`); asks it when something is due (`due`); and then what is to be done (`act`).
 #[derive(Drop)]
 pub struct Wait {
