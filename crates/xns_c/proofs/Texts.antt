@@ -118,7 +118,7 @@ text_value w ws bytes count first enough e =
     ∙ ap (λ r. placed (w ∷ ws) (over ValueModel.text r)) e
     ∙ ap (λ (n : ℕ). Ok (ValueModel.text bytes, n)) size
 
--- such a text is this one, and it is no fault
+-- a text that lies whole in the words is the one that was read, and it is no fault
 pub text_told : (found words : List ℕ) (count : ℕ) → found ≡ words → 1 ≤ length found → count ≡ slice_index_or found 0 0 → count / 2 + count % 2 ≤ length (take (length found - 1) (drop 1 found))
     → (bytes : List ℕ) (taken : ℕ) → value_of ShapeModel.text words ≡ Ok (ValueModel.text bytes, taken)
     → (length bytes ≡ count) × (taken ≡ 1 + (count / 2 + count % 2)) × (front_bytes count (take (length found - 1) (drop 1 found)) ≡ Ok (bytes, drop (count / 2 + count % 2) (take (length found - 1) (drop 1 found))))

@@ -38,7 +38,7 @@ Does (Some k) (Some n) result P = P k n
 abbrev pub guest_at : KeptHost → ℕ → Option (Option Guest)
 guest_at k number = slice_get k.host.guests.items number
 
--- there is a new host at this address, with these settings and this secret, of which nothing is kept
+-- a new host at this address, with these settings and this secret, of which nothing is kept
 abbrev pub IsNew : Option KeptHost → Address → Settings → List ℕ → Type 0
 IsNew None own settings secret = ⊥
 IsNew (Some k) own settings secret = IsNewHost own.network own.host settings secret k.host
@@ -72,13 +72,13 @@ keeps_answer (Some e) number = is_answer e && event_number e == number
 abbrev pub kept_closing : Option Event → ℕ → ℕ → Option Event
 kept_closing event number result = if result == ok && keeps_answer event number then None else event
 
--- that call was made; while an answer on the connection is kept, it changes nothing
+-- the call was made; while an answer on the connection is kept, it changes nothing
 pub record Calls (k n : KeptHost) (now number : ℕ) (call : RawCall) (result : ℕ) : Type 0 where
   pub kept : keeps_answer k.event number ≡ true → (result ≡ busy) × (n ≡ k)
   pub turns : keeps_answer k.event number ≡ false → Turns k n now number (made call) (λ t. call_fault_of t call) result
   pub event : n.event ≡ k.event
 
--- that answer was given; one that is none changes nothing
+-- the answer was given; one that is none changes nothing
 pub record AnswersCall (k n : KeptHost) (now number : ℕ) (answer : Option Answer) (words : List ℕ) (result : ℕ) : Type 0 where
   pub turns : (a : Answer) → answer ≡ Some a → Turns k n now number (gave a words) (λ t. answer_fault_of t a words) result
   pub bad : answer ≡ None → (result ≡ bad_argument) × (n ≡ k)

@@ -19,7 +19,7 @@ impl XnsAddress {
     ghost use Rattle.std.specs.Prelude.{◌≡◌};
     ghost use Rattle.xns_c.specs.Structs.{address_in};
 
-    /// The same for C.
+    /// An address of the stack, for C.
     pub fn of(address: &Address) -> XnsAddress
         ensures { address_in result ≡ address.now }
     {
@@ -30,7 +30,7 @@ impl XnsAddress {
         }
     }
 
-    /// The same for the stack.
+    /// An address of C, for the stack.
     pub fn address(&self) -> Address
         ensures { result ≡ address_in self.now }
     {

@@ -6,10 +6,10 @@ ghost use Rattle.xns_c.specs.Results.{idp_fault_number, send_fault_number, dropp
 use xns_idp::IdpFault;
 use xns_spp::{Dropped, SendFault};
 
-/// It was done.
+/// What was asked for was done.
 pub const OK: u32 = 0;
 
-/// There is nothing of what was asked for.
+/// Nothing is there of what was asked for.
 pub const NOTHING: u32 = 1;
 
 /// Memory was refused, and nothing is changed.
@@ -24,10 +24,10 @@ pub const SHORT_BUFFER: u32 = 4;
 /// An argument is not allowed.
 pub const BAD_ARGUMENT: u32 = 5;
 
-/// There are fewer bytes than a header has.
+/// Fewer bytes than a header has.
 pub const SHORT: u32 = 11;
 
-/// There are more bytes of data than a packet carries.
+/// More bytes of data than a packet carries.
 pub const TOO_LONG: u32 = 21;
 
 /// As many connections are there as the host may have.

@@ -74,7 +74,7 @@ impl XnsSettings {
     ghost use Rattle.std.specs.Prelude.{◌≡◌};
     ghost use Rattle.xns_c.specs.Settings.{settings_in};
 
-    /// The same for a host.
+    /// The settings of a host that C's settings stand for.
     pub fn settings(&self) -> Settings
         ensures { result ≡ settings_in self.now }
     {
