@@ -155,7 +155,7 @@ pub on_ok_once : {T E : Type 0} (r : Result T E) (h : Heading) (due : Due) (pack
 on_ok_once (Ok x) h due packet f content number s u comes e = e ∙ sym (once h due packet f content number s comes)
 on_ok_once (Err x) h due packet f content number s u comes e = tt
 
--- such an item is no repeat
+-- an item that is told at once is no repeat
 pub once_wants : (due : Due) (f : Header) (number : ℕ) (own other : Side) (page : Page) → comes_next due f own.track other.track ≡ Some number → wants_memory due f (scene own other page) ≡ true
 once_wants due f number own other page comes = by_track own.track refl comes
   where

@@ -9,6 +9,6 @@ use Rattle.xns_calls.specs.Over.{closes, is_over}
 abbrev pub begins_items : Header → Bool
 begins_items f = not (is_system f) && f.sequence == 0 && not (closes f.stream)
 
--- such a packet, where the connection of its ends is over, begins another one of the same ends
+-- a packet that begins items, where the connection of its ends is over, begins another one of the same ends
 abbrev pub begins_anew : Header → Connection → Bool
 begins_anew f connection = begins_items f && is_over connection

@@ -63,7 +63,7 @@ abbrev pub repeats_of : List Bool → Repeats
 repeats_of [] = InARow 0
 repeats_of (is_repeat ∷ before) = repeats_behind is_repeat (repeats_of before)
 
--- so many repeats are the last ones
+-- how many of the last items are repeats
 abbrev pub in_a_row : List Bool → ℕ
 in_a_row [] = 0
 in_a_row (is_repeat ∷ before) = if is_repeat then in_a_row before + 1 else 0

@@ -50,7 +50,7 @@ const MOST_LINES: usize = 18_446_744_073_709_551_615;
 /// `NoMemory` where a growth is refused. Of the limits' faults the one that comes first in the input is
 /// answered. The text of all lines before the fault is written first, but for a write that fails.
 ///
-/// It holds what `dump` holds, the words of the longest message, its value and its text where it is named, the buffers of at most 64 items
+/// `calls` holds what `dump` holds, the words of the longest message, its value and its text where it is named, the buffers of at most 64 items
 /// that were kept and then read, which others use again, and of each flow with ends of its own a record of some 400
 /// bytes, at most 64 items that wait, at most 64 acknowledgements that came before their items, and at most 131,072 bytes of a message that is not whole, with four more while a version range
 /// stands before it.

@@ -27,7 +27,7 @@ pub fn closes(stream: u8) -> bool
 }
 
 impl Closing {
-    /// The same once an item of this datastream has come, which closes the connection.
+    /// With what the flow has closed the connection, once an item of this datastream has come, which closes it.
     pub fn with(self, stream: u8) -> Closing
         ensures { result ≡ closed_with stream self }
     {

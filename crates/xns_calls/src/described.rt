@@ -5,7 +5,7 @@ use std::marker::Brand;
 pub(crate) trait Described {
     ghost use Rattle.xns_calls.specs.Naming.{Programs};
 
-    // Those programs.
+    // The programs by which calls are named.
     ghost programs: { Programs };
 }
 

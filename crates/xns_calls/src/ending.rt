@@ -57,7 +57,7 @@ fn end_own(
     advance(scratch, page, heading, own, other, first.number + 1)
 }
 
-/// So it is read of a flow, or of the one behind it.
+/// Reads the first item that is kept, of a flow or of the one behind it.
 fn end_of(
     scratch: &mut Scratch,
     page: &mut Page,

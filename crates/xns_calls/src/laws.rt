@@ -118,7 +118,7 @@ pub fn whole_flows_say_their_conversation()
     one_item_more();
 }
 
-/// So it is in the text of a whole input, whatever other lines and flows it has. The text is made of parts, each of one flow
+/// A whole flow's conversation is in the text of a whole input, whatever other lines and flows it has. The text is made of parts, each of one flow
 /// or of a line that was refused. Those of such a flow say that it begins, and then the messages of its conversation, in
 /// order, up to the first fault. Without a fault nothing else is said of it but that 64 repeats came in a row, so no item is called missing.
 /// The law leaves open with which number, call and names a message's line speaks of it: those are in the text, which `calls` gives exactly.

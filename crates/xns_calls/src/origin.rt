@@ -14,7 +14,7 @@ pub enum ShownTime {
     Hidden,
     /// The capture does not say when, or not in a way that is read.
     Unknown,
-    /// So many nanoseconds after the beginning of 1970.
+    /// A number of nanoseconds after the beginning of 1970.
     Known {
         /// The time of the frame.
         nanoseconds: u64,

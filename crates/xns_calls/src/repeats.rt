@@ -7,7 +7,7 @@ use xns_spp::MOST_PENDING;
 /// What is kept of the repeats of a flow.
 #[derive(Clone, Copy, Debug, PartialEq, Eq)]
 pub enum Repeats {
-    /// So many are the last items of the flow that were captured, fewer than 64.
+    /// The number of repeats that are the last items of the flow that were captured, fewer than 64.
     InARow(u8),
     /// 64 came in a row, and the line that tells of it was printed.
     Told,

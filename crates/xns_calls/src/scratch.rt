@@ -8,7 +8,7 @@ use std::alloc::{AllocError, Global};
 use xns_spp::control::{ATTENTION, END_OF_MESSAGE};
 use xns_spp::{Bytes, Header, Item};
 
-/// So many buffers of items are kept for others, and no more.
+/// How many buffers of items are kept for others at most.
 const MOST_SPARE: usize = 64;
 
 /// The allocator, room for the words of a message, which the next one uses again, and buffers of items that were read, for others.

@@ -6,10 +6,10 @@ pub trait TimeStyle: Copy {
     ghost use Rattle.std.specs.Prelude.{◌≡◌};
     ghost use Rattle.xns_calls.specs.declared.times.Times.{Times};
 
-    // Those times.
+    // The times that are printed.
     ghost style: { Times };
 
-    /// Those times.
+    /// The times that are printed.
     fn times(self) -> Times
         ensures { result ≡ style };
 }

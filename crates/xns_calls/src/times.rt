@@ -5,8 +5,8 @@
 pub enum Times {
     /// None.
     Hidden,
-    /// Those of the frames, in seconds since 1970.
+    /// The times of the frames, in seconds since 1970.
     Absolute,
-    /// The same, in seconds since the first frame that has a time.
+    /// The times of the frames, in seconds since the first one that has a time.
     Relative,
 }
