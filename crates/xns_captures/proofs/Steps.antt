@@ -39,7 +39,7 @@ short_head f is (b ∷ bytes) h =
     ∙ cond-true (nat_lt (length (b ∷ bytes)) (head_count f)) (ends_with (Some fault.Cut))
     (behind_size contents f is (b ∷ bytes) (size_of f (take (head_count f) (b ∷ bytes)))) (lt-ltb (length (b ∷ bytes)) (head_count f) h)
 
--- or behind it
+-- the file ends behind the head of a part, and before the part's end
 pub short_part : (f : Format) (is : List Interface) (bytes : List ℕ) (size : ℕ) → head_count f ≤ length bytes
     → size_of f (take (head_count f) bytes) ≡ Ok size → length bytes < size
     → contents f is bytes ≡ ends_with (end_in f bytes)

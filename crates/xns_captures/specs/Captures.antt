@@ -76,7 +76,7 @@ contents_in parts format interfaces [] = ends_with (end_of format)
 contents_in zero format interfaces (byte ∷ bytes) = ends_with None
 contents_in (suc parts) format interfaces (byte ∷ bytes) = behind_head (contents_in parts) format interfaces (byte ∷ bytes)
 
--- there are no more parts than bytes
+-- what a capture holds from here on: no more parts than bytes
 unfoldable pub contents : More
 contents format interfaces bytes = contents_in (length bytes) format interfaces bytes
 
@@ -84,7 +84,7 @@ contents format interfaces bytes = contents_in (length bytes) format interfaces 
 abbrev pub contents_of : List ℕ → Contents
 contents_of file = contents Unread [] file
 
--- its frames, in order, and why it can't be read to its end, if so
+-- the frames of a file, in order, and why it can't be read to its end, if so
 abbrev pub frames_of : List ℕ → List FrameBytes
 frames_of file = (contents_of file).frames
 

@@ -41,6 +41,6 @@ resolution_within zero order options = 6
 resolution_within (suc more) order options =
     if nat_lt (length options) 4 then 6 else by_option order options (resolution_within more order)
 
--- there are no more options than bytes
+-- the resolution that the options say, of which there are no more than bytes
 abbrev pub resolution_of : ByteOrder → List ℕ → ℕ
 resolution_of order options = resolution_within (length options) order options

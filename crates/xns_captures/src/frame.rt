@@ -4,7 +4,7 @@ use crate::frame_time::FrameTime;
 /// Where a frame stands in the bytes of its part of a capture.
 #[derive(Clone, Copy, Debug, PartialEq, Eq)]
 pub struct Frame {
-    /// Its link type.
+    /// The frame's link type.
     pub link: u16,
     /// Where it begins.
     pub start: usize,

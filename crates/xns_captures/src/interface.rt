@@ -5,7 +5,7 @@
 pub struct Interface {
     /// The link type of its frames.
     pub link: u16,
-    /// So many bytes of a frame were kept at most; 0 stands for no limit.
+    /// How many bytes of a frame were kept at most; 0 stands for no limit.
     pub most: u32,
     /// The code of the resolution of its times, as an option of pcapng has it: n for 10^-n of a second, 128 + n for 2^-n.
     pub resolution: u8,

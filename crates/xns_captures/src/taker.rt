@@ -16,7 +16,7 @@ pub trait PacketTaker {
     // The taker has taken these packets, and the writer, which held the first bytes, holds the second.
     ghost stands: { Self → Option (List ℕ) → Option (List ℕ) → List NumberedPacket → Type 0 };
 
-    // So too, but that a write failed.
+    // The taker has taken these packets, but a write failed.
     ghost fails: { Self → Option (List ℕ) → Option (List ℕ) → List NumberedPacket → Type 0 };
 
     // Memory may be refused for this packet.

@@ -3,7 +3,7 @@ use Rattle.xns_captures.specs.Captures.{NumberedPacket}
 use Rattle.xns_lines.specs.Printing.{StandsBehind}
 use Rattle.xns_captures.proofs.packet_pages.PacketPages.finish.Given as goal
 
--- so many parts are printed
+-- the first parts are printed
 abbrev pub invariant-loop-part : goal.invariant-loop-part
 invariant-loop-part g l =
     let printer = g.P.PacketPrinter in
