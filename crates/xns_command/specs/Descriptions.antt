@@ -27,7 +27,7 @@ IsUnread run.Read = Unit {0}
 IsUnread run.NoMemory = Unit {0}
 IsUnread _ = ⊥
 
--- this fault is why the text, read behind these programs, is no program
+-- the fault is why the text, read behind these programs, is no program
 abbrev pub IsFaultOf : DescriptionFault → List ℕ → List Program → Type 0
 IsFaultOf (Wrong line column reason) text before = IsWrong line column reason text before
 IsFaultOf (Run fault) text before = IsUnread fault

@@ -5,7 +5,7 @@
 pub enum Refusal {
     /// Help is asked for, or the version.
     Help,
-    /// There was no memory to read the words.
+    /// Memory was refused for the words.
     NoMemory,
     /// The words are wrong.
     Mistake,
