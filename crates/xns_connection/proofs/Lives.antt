@@ -47,7 +47,7 @@ caller_of h (Answers a) has is = let some = has.table in absurd (cc)
 
 -- ---- from where it goes on
 
--- those that were handed are the listed ones, and all that were taken are answered but maybe the last
+-- the calls that were handed are the listed ones, and all that were taken are answered but maybe the last
 record Fits (programs : List Program) (h : Story) : Type 0 where
   pub handed : h.handed ≡ filter (is_listed programs) h.taken
   pub few : length h.answers ≤ length h.taken

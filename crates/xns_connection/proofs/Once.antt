@@ -30,7 +30,7 @@ abbrev Ends : {X : Type 0} → (X → X → Type 0) → X → Type 0
 Ends {X} R x = (y : X) → R x y → ⊥
 
 module _ {X : Type 0} (R : X → X → Type 0) (one : IsOne R) where
-  -- there is no step, or a first one
+  -- no step, or a first one
   record HasFirst (x y : X) : Type 0 where
     next : X
     step : R x next

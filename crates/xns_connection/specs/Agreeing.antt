@@ -67,7 +67,7 @@ pub record IsOutcome (h g : Story) (k : ℕ) (m : Message) : Type 0 where
 pub record Agree (programs : List Program) (h g : Story) : Type 0 where
   -- the calls taken are those made, in order, as far as they came
   pub calls : Begins g.taken (made_messages 1 h.made)
-  -- those handed are those made that are listed
+  -- the calls handed are the listed ones of those made
   pub handed : Begins g.handed (filter (is_listed programs) (made_messages 1 h.made))
   -- the answers handed are those put out, in order, as far as they came
   pub answers : Begins h.handed g.answers

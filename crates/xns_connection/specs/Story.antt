@@ -112,7 +112,7 @@ abbrev pub waiting_message : Side → Option Message
 waiting_message (Calls t) = t.outcome
 waiting_message (Answers a) = listed_call a.programs a.call
 
--- there is one, or a call that is to be rejected
+-- an answer or a call is there for the program, or a call that is to be rejected
 abbrev pub has_message : Side → Bool
 has_message (Calls t) = is_some t.outcome
 has_message (Answers a) = is_some a.call
