@@ -277,7 +277,7 @@ done_early now first gs a rounds before all none = at_last now first gs rounds b
   by k None noted = refl
   by k (Some g) noted = due_not now (due_time g.connection.wait.due) (λ t is. none.after k t (noted ∙ ap Some is))
 
--- or as many rounds were made as there are places
+-- nothing is due where as many rounds were made as there are places
 pub done_last : (now : ℕ) (first gs : Places) (rounds : ℕ) → SoFar now first gs rounds → length first ≤ rounds → EachActs now first gs
 done_last now first gs rounds before most =
     let few = before.few in

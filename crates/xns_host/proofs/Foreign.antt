@@ -99,7 +99,7 @@ pub unnamed_not_ours : (w : Whole) (p q : SppPacketModel) → p ≡ q → named_
 unnamed_not_ours w p q same none n =
     let bad : None ≡ Some n.number = sym none ∙ (ap (λ (x : SppPacketModel). named_in w.register x) (sym same) ∙ n.named) in cc
 
--- nor does one that names a connection open one
+-- a packet that names a connection opens none
 pub named_opens_none : (w : Whole) (p q : SppPacketModel) (number : ℕ) → p ≡ q → named_in w.register q ≡ Some number → IsOpener w p → ⊥
 named_opens_none w p q number same named o =
     let bad : None ≡ Some number = sym o.unnamed ∙ (ap (λ (x : SppPacketModel). named_in w.register x) same ∙ named) in cc
@@ -121,7 +121,7 @@ quoted_not_ours w c quote number all quoted owner never q =
     let bad : true ≡ false = sym yes ∙ (ap (λ (x : Quote). is_sent_by q.there.guest fit.story.state x) same ∙ no) in
     cc)
 
--- nor is one whose identifier no connection has, nor is there one where none is quoted
+-- a quoted packet whose identifier no connection has is none of ours, and where none is quoted there is none
 pub unowned_not_ours : (w : Whole) (c : PacketModel) (quote : Quote) → quoted_packet c.body ≡ Some quote
     → owner_in w.register.identifiers quote.source_id ≡ None → QuotesOurs w c → ⊥
 unowned_not_ours w c quote quoted none q =

@@ -29,7 +29,7 @@ use Rattle.xns_host.proofs.Ends.{leads_to}
 abbrev Places : Type 0
 Places = List (Option Guest)
 
--- such a one was read from a place
+-- a connection that was read from a place is there
 pub there_in : (P : Guest → Type 0) (a : Places) (n : ℕ) (old : Option Guest) → n < length a → old ≡ get_or a n old → IsThere P (Some old)
     → IsThere P (slice_get a n)
 there_in P a n old less read one =

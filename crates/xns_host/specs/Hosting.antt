@@ -99,7 +99,7 @@ pub record HasNoneDone (guests : List (Option Guest)) : Type 0 where
 
 -- ---- one connection of them
 
--- there is a connection with this number
+-- a connection has this number
 abbrev pub has_guest : Option (Option Guest) → Bool
 has_guest None = false
 has_guest (Some None) = false
@@ -194,7 +194,7 @@ HasNoPacket guests = (k : ℕ) (g : Guest) → slice_get guests k ≡ Some (Some
 
 -- ---- who gives way to a new connection
 
--- there is a connection in each place
+-- each place has a connection
 abbrev pub IsFull : List (Option Guest) → Type 0
 IsFull guests = (k : ℕ) → slice_get guests k ≢ Some None
 

@@ -4,7 +4,7 @@ use Rattle.xns_idp.specs.declared.address.Address.{Address}
 use Rattle.xns_small.specs.ErrorReport.{MayBeComplainedOf, complaint}
 use Rattle.xns_host.specs.declared.outgoing.Outgoing.{Outgoing}
 
--- those that wait, the first one first, at most so many; and whether memory was refused for the last packet that was to be answered here or to
+-- the packets that wait, the first one first, at most so many; and whether memory was refused for the last packet that was to be answered here or to
 -- open a connection
 pub record StrayQueue : Type 0 where
   pub most : ℕ

@@ -79,7 +79,7 @@ pub record GuestActs (now : ℕ) (g h : Guest) : Type 0 where
   pub same : h ≡ record g { connection = h.connection }
   pub parts : parts_of h.connection ≡ acted (parts_of g.connection) now
 
--- there is no packet; where one may be there still, memory was refused
+-- no packet goes out; where one may be there still, memory was refused
 abbrev pub none_by : (packet_left : Bool) → Result (Option Outgoing) HostFault
 none_by true = Err NoMemory
 none_by false = Ok None

@@ -25,7 +25,7 @@ pub struct Quote {
     pub source_id: u16,
     /// The identifier of the one to whom it was sent; 0 where the sender did not know it.
     pub target_id: u16,
-    /// Its sequence number.
+    /// The packet's sequence number.
     pub sequence: u16,
 }
 
