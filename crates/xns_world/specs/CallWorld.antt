@@ -89,9 +89,8 @@ or_caller p w side None = caller_step p w side
 abbrev pub step_with : {S : Type 0} → Parties S → CallWorld → Side → Option Item → Option CallWorld
 step_with p w side o = or_caller p w side (end_step_with (end_of w.world side) o)
 
--- the first step that applies: the session has an item out and the end isn't full, and it is sent; the session has none
--- out and an item waits, and it is fed to the session; an outcome is there, and it is listed; no call is unanswered,
--- and the next is made
+-- the first step that applies: the session has an item out and the end isn't full: it is sent; none is out and an item
+-- waits: the session is fed it; an outcome is there: it is listed; no call is unanswered: the next is made
 abbrev pub step : {S : Type 0} → Parties S → Side → CallWorld → Option CallWorld
 step p side w = step_with p w side (next_out p w side)
 
