@@ -67,8 +67,8 @@ abbrev pub behind_frames : List FrameBytes → Contents → Contents
 behind_frames [] rest = rest
 behind_frames (frame ∷ frames) rest = with_frame frame (behind_frames frames rest)
 
--- a reader has read these bytes, of which the last were not taken yet: whatever comes behind them, the capture holds the frames that came
--- and what the rest holds, and the taker stands for the packets in these frames
+-- a reader has read these bytes, of which the last were not taken yet: whatever comes behind them, the capture holds the frames
+-- that came and what the rest holds, and the taker stands for the packets in these frames
 pub record HasRead (reading : Reading) (read kept : List ℕ) (stands : Says) : Type 0 where
   pub frames : List FrameBytes
   pub count : reading.count ≡ length frames
