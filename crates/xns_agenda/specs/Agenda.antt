@@ -1,7 +1,7 @@
 -- What is to be done next, of all connections.
-use Rattle.std.specs.Prelude.{◌≡◌, ℕ, true, false, List, length, Option, Some, None, slice_get, slice_set}
+use Rattle.std.specs.Prelude.{◌≡◌, ℕ, true, false, List, length, Option, Some, None, replicate, slice_get, slice_set}
 use Rattle.xns_agenda.specs.Times.{HasEarliest, IsBy, IsEarliest}
-use Rattle.xns_agenda.specs.Turns.{HasNoTurn, Line, has_turn, with_turn}
+use Rattle.xns_agenda.specs.Turns.{HasNoTurn, Line, empty_line, has_turn, lined_up, with_turn}
 use Rattle.xns_agenda.specs.declared.facts.Facts.{Facts}
 use Rattle.xns_agenda.specs.declared.facts.TheConstants.Facts.{NONE}
 use Rattle.xns_agenda.specs.declared.way.Way.{Way}
@@ -28,6 +28,18 @@ pub record IsFor (a : Plan) (most : ℕ) : Type 0 where
   pub closed : length a.closed ≡ most
   pub strangers : length a.strangers ≡ most
   pub free : length a.free.tickets ≡ most
+
+-- the plan for so many numbers of which no connection has one: nothing is to be done, and the numbers are free, the lowest first
+abbrev pub new_agenda : ℕ → Plan
+new_agenda most = record {
+  dues = replicate most None;
+  packets = empty_line most;
+  events = empty_line most;
+  closed = replicate most None;
+  strangers = replicate most None;
+  free = lined_up most most;
+  short = None;
+}
 
 -- the plan once these facts are noted of the connection with this number
 abbrev pub noted : Plan → ℕ → Facts → Plan

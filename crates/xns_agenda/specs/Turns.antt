@@ -1,5 +1,5 @@
 -- Which connections have a turn, and whose is first.
-use Rattle.std.specs.Prelude.{◌≡◌, ℕ, ◌+◌, Bool, true, false, min, List, if◌then◌else◌, Option, Some, None, replicate, slice_index_or}
+use Rattle.std.specs.Prelude.{◌≡◌, ℕ, zero, suc, ◌+◌, Bool, true, false, min, List, if◌then◌else◌, Option, Some, None, replicate, slice_index_or}
 use Rattle.std.specs.Prelude.{slice_set}
 use Rattle.std.specs.Option.{is_some}
 use Rattle.xns_agenda.specs.Times.{HasEarliest}
@@ -35,3 +35,8 @@ with_last line number = record { tickets = slice_set line.tickets number (Some l
 abbrev pub with_turn : Line → ℕ → Bool → Line
 with_turn line number false = record line { tickets = slice_set line.tickets number None }
 with_turn line number true = if has_turn line number then line else with_last line number
+
+-- in a line for so many numbers the first of them, as many as the count says, took a turn one after the other
+unfoldable pub lined_up : ℕ → ℕ → Line
+lined_up most zero = empty_line most
+lined_up most (suc count) = with_last (lined_up most count) count

@@ -1,9 +1,9 @@
 //! What is to be done next, of all connections.
 
 ghost use Rattle.std.specs.Prelude.{◌≡◌, ◌<◌, ℕ, length, true, false, IfOk, IfSome, Some, None, slice_get};
-ghost use Rattle.xns_agenda.specs.Agenda.{GetsNumber, GivesWay, HasNobody, HasNoNumber, IsFor, IsWake, asked_at, noted, released};
+ghost use Rattle.xns_agenda.specs.Agenda.{GetsNumber, GivesWay, HasNoNumber, IsFor, IsWake, asked_at, new_agenda, noted, released};
 ghost use Rattle.xns_agenda.specs.Times.{HasEarliest, HasNoneBy, IsFirstBy};
-ghost use Rattle.xns_agenda.specs.Turns.{HasNoTurn, IsFirst, has_turn, with_turn};
+ghost use Rattle.xns_agenda.specs.Turns.{HasNoTurn, IsFirst, has_turn, lined_up, with_turn};
 
 use crate::facts::Facts;
 use crate::places::Places;
@@ -57,10 +57,10 @@ impl Model for Agenda {
     }) (length a.dues) };
 }
 
-/// The numbers below this one, each free.
+/// The numbers below this one, each free, the lowest first.
+#[tactic(auto, using(crate::proofs::Free::lined_none, crate::proofs::Free::lined_more, crate::proofs::Free::lined_size))]
 fn all_free(alloc: Global, most: usize) -> Result<Turns, AllocError>
-    ensures sized { IfOk result (λ t. length t.tickets ≡ most) }
-    ensures free { IfOk result (λ t. (k : ℕ) → k < most → has_turn t k ≡ true) }
+    ensures { IfOk result (λ t. t ≡ lined_up most most) }
 {
     let mut free = Turns::new(alloc, most)?;
     for number in 0..most {
@@ -138,10 +138,9 @@ fn wake(packets: &Turns, events: &Turns, dues: &Times, short: Option<u64>) -> Op
 }
 
 impl Agenda {
-    /// No connections, with room for so many. The only error is want of memory.
+    /// No connections, with room for so many. The lowest number is given first. The only error is want of memory.
     pub fn new(alloc: Global, most: usize) -> Result<Agenda, AllocError>
-        ensures room { IfOk result (λ a. IsFor a most) }
-        ensures nobody { IfOk result (λ a. (k : ℕ) → k < most → HasNobody a k) }
+        ensures { IfOk result (λ a. a ≡ new_agenda most) }
     {
         let free = all_free(alloc, most)?;
         Ok(Agenda {

@@ -2,6 +2,7 @@
 
 ghost use Rattle.std.specs.Prelude.{◌≡◌, ◌≤◌, ◌<◌, ◌+◌, ◌-◌, ◌*◌, ◌/◌, ℕ, Bool, Option, true};
 ghost use Rattle.std.specs.Option.{is_some};
+ghost use Rattle.xns_agenda.specs.Agenda.{HasNobody, IsFor, new_agenda};
 ghost use Rattle.xns_agenda.specs.Clock.{by_told, day, time_at, told_at};
 ghost use Rattle.xns_agenda.specs.Measuring.{Ambiguous, borne, first_smoothed, first_wait, is_vain, learnt, mends, most_ambiguous, most_borne, moved_on, next_length, smoothed_on, soonest, waits_time};
 ghost use Rattle.xns_agenda.specs.declared.measure.Measure.{Measure};
@@ -119,4 +120,10 @@ pub fn no_peer_is_given_up_early()
     ensures asked { (w v : Waiting) (span n now : ℕ) → w.misses ≡ 0 → Asked span w n v → act_at v now ≡ GiveUp → w.pace.tries ≤ n }
     ensures idle { (w v : Waiting) (span n now : ℕ) → w.misses ≡ 0 → Asked span w n v → act_at v now ≡ GiveUp → n < most_borne
         → w.pace.longest ≤ span → later w.heard_at w.pace.patience ≤ now }
+{}
+
+/// A new agenda is for as many numbers as it was made for (`room`). Of none of them anything is to be done, and each is free (`nobody`).
+pub fn a_new_agenda_has_nobody()
+    ensures room { (most : ℕ) → IsFor (new_agenda most) most }
+    ensures nobody { (most k : ℕ) → k < most → HasNobody (new_agenda most) k }
 {}

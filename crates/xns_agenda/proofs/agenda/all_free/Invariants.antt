@@ -1,5 +1,6 @@
-use Rattle.xns_agenda.proofs.Free.{AllFree}
+use Rattle.std.proofs.Common.{◌≡◌}
+use Rattle.xns_agenda.specs.Turns.{lined_up}
 use Rattle.xns_agenda.proofs.agenda.all_free.Given as goal
 
 abbrev pub invariant-loop-number : goal.invariant-loop-number
-invariant-loop-number l = AllFree l.free l.number l.most
+invariant-loop-number l = l.free ≡ lined_up l.most l.number
