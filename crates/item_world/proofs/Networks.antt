@@ -3,17 +3,16 @@ use Rattle.std.proofs.Common.{◌≡◌, ℕ, zero, suc, ◌+◌, ◌<◌, ◌�
 use Rattle.std.specs.Option.{option_to_list}
 use Rattle.xns_spp.specs.Held.{Held, StandsFor}
 use Rattle.xns_spp.specs.Receiving.{receive_answer, after_receive}
-use Rattle.item_world.specs.Later.{Lands}
 use Rattle.std.proofs.lemmas.List.{take-append-le}
 use Rattle.std.proofs.lemmas.List.Elements.{All-set, All-more, All-head, All-tail, All-weaker}
 use Rattle.std.proofs.lemmas.Option.{get_or_from_slice_get, slice_get_within}
 use Rattle.std.specs.Prelude.{All, slice_get, slice_set, if◌then◌else◌}
 use Rattle.xns_spp.specs.State.{State}
 use Rattle.item_world.proofs.Later.{settled_later, moved_later, marked_later}
-use Rattle.item_world.proofs.Sides.{each_end, same_end, same_marked}
+use Rattle.item_world.proofs.Sides.{each_end, same_end, same_marked, comes_as}
 use Rattle.item_world.specs.Network.{count_of, with_count, moment_of, is_settled, AreRested, unsettled, IsNetwork, IsEnd}
 use Rattle.item_world.specs.Side.{other}
-use Rattle.item_world.specs.World.{World, end_of, moment, emitted, with_packets, moved, marked}
+use Rattle.item_world.specs.World.{World, end_of, moment, emitted, with_packets, moved, marked, receives}
 use Rattle.item_world.specs.declared.counts.Counts.{Counts}
 use Rattle.item_world.specs.declared.emitted.Emitted.{Emitted}
 use Rattle.item_world.specs.declared.moment.Moment.{Moment}
@@ -194,11 +193,11 @@ pub end_sends : (w : World) (side : Side) (t : State) (bs cs : List (List ℕ)) 
     → ((v : World) (s : State) → IsNetwork n v → length s.taken ≡ length (end_of v side).taken → IsNetwork m (moved v side s cs)) → IsEnd e m (moved w side t bs) side
 end_sends w side t bs cs e n m same stands is net emits = end_moved w side t bs cs e m stands is (emits w t net (ap length same))
 
--- a packet came to an end, and the network has it
-pub end_reached_by : (w v : World) (k : ℕ) (side : Side) (l : Lands w k side v) (e : Held) (n : Network) (reply : Option (List ℕ)) → StandsFor e (after_receive (end_of w side) l.packet.bytes) → reply ≡ (receive_answer (end_of w side) l.packet.bytes).reply
-    → IsNetwork n (moved (marked w k l.packet) side (after_receive (end_of w side) l.packet.bytes) (option_to_list reply)) → IsEnd e n v side
-end_reached_by w v k side l e n reply stands is net =
+-- packet k, which is x, came to an end, and the network has it
+pub end_reached_by : (w : World) (k : ℕ) (side : Side) (x : Emitted) (e : Held) (n : Network) (reply : Option (List ℕ)) → StandsFor e (after_receive (end_of w side) x.bytes) → reply ≡ (receive_answer (end_of w side) x.bytes).reply
+    → IsNetwork n (moved (marked w k x) side (after_receive (end_of w side) x.bytes) (option_to_list reply)) → IsEnd e n (receives (marked w k x) side x.bytes) side
+end_reached_by w k side x e n reply stands is net =
     let s : State = end_of w side in
-    let b : List ℕ = l.packet.bytes in
-    subst (λ (u : World). IsEnd e n u side) l.world
-    (end_moved (marked w k l.packet) side (after_receive s b) (option_to_list (receive_answer s b).reply) (option_to_list reply) e n stands (ap option_to_list is) net)
+    let b : List ℕ = x.bytes in
+    subst (λ (u : World). IsEnd e n u side) (comes_as w k side x)
+    (end_moved (marked w k x) side (after_receive s b) (option_to_list (receive_answer s b).reply) (option_to_list reply) e n stands (ap option_to_list is) net)

@@ -73,6 +73,11 @@ landed_by w k l (Some x) is e =
 pub has_landed : (w : World) (k : ℕ) (l : Side × World) → landing w k ≡ Some l → Landed w k l
 has_landed w k l e = landed_by w k l (slice_get w.bag k) refl e
 
+-- the end at this side answers packet k, which is x
+pub comes_as : (w : World) (k : ℕ) (side : Side) (x : Emitted)
+    → moved (marked w k x) side (after_receive (end_of w side) x.bytes) (option_to_list (receive_answer (end_of w side) x.bytes).reply) ≡ receives (marked w k x) side x.bytes
+comes_as w k side x = ap (λ (s : State). moved (marked w k x) side (after_receive s x.bytes) (option_to_list (receive_answer s x.bytes).reply)) (sym (same_marked w k x side))
+
 pub lands_as : (w : World) (k : ℕ) (side : Side) (v : World) → landing w k ≡ Some (side, v) → Lands w k side v
 lands_as w k side v e =
     let i = has_landed w k (side, v) e in
@@ -81,7 +86,7 @@ lands_as w k side v e =
     record {
       packet = x;
       is = i.is;
-      world = ap (λ (s : State). moved marks side (after_receive s x.bytes) (option_to_list (receive_answer s x.bytes).reply)) (sym (same_marked w k x side))
+      world = comes_as w k side x
           ∙ (ap (λ (l : Side × World). receives marks l.0 x.bytes) (sym i.leads) ∙ ap (λ (l : Side × World). l.1) i.leads);
     }
 

@@ -12,7 +12,7 @@ ghost use Rattle.item_world.specs.declared.emitted.Emitted.{Emitted};
 ghost use Rattle.item_world.specs.EndLaws.{EndLaws};
 ghost use Rattle.item_world.specs.Landing.{landing};
 ghost use Rattle.item_world.specs.Network.{IsEnd};
-ghost use Rattle.item_world.specs.World.{World, flushes, ticks};
+ghost use Rattle.item_world.specs.World.{World, flushes, ticks, marked, receives};
 
 use crate::network::Network;
 use crate::side::Side;
@@ -28,6 +28,7 @@ pub fn flush_end(
 ) -> Result<(), AllocError>
     ensures stands { OnOk result (EndLaws → (w : World) → IsEnd endpoint.old network.old w side
         → IsEnd endpoint.new network.new (flushes w side) side) }
+    ensures endpoint { OnOk result ((s : State) → StandsFor endpoint.old s → StandsFor endpoint.new (after_flush s)) }
     ensures unchanged { OnErr result (network.new ≡ network.old) }
     ensures refused { OnErr result ((s : State) → StandsFor endpoint.old s
         → StandsFor endpoint.new s ⊎ StandsFor endpoint.new (after_flush s)) }
@@ -46,6 +47,7 @@ pub fn tick_end(
 ) -> Result<(), AllocError>
     ensures stands { OnOk result (EndLaws → (w : World) → IsEnd endpoint.old network.old w side
         → IsEnd endpoint.new network.new (ticks w side) side) }
+    ensures endpoint { OnOk result ((s : State) → StandsFor endpoint.old s → StandsFor endpoint.new (after_tick s)) }
     ensures unchanged { OnErr result (network.new ≡ network.old) }
     ensures refused { OnErr result ((s : State) → StandsFor endpoint.old s
         → StandsFor endpoint.new s ⊎ StandsFor endpoint.new (after_tick s)) }
@@ -66,6 +68,11 @@ pub fn land(
     requires { number < length network.old.packets }
     ensures stands { OnOk result (EndLaws → (w v : World) → IsEnd endpoint.old network.old w side → landing w number ≡ Some (side, v)
         → IsEnd endpoint.new network.new v side) }
+    // Wherever the packet lands, and whether it lives or not.
+    ensures endpoint { OnOk result ((s : State) (x : Emitted) → StandsFor endpoint.old s → slice_get network.old.packets number ≡ Some x →
+        StandsFor endpoint.new (after_receive s x.bytes)) }
+    ensures network { OnOk result (EndLaws → (w : World) (x : Emitted) → IsEnd endpoint.old network.old w side →
+        slice_get w.bag number ≡ Some x → IsEnd endpoint.new network.new (receives (marked w number x) side x.bytes) side) }
     ensures unchanged { OnErr result (network.new ≡ network.old) }
     ensures refused { OnErr result ((s : State) (x : Emitted) → StandsFor endpoint.old s → slice_get network.old.packets number ≡ Some x →
         StandsFor endpoint.new s ⊎ StandsFor endpoint.new (after_receive s x.bytes)) }
