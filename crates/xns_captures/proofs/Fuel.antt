@@ -4,7 +4,7 @@ use Rattle.std.proofs.Math.Nat.{le-max_left}
 use Rattle.std.proofs.lemmas.Bool.{cond_both, ltb-false, or_parts}
 use Rattle.xns_captures.specs.Places.{long_at}
 use Rattle.xns_captures.specs.Captures.{More, behind_head, behind_part, behind_size, behind_whole, contents, contents_in, empty_frame, end_of, ends_with, frame_in, with_frame}
-use Rattle.xns_captures.specs.Parts.{Holds, Size, head_count, part_of, size_of, block_size, block_size_in, size_in_order, classic_size, is_read, long_size, most_passed_bytes, section_order, classic_order, section_type, most_block_bytes, most_frame_bytes}
+use Rattle.xns_captures.specs.Parts.{Holds, Size, head_count, part_of, size_of, block_size, block_size_in, size_in_order, classic_size, is_read, long_size, most_passed_bytes, rest_size, section_order, classic_order, section_type, most_block_bytes, most_frame_bytes}
 use Rattle.xns_captures.specs.declared.byte_order.ByteOrder.{ByteOrder}
 use Rattle.xns_captures.specs.declared.byte_order.ByteOrder.TheVariants.{Big}
 use Rattle.xns_captures.specs.declared.fault.CaptureFault.TheVariants as fault
@@ -14,25 +14,25 @@ use Rattle.xns_captures.specs.declared.interface.Interface.{Interface}
 use Rattle.xns_captures.specs.declared.part.Part.{Part}
 use Rattle.xns_captures.specs.declared.part.Part.TheVariants as part
 
--- ---- each part has a byte
+-- ---- each part has a byte, and at most so many
 
--- a size is at least so many bytes
+-- a size is at least so many bytes, and no more than a part has at most
 abbrev pub HasBytes : ℕ → Size → Type 0
-HasBytes least (Ok size) = least ≤ size
+HasBytes least (Ok size) = (least ≤ size) × (size ≤ most_block_bytes)
 HasBytes least (Err fault) = Unit {0}
 
 long_has_bytes : (kind : ℕ) → HasBytes 12 (long_size kind)
-long_has_bytes kind = cond_both (is_read kind) (Err fault.TooLong) (Ok 12) (HasBytes 12) (λ _. tt) (λ _. lit≤ tt)
+long_has_bytes kind = cond_both (is_read kind) (Err fault.TooLong) (Ok 12) (HasBytes 12) (λ _. tt) (λ _. (lit≤ tt, lit≤ tt))
 
-sized : (kind total : ℕ) (t u : Bool) → HasBytes 12 (cond (nat_lt total 12 || t) (Err fault.Lengths) (cond u (long_size kind) (Ok total)))
-sized kind total t u =
-    cond_both (nat_lt total 12 || t) (Err fault.Lengths) (cond u (long_size kind) (Ok total)) (HasBytes 12) (λ e. tt)
-    (λ e. cond_both u (long_size kind) (Ok total) (HasBytes 12) (λ _. long_has_bytes kind)
-    (λ _. let h = or_parts (nat_lt total 12) t e in omega (arith, ltb-false total 12 h.0)))
+sized : (kind total : ℕ) (t : Bool)
+    → HasBytes 12 (cond (nat_lt total 12 || t) (Err fault.Lengths) (cond (nat_lt most_block_bytes total) (long_size kind) (Ok total)))
+sized kind total t =
+    cond_both (nat_lt total 12 || t) (Err fault.Lengths) (cond (nat_lt most_block_bytes total) (long_size kind) (Ok total)) (HasBytes 12) (λ e. tt)
+    (λ e. cond_both (nat_lt most_block_bytes total) (long_size kind) (Ok total) (HasBytes 12) (λ _. long_has_bytes kind)
+    (λ few. let h = or_parts (nat_lt total 12) t e in (ltb-false total 12 h.0, ltb-false most_block_bytes total few)))
 
 block_has_bytes : (order : ByteOrder) (head : List ℕ) → HasBytes 12 (block_size_in order head)
-block_has_bytes order head =
-    sized (long_at order head 0) (long_at order head 4) (not (long_at order head 4 % 4 == 0)) (nat_lt most_block_bytes (long_at order head 4))
+block_has_bytes order head = sized (long_at order head 0) (long_at order head 4) (not (long_at order head 4 % 4 == 0))
 
 section_has_bytes : (order : Option ByteOrder) (head : List ℕ) → HasBytes 12 (size_in_order order head)
 section_has_bytes None head = tt
@@ -45,7 +45,10 @@ any_block_has_bytes order head =
 
 classic_has_bytes : (order : Option ByteOrder) → HasBytes 12 (classic_size order)
 classic_has_bytes None = tt
-classic_has_bytes (Some order) = lit≤ tt
+classic_has_bytes (Some order) = (lit≤ tt, lit≤ tt)
+
+rest_has_bytes : (left : ℕ) → HasBytes 4 (rest_size left)
+rest_has_bytes left = (le-max_left 4 (min left most_passed_bytes), omega arith)
 
 -- a part has the bytes of its head
 pub part_has_bytes : (f : Format) (head : List ℕ) → HasBytes (head_count f) (size_of f head)
@@ -55,9 +58,9 @@ part_has_bytes Unread head =
     (λ _. any_block_has_bytes Big head) (λ _. classic_has_bytes (classic_order head))
 part_has_bytes (Records order link is_nano) head =
     cond_both (nat_lt most_frame_bytes (long_at order head 8)) (Err fault.TooLong) (Ok (16 + long_at order head 8)) (HasBytes 16)
-    (λ _. tt) (λ _. omega arith)
+    (λ _. tt) (λ e. (omega arith, omega (arith, ltb-false most_frame_bytes (long_at order head 8) e)))
 part_has_bytes (Blocks order) head = any_block_has_bytes order head
-part_has_bytes (Passing order left total) head = le-max_left 4 (min left most_passed_bytes)
+part_has_bytes (Passing order left total) head = rest_has_bytes left
 
 pub head_has_bytes : (f : Format) → 1 ≤ head_count f
 head_has_bytes Unread = lit≤ tt
@@ -85,7 +88,7 @@ module _ (more more' : More) (n : ℕ) (same : (f : Format) (is : List Interface
   same_size f is bytes (Err fault) some h = refl
   same_size f is bytes (Ok size) some h =
       ap (λ rest. cond (nat_lt (length bytes) size) (ends_with (Some fault.Cut)) rest)
-      (same_whole f is (take size bytes) (drop size bytes) (part_of f is (take size bytes)) (omega (arith, length-drop size bytes, some, head_has_bytes f)))
+      (same_whole f is (take size bytes) (drop size bytes) (part_of f is (take size bytes)) (omega (arith, length-drop size bytes, some.0, head_has_bytes f)))
 
   pub same_head : (f : Format) (is : List Interface) (bytes : List ℕ) → HasBytes (head_count f) (size_of f (take (head_count f) bytes)) → length bytes ≤ n + 1
       → behind_head more f is bytes ≡ behind_head more' f is bytes

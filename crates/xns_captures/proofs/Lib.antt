@@ -1,6 +1,7 @@
 pub mod Consumed
 pub mod Frames
 pub mod Fuel
+pub mod Interfaces
 pub mod Pages
 pub mod Resolutions
 pub mod Steps

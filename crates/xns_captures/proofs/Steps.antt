@@ -1,13 +1,14 @@
 -- What a capture holds, by its next part.
-use Rattle.std.proofs.Common.{◌≡◌, refl, ap, subst, ◌∙◌, arith, ℕ, ◌<◌, ◌≤◌, nat_lt, List, [], ◌∷◌, ◌++◌, length, take, drop, length-append, Ok, Err, Some}
+use Rattle.std.proofs.Common.{◌≡◌, refl, ap, subst, ◌∙◌, arith, lit≤, ℕ, ◌<◌, ◌≤◌, nat_lt, List, [], ◌∷◌, ◌++◌, length, take, drop, length-append, Ok, Err, Some}
 use Rattle.std.proofs.lemmas.List.{take-append-le, take_at, drop_at}
 use Rattle.std.proofs.lemmas.Bool.{cond-true, cond-false, lt-ltb, le-ltb}
 use Rattle.xns_captures.specs.Captures.{behind_size, behind_whole, contents, ends_with}
 use Rattle.xns_captures.specs.Reading.{end_in}
-use Rattle.xns_captures.specs.Parts.{Holds, head_count, part_of, size_of}
+use Rattle.xns_captures.specs.Parts.{Holds, head_count, most_block_bytes, part_of, size_of}
 use Rattle.xns_captures.specs.declared.fault.CaptureFault.{CaptureFault}
 use Rattle.xns_captures.specs.declared.fault.CaptureFault.TheVariants as fault
 use Rattle.xns_captures.specs.declared.format.Format.{Format}
+use Rattle.xns_captures.specs.declared.format.Format.TheVariants.{Unread, Records, Blocks, Passing}
 use Rattle.xns_captures.specs.declared.interface.Interface.{Interface}
 use Rattle.xns_captures.proofs.Fuel.{HasBytes, contents-head, contents-none, head_has_bytes, part_has_bytes}
 
@@ -74,5 +75,12 @@ pub at_part_as : (f : Format) (is : List Interface) (bytes rest : List ℕ) (p :
     → contents f is (bytes ++ rest) ≡ behind_whole contents f is bytes rest p
 at_part_as f is bytes rest p h e is_part = at_part f is bytes rest h e ∙ ap (behind_whole contents f is bytes rest) is_part
 
-pub size_fits : (f : Format) (head : List ℕ) (size : ℕ) → size_of f head ≡ Ok size → head_count f ≤ size
+pub size_fits : (f : Format) (head : List ℕ) (size : ℕ) → size_of f head ≡ Ok size → (head_count f ≤ size) × (size ≤ most_block_bytes)
 size_fits f head size e = subst (HasBytes (head_count f)) e (part_has_bytes f head)
+
+-- the head of a part has fewer bytes than the longest part
+pub head_few : (f : Format) → head_count f < most_block_bytes
+head_few Unread = lit≤ tt
+head_few (Records order link is_nano) = lit≤ tt
+head_few (Blocks order) = lit≤ tt
+head_few (Passing order left total) = lit≤ tt

@@ -5,3 +5,4 @@ pub mod Places
 pub mod Printing
 pub mod Reading
 pub mod Times
+pub mod Windows

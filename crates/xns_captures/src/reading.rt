@@ -2,7 +2,7 @@
 ghost use Rattle.std.specs.Prelude.{◌≡◌, ◌≤◌, ◌<◌, ◌+◌, ◌++◌, ◌∷◌, ℕ, List, [], Option, Ok, Some, None, IfErr, IfOk, IfSome, OnOk, length, take, drop};
 ghost use Rattle.std.specs.Option.{option_or};
 ghost use Rattle.xns_captures.specs.Captures.{FrameBytes, contents, ends_with, packets_in};
-ghost use Rattle.xns_captures.specs.Parts.{head_count, part_of, size_of};
+ghost use Rattle.xns_captures.specs.Parts.{head_count, most_block_bytes, most_interfaces, part_of, size_of};
 
 use crate::fault::CaptureFault;
 use crate::file_fault::FileFault;
@@ -21,7 +21,7 @@ use std::alloc::Global;
 use std::io::Write;
 use xns_lines::RunFault;
 
-/// What is known of a capture between two of its parts.
+/// What is known of a capture between two of its parts. It has no more interfaces than a section may describe.
 #[derive(Drop)]
 pub(crate) struct Reading {
     /// What its parts are.
@@ -32,6 +32,7 @@ pub(crate) struct Reading {
     count: usize,
     /// The first time that one of them has.
     first: Option<FrameTime>,
+    ghost few: { length interfaces.items ≤ most_interfaces },
 }
 
 /// The first time, where there is one, and else the other. It is copied field by field, which is faster than a copy of all its bytes.
@@ -69,6 +70,7 @@ impl Reading {
         ensures some { IfOk result (λ found. IfSome found (IsWholePart self.now.format bytes.now)) }
         ensures none { result ≡ Ok None
             → contents self.now.format self.now.interfaces.items bytes.now ≡ ends_with (end_in self.now.format bytes.now) }
+        ensures few { result ≡ Ok None → length bytes.now < most_block_bytes }
         ensures err { IfErr result (λ fault. (rest : List ℕ)
             → contents self.now.format self.now.interfaces.items (bytes.now ++ rest) ≡ ends_with (Some fault)) }
     {
@@ -99,7 +101,8 @@ impl Reading {
         }
     }
 
-    /// Takes all parts that are there whole, and says how many bytes they have.
+    /// Takes all parts that are there whole, and says how many bytes they have. What it leaves is no whole part, and so has
+    /// fewer bytes than the longest.
     pub(crate) fn take_parts<T: PacketTaker, W: Write>(
         &mut self,
         bytes: &[u8],
@@ -112,6 +115,7 @@ impl Reading {
             → HasRead self.new read (drop taken bytes.now) (T.stands taker.new before (W.contents writer.new))) }
         ensures rest { IfOk result (λ taken. contents self.new.format self.new.interfaces.items (drop taken bytes.now)
             ≡ ends_with (end_in self.new.format (drop taken bytes.now))) }
+        ensures few { IfOk result (λ taken. length (drop taken bytes.now) < most_block_bytes) }
         ensures err { IfErr result (λ fault. (read : List ℕ) (before : Option (List ℕ))
             → HasRead self.old read bytes.now (T.stands taker.old before (W.contents writer.old))
             → HasStopped fault read

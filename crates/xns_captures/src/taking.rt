@@ -15,8 +15,8 @@ use xns_lines::RunFault;
 /// Reads a capture to its end, and hands the packets in its frames to the taker, in order, each with the number and the
 /// time of its frame.
 ///
-/// The file is read in pieces of at most 65,536 bytes. The memory for them grows only where a part of the capture does not
-/// fit in it.
+/// The file is read in pieces of at most 65,536 bytes. The room for them grows only where a part of the capture does not
+/// fit in it, and is never more than that of the longest part that is read and one piece.
 ///
 /// # Errors
 /// `Capture` where the capture can't be read on: all packets before that are handed on; `TooManyFrames` where it has over

@@ -1,4 +1,4 @@
-use Rattle.std.proofs.Common.{◌≡◌, ◌∙◌, ◌⊎◌, inl, inr, ap, sym, subst, append-nil, ◌++◌, drop, List, ℕ, [], None}
+use Rattle.std.proofs.Common.{◌≡◌, ◌∙◌, ◌⊎◌, inl, inr, ap, sym, subst, lit≤, append-nil, ◌++◌, drop, List, ℕ, [], None}
 use Rattle.std.proofs.lemmas.List.{nil_from_length}
 use Rattle.std.proofs.lemmas.Result.{err_from_is_err_and}
 use Rattle.xns_captures.specs.Captures.{ends_with, packets_in}
@@ -21,6 +21,7 @@ file-init g c = (
       (sym c.new-window.ensures)
       (begun c.new-reading.result _ c.new-reading.ensures.format c.new-reading.ensures.interfaces c.new-reading.ensures.count c.new-reading.ensures.first said)),
   rw c.new-window.ensures (contents-none c.new-reading.result.format c.new-reading.result.interfaces.items),
+  rw c.new-window.ensures (lit≤ tt),
 )
 
 -- a read that fails, or one for which there is no memory, leaves the taker as it is
@@ -39,16 +40,16 @@ returns-in-Err-clause-err g c =
     (λ before. StandsAfter (Run c.in-Err.fault) (g.T.PacketTaker.stands c.file.taker before (g.W.Write.contents c.file.writer))
     (g.T.PacketTaker.fails c.file.taker before (g.W.Write.contents c.file.writer)))
     (consumes_kept _ _ _ so_far.0 so_far.1 c.in-Err.ensures.err.1)
-    (λ before said. unread c.in-Err.fault c.file.reading so_far.0 c.file.window _ _ c.in-Err.ensures.err.0 (so_far.2 before said))
+    (λ before said. unread c.in-Err.fault c.file.reading so_far.0 c.file.window.bytes _ _ c.in-Err.ensures.err.0 (so_far.2 before said))
 
 pub returns-then-count-eq0-clause-ok : goal.returns-then-count-eq0-clause-ok
 returns-then-count-eq0-clause-ok g c =
     let so_far = c.file.invariant in
     let more = c.in-Ok.ensures.ok in
     let none = nil_from_length more.0 (sym more.3 ∙ c.if-count-eq0.true) in
-    let kept = c.as_slice.ensures ∙ more.1 ∙ ap (λ piece. c.file.window ++ piece) none ∙ append-nil c.file.window in
+    let kept = c.as_slice.ensures ∙ more.1 ∙ ap (λ piece. c.file.window.bytes ++ piece) none ∙ append-nil c.file.window.bytes in
     let whole = rw (kept, c.in_default.is) at c.end_fault.ensures in
-    ended (g.R.Read.remaining c.args.reader.now) (g.R.Read.remaining c.read_piece.new.reader) c.file.reading so_far.0 c.file.window
+    ended (g.R.Read.remaining c.args.reader.now) (g.R.Read.remaining c.read_piece.new.reader) c.file.reading so_far.0 c.file.window.bytes
     (λ before. g.T.PacketTaker.stands c.args.taker.now before (g.W.Write.contents c.args.writer.now))
     (λ before. g.T.PacketTaker.stands c.file.taker before (g.W.Write.contents c.file.writer))
     (consumes_none _ _ _ so_far.0 _ none so_far.1 more.2)
@@ -61,9 +62,9 @@ returns-in-Some-clause-err g c =
     let so_far = c.file.invariant in
     let more = c.in-Ok.ensures.ok in
     let none = nil_from_length more.0 (sym more.3 ∙ c.if-count-eq0.true) in
-    let kept = c.as_slice.ensures ∙ more.1 ∙ ap (λ piece. c.file.window ++ piece) none ∙ append-nil c.file.window in
+    let kept = c.as_slice.ensures ∙ more.1 ∙ ap (λ piece. c.file.window.bytes ++ piece) none ∙ append-nil c.file.window.bytes in
     let cut = rw (kept, c.in-Some.is) at c.end_fault.ensures in
-    ended_short (g.R.Read.remaining c.args.reader.now) (g.R.Read.remaining c.read_piece.new.reader) c.file.reading so_far.0 c.file.window c.in-Some.fault
+    ended_short (g.R.Read.remaining c.args.reader.now) (g.R.Read.remaining c.read_piece.new.reader) c.file.reading so_far.0 c.file.window.bytes c.in-Some.fault
     (λ before. g.T.PacketTaker.stands c.args.taker.now before (g.W.Write.contents c.args.writer.now))
     (λ before. g.T.PacketTaker.stands c.file.taker before (g.W.Write.contents c.file.writer))
     (consumes_none _ _ _ so_far.0 _ none so_far.1 more.2)
@@ -84,9 +85,9 @@ returns-in_err-taken-clause-err g c =
     (consumes_trans _ _ _ so_far.0 _ so_far.1 more.2)
     (λ before said.
     c.in_err-taken.ensures.err (so_far.0 ++ more.0) before
-    (anew c.file.reading (so_far.0 ++ more.0) (c.file.window ++ more.0) _ _ _
+    (anew c.file.reading (so_far.0 ++ more.0) (c.file.window.bytes ++ more.0) _ _ _
     (c.as_slice-in-file.ensures ∙ more.1)
-    (grown c.file.reading so_far.0 c.file.window more.0 _ (so_far.2 before said)) (λ said'. said')))
+    (grown c.file.reading so_far.0 c.file.window.bytes more.0 _ (so_far.2 before said)) (λ said'. said')))
     )
 
 pub returns-in-Err-pause-clause-err : goal.returns-in-Err-pause-clause-err
@@ -101,9 +102,9 @@ returns-in-Err-pause-clause-err g c =
     (consumes_trans _ _ _ so_far.0 _ so_far.1 more.2)
     (λ before said.
     let h = c.in_ok-taken.ensures.ok (so_far.0 ++ more.0) before
-    (anew c.file.reading (so_far.0 ++ more.0) (c.file.window ++ more.0) _ _ _
+    (anew c.file.reading (so_far.0 ++ more.0) (c.file.window.bytes ++ more.0) _ _ _
     (c.as_slice-in-file.ensures ∙ more.1)
-    (grown c.file.reading so_far.0 c.file.window more.0 _ (so_far.2 before said)) (λ said'. said')) in
+    (grown c.file.reading so_far.0 c.file.window.bytes more.0 _ (so_far.2 before said)) (λ said'. said')) in
     stops_in_run c.take_parts.new.self c.in-Err-pause.fault _ _ _ _ (subst IsOfNoLine (sym c.in-Err-pause.ensures.err.0) tt) h
     (paused c.in-Err-pause.fault _ _ _ c.in-Err-pause.ensures.err.0 (c.in-Err-pause.ensures.err.1 before (packets_in None 1 h.frames) h.taken)))
 
@@ -111,17 +112,18 @@ pub file-preserved : goal.file-preserved
 file-preserved g c =
     let so_far = c.file.invariant in
     let more = c.in-Ok.ensures.ok in
-    let kept : c.drop_front.new.self ≡ drop c.in_ok-taken.taken c.as_slice-in-file.result.now =
-    c.drop_front.ensures ∙ ap (drop c.in_ok-taken.taken) (sym c.as_slice-in-file.ensures) in (
+    let kept : c.drop_front.new.self.bytes ≡ drop c.in_ok-taken.taken c.as_slice-in-file.result.now =
+    c.drop_front.ensures.bytes ∙ ap (drop c.in_ok-taken.taken) (sym c.as_slice-in-file.ensures) in (
       so_far.0 ++ more.0,
       consumes_trans _ _ _ so_far.0 _ so_far.1 more.2,
       (λ before said.
           let h = c.in_ok-taken.ensures.ok (so_far.0 ++ more.0) before
-          (anew c.file.reading (so_far.0 ++ more.0) (c.file.window ++ more.0) _ _ _
+          (anew c.file.reading (so_far.0 ++ more.0) (c.file.window.bytes ++ more.0) _ _ _
           (c.as_slice-in-file.ensures ∙ more.1)
-          (grown c.file.reading so_far.0 c.file.window more.0 _ (so_far.2 before said)) (λ said'. said')) in
+          (grown c.file.reading so_far.0 c.file.window.bytes more.0 _ (so_far.2 before said)) (λ said'. said')) in
           anew c.take_parts.new.self (so_far.0 ++ more.0) _ _ _ _ kept h (c.in-Ok-pause.ensures.ok before (packets_in None 1 h.frames))),
       rw kept c.in_ok-taken.ensures.rest,
+      rw kept c.in_ok-taken.ensures.few,
     )
 
 pub returns-clause-err : goal.returns-clause-err
@@ -131,4 +133,4 @@ returns-clause-err g c =
     (λ before. g.T.PacketTaker.stands c.args.taker.now before (g.W.Write.contents c.args.writer.now))
     (λ before. g.T.PacketTaker.stands c.file.taker before (g.W.Write.contents c.file.writer))
     so_far.1
-    (λ before said. let h = so_far.2 before said in stops_in_run c.file.reading run.Read so_far.0 c.file.window _ _ tt h h.taken)
+    (λ before said. let h = so_far.2 before said in stops_in_run c.file.reading run.Read so_far.0 c.file.window.bytes _ _ tt h h.taken)

@@ -1,5 +1,6 @@
 use Rattle.std.proofs.Common.{[], ◌++◌, ap, sym, ◌∙◌, refl, Err}
 use Rattle.xns_captures.specs.Captures.{contents, empty_frame, with_frame}
+use Rattle.xns_captures.proofs.Interfaces.{few_with, has_room}
 use Rattle.xns_captures.proofs.Steps.{at_part_as}
 use Rattle.xns_captures.proofs.Frames.{moves, same_rest, stops_at_frame, stops_at_part, stops_in_run, takes_frame}
 use Rattle.xns_captures.proofs.reading.Reading.take_part.Goals as goal
@@ -49,3 +50,10 @@ returns-in-Err-take_frame-clause-err g c = λ read tail before h.
     (λ rest. contents c.in-Counted.format c.args.self.now.interfaces.items rest)
     (λ rest. at_part_as c.args.self.now.format c.args.self.now.interfaces.items c.args.bytes.now rest _ c.requires.head c.requires.size (sym is_part))
     h (c.in-Err-take_frame.ensures.err h.frames before h.count h.first h.taken)
+
+pub invariant_of-self : goal.invariant_of-self
+invariant_of-self g c =
+    let is_part = rw (c.as_slice.ensures.value, c.in-Interface.is) at c.in-Ok.ensures.value in record {
+      few = few_with c.args.self.now.interfaces.items _ c.in-Interface.interface _
+          (has_room c.args.self.now.format c.args.self.now.interfaces.items c.args.bytes.now c.in-Interface.interface is_part) c.push.ensures.items;
+    }

@@ -14,7 +14,7 @@ returns-clause-ok g c =
     let len : length piece ≡ size = omega (arith, fits, c.read.auto.buf) in
     let some : 0 < length piece = omega (arith, len, c.min-end.ensures, c.len.ensures, c.in-Ok.ensures.room) in
     let whole = with_items_is c.make_room.new.room _ (length_written room piece filled size len fits ∙ c.deref_mut.ensures.len) in
-    let stays = ap (take filled) c.deref_mut.ensures.value ∙ c.in-Ok.ensures.kept ∙ c.self.view_is in (
+    let stays = ap (take filled) c.deref_mut.ensures.value ∙ c.in-Ok.ensures.kept ∙ ap (λ w. w.bytes) c.self.view_is in (
       take count piece,
       ap (take (filled + count)) whole ∙ read_behind room piece _ filled count (omega (arith, fits)) c.in-Ok-read.ensures.bound.0 ∙ ap (λ bytes. bytes ++ take count piece) stays,
       c.in-Ok-read.ensures.bytes.0,
