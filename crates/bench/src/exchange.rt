@@ -64,11 +64,11 @@ struct Tally {
     handed: u64,
     /// Packets with items that went out.
     packets: u64,
-    /// Of those, the ones that came late.
+    /// Packets with items that came late.
     late: u64,
-    /// Of those, the ones that were lost.
+    /// Packets with items that were lost.
     lost: u64,
-    /// Of those, the ones that a tick sent again.
+    /// Packets with items that a tick sent again.
     again: u64,
 }
 
