@@ -13,7 +13,7 @@ const LATE: Scene = Scene {
     ..Scene::CALM
 };
 
-/// All of them.
+/// All scenes of partings.
 pub const ALL: [Scene; 6] = [
     LATE,
     Scene {
