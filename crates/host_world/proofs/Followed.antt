@@ -234,7 +234,7 @@ connect_followed now way socket peer number h j c =
 
 -- ---- a connection that is abandoned
 
--- one is gone, and each other one is as it was
+-- an abandoned connection is gone, and each other one is as it was
 pub abandoned_followed : (number : ℕ) (h j : Host) → Abandons number (Ok tt) h j → (k : ℕ) → k ≢ number
     → IsFollowed (MayTake None) no_more [] false (slice_get h.guests.items k) (slice_get j.guests.items k)
 abandoned_followed number h j a k other =
@@ -283,7 +283,7 @@ gave_same number gave = ap (λ (b : Bool). cond b gave []) (eq-eqb number number
 gave_other : (number k : ℕ) (gave : List (List ℕ)) → k ≢ number → gave_at number gave k ≡ []
 gave_other number k gave other = ap (λ (b : Bool). cond b gave []) (not_equal k number (k == number) refl other)
 
--- one of the connections of the host gave it, or none did
+-- a connection of the host gave the packet, or none did
 Given : (h : Host) (result : Result (Option Outgoing) HostFault) (old new : List (Option Guest)) → Type 0
 Given h result old new = (gave : ℕ → List (List ℕ)) × HasGiven h result gave × ((k : ℕ) → IsFollowed (MayTake None) no_more (gave k) false (slice_get old k) (slice_get new k))
 

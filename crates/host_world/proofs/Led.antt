@@ -153,7 +153,7 @@ kept_first x y xs ys same rest = record { each = each } where
       (y, refl, same ∙ ap (λ (u : Emitted). let v : Emitted = record u { delivered = y.delivered } in v) is)
   each (suc k) z e = rest.each k z e
 
--- one that came is marked as delivered, and kept
+-- a packet that came is marked as delivered, and kept
 pub kept_marked : (bag : List Emitted) (k : ℕ) (x : Emitted) → slice_get bag k ≡ Some x → AreKept bag (slice_set bag k (record x { delivered = true }))
 kept_marked [] k x at = kept_itself []
 kept_marked (b ∷ bag) zero x at =

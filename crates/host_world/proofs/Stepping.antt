@@ -144,7 +144,7 @@ steps now deed c e s side wanted stands step is_side is_wanted same =
 
 -- ---- changes that are no steps of a deed
 
--- one that changed no further
+-- a connection that changed as by a deed, and no further
 pub then_same : (side : Side) (wanted : Bool) (c d e : Connection) → Changes side wanted c d → (s : State) → StandsFor e.conversation.endpoint s
     → e.conversation.side ≡ d.conversation.side → e.conversation.closing.wanted ≡ d.conversation.closing.wanted → e.closed ≡ d.closed → e.told ≡ d.told
     → Changes side wanted c e
@@ -189,7 +189,7 @@ by_parts c e p s side stands is end is_side wanted told stays =
 
 -- ---- what is due
 
--- one that is closed is not given up
+-- a connection that is closed is not given up
 not_given_up : (w : Waiting) (due : Due) (now : ℕ) → is_closed_due due ≡ true → act_by w due now ≡ GiveUp → ⊥
 not_given_up w Never now closed e = absurd (cc)
 not_given_up w (AgainAt t) now closed e = absurd (cc)
