@@ -8,7 +8,7 @@ use Rattle.xns_agenda.specs.declared.replies.Replies.{Replies}
 abbrev pub is_third : Replies → (allocation : ℕ) → Bool
 is_third r allocation = (r.count == 2) && (r.allocation == allocation)
 
--- one that says something else is the first of others; after the third none is counted
+-- a reply that says something else is the first of others; after the third none is counted
 abbrev pub counted : Replies → (allocation : ℕ) → Replies
 counted r allocation =
     if nat_le 3 r.count then r

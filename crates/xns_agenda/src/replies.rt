@@ -11,7 +11,7 @@ pub struct Replies {
 }
 
 impl Replies {
-    /// None came.
+    /// No reply came.
     pub const NONE: Replies = Replies {
         count: 0,
         allocation: 0,

@@ -9,7 +9,7 @@ pub enum Way {
     Lingers(usize, u64),
     /// The connection with this number, which its peer opened and never confirmed, and which is silent since this time.
     Stranger(usize, u64),
-    /// None.
+    /// No connection gives way.
     Nobody,
 }
 
