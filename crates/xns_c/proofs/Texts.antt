@@ -64,7 +64,7 @@ odd_put words bytes [] last n place enough same none put count more is =
 abbrev BytesAt : ℕ → ℕ → List ℕ → Type 0
 BytesAt n k ws = (bytes : List ℕ) × (front_bytes n ws ≡ Ok (bytes, drop k ws)) × (length bytes ≡ n) × (k ≤ length ws)
 
--- either they are, or the words end too soon
+-- either the bytes are all there, or the words end too soon
 abbrev BytesOrCut : ℕ → ℕ → List ℕ → Type 0
 BytesOrCut n k ws = BytesAt n k ws ⊎ ((length ws < k) × (front_bytes n ws ≡ Err (0, Truncated)))
 
