@@ -26,7 +26,7 @@ kept_from n k item (e ∷ rest) ordered le =
     (λ less. (ordered.0, kept_from e.number k item rest ordered.1 (omega (arith, lt_tells e.number k less))))
     (λ more. (le, (le_tells e.number k more, ordered.1))))
 
--- one more is kept
+-- one item more is kept
 pub kept_ordered : (k : ℕ) (item : Carried) (es : List Early) → AreOrdered 0 es → AreOrdered 0 (kept k item es)
 kept_ordered k item es ordered = kept_from 0 k item es ordered (omega arith)
 
@@ -59,7 +59,7 @@ neither : (p q : Bool) → p ≡ false → q ≡ false → (p || q) ≡ false
 neither true q e f = (cc)
 neither false q e f = f
 
--- none has a number below the first one's
+-- no item has a number below the first one's
 none_has : (n m : ℕ) (es : List Early) → AreOrdered n es → m < n → list_any (λ early. early.number == m) es ≡ false
 none_has n m [] ordered lt = refl
 none_has n m (e ∷ rest) ordered lt =
@@ -90,7 +90,7 @@ has_in : (n m : ℕ) (es : List Early) → AreOrdered n es → list_any (λ earl
 has_in n m [] ordered = refl
 has_in n m (e ∷ rest) ordered = has_first m e rest (nat_lt e.number m) ordered.1 refl (has_in e.number m rest ordered.1)
 
--- the first whose number is not below it has it, or none does
+-- the first item whose number is not below this number has it, or none does
 has_at : (m i : ℕ) (es now : List Early) (found : Option Early) → AreOrdered 0 es → es ≡ now → i ≡ below m now → slice_get es i ≡ found
     → is_number m found ≡ list_any (λ early. early.number == m) now
 has_at m i es now found ordered same place at =

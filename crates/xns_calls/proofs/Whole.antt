@@ -147,7 +147,7 @@ read_one items h item t hs is kept s = by_test (λ u. Went items t u hs) (item.s
           kept = kept;
         }
 
--- the first that is kept, and comes next
+-- the first item that is kept comes next
 one_went : (items : List Item) (h : Heading) (e : Early) (rest : List Early) (t : Told) (hs : List Heard) → early_of t ≡ e ∷ rest → e.number ≡ next_of t → AreItems items (e ∷ rest) → Stands items t hs
     → Went items t (read_next h (e.number + 1) e.item.item (with_early rest t)) hs
 one_went items h e rest t hs same first are s =

@@ -67,7 +67,7 @@ fn push(kept: &mut Vec<Ahead>, ahead: Ahead) -> Result<(), AllocError>
 }
 
 impl Aheads {
-    /// None.
+    /// No acknowledgement.
     pub fn new() -> Aheads
         ensures { result ≡ [] }
     {

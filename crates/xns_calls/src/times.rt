@@ -3,7 +3,7 @@
 /// Which times are printed before the lines of a capture, and behind answers how long they took.
 #[derive(Clone, Copy, Debug, PartialEq, Eq)]
 pub enum Times {
-    /// None.
+    /// No times.
     Hidden,
     /// The times of the frames, in seconds since 1970.
     Absolute,
