@@ -30,7 +30,7 @@ pub(crate) struct Reading {
     interfaces: Vec<Interface>,
     /// How many frames came.
     count: usize,
-    /// The first time that one of them has.
+    /// The first time that a frame has.
     first: Option<FrameTime>,
     ghost few: { length interfaces.items ≤ most_interfaces },
 }
