@@ -16,7 +16,7 @@ use Rattle.xns_command.specs.declared.description_fault.DescriptionFault.{Descri
 use Rattle.xns_command.specs.declared.description_fault.DescriptionFault.TheVariants.{Run, Wrong}
 use Rattle.xns_command.specs.Descriptions.{IsDescribed}
 
--- one that is too long has that fault, whatever else it has
+-- a text that is too long has that fault, whatever else it has
 long_refused : (text : List ℕ) (before : List Program) → 262144 < length text → text_meant text before ≡ Err (262144, reasons.Notation notation.TooLong)
 unfolding text_meant lexing_of
 long_refused text before long =
