@@ -27,7 +27,7 @@ use Rattle.xns_connection.specs.declared.conversation.Conversation.{Conversation
 
 -- ---- what is dropped as a packet of another connection
 
--- one whose item is looked at is not
+-- a packet whose item is looked at is not dropped as one of another connection
 looked_at : (old far next kept : Bool) (k : ℕ)
     → is_of_another (reason_of (if old then Refuse Repeat else if far then Refuse (if next then NoRoom else OutOfOrder)
     else if next then Take else if kept then Refuse Repeat else Keep k)) ≡ false

@@ -21,7 +21,7 @@ giving_at {t} {o} {x} g =
     ap (λ (ps : List (List ℕ)). let y : Giving = record { state = x.state; packets = ps; owed = o } in y) g.packets
     ∙ ap (λ (w : Owed). let y : Giving = record { state = x.state; packets = x.packets; owed = w } in y) g.owed
 
--- none goes out again, and then this one goes out for the first time
+-- no packet goes out again, and then this one goes out for the first time
 pub next_at : (r : Result (Option (List ℕ)) AllocError) (t0 t u : Conversation) (o0 o v : Owed)
     → ((s : State) → StandsFor t0.endpoint s → GivesAs (older (giving t0 o0 s)) None t o)
     → IfOk r (λ p. (s : State) → StandsFor t.endpoint s → GivesAs (newer (giving t o s)) p u v)

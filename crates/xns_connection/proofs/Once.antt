@@ -25,7 +25,7 @@ data Steps {X : Type 0} (R : X → X → Type 0) (x : X) : X → Type 0 where
 abbrev IsOne : {X : Type 0} → (X → X → Type 0) → Type 0
 IsOne {X} R = (x y z : X) → R x y → R x z → y ≡ z
 
--- none leads on from it
+-- no step leads on from x
 abbrev Ends : {X : Type 0} → (X → X → Type 0) → X → Type 0
 Ends {X} R x = (y : X) → R x y → ⊥
 

@@ -20,7 +20,7 @@ word_by false false x p owed is = absurd (cc)
 pub word_given : (o : Owed) (s : State) (p : Option (List ℕ)) → o.word ≡ true → p ≡ told_answer s o.asks → p ≡ word_answer o s
 word_given o s p owed is = word_by o.asks o.word (told_answer s o.asks) p owed is
 
--- none is owed, and none is given
+-- no word is owed, and none is given
 pub no_word_given : (o : Owed) (s : State) → o.asks ≡ false → o.word ≡ false → None ≡ word_answer o s
 no_word_given o s silent none = ap (λ (b : Bool). if b || false then told_answer s o.asks else None) (sym silent)
     ∙ ap (λ (b : Bool). if o.asks || b then told_answer s o.asks else None) (sym none)

@@ -185,7 +185,7 @@ reads_closed side c d free deaf none =
     ap (λ (b : Bool). b || ((d.end_sent && is_called side) || (d.reply_sent || d.deaf))) is.going
     ∙ ap (λ (b : Bool). (b && is_called side) || (d.reply_sent || d.deaf)) k.0 ∙ ap (λ (b : Bool). b || d.deaf) k.1 ∙ deaf ∙ is.heard
 
--- one that reads no more does so for good
+-- a side that reads no more does so for good
 never : (mid to : Scene) → EndsSo (deafened mid) to → drains to.side to.closing ≡ false → ⊥
 never mid to f free = deafens (is_stopped mid.side) (mid.closing.end_sent && is_called mid.side) mid.closing.reply_sent (f.free free)
 

@@ -28,7 +28,7 @@ use Rattle.xns_connection.specs.declared.owed.Owed.{Owed}
 use Rattle.xns_connection.specs.declared.why.Why.{Why}
 use Rattle.xns_connection.proofs.Scenes.{deaf_at, scene_at}
 
--- one that was closed stays so
+-- a connection that was closed stays so
 pub then_kept : (now : ℕ) (t : Conversation) (r : Result (Unit {0}) FeedRefusal) (closed : Option Why) (w : Waiting) → is_some closed ≡ true
     → ClosesThen now t r t closed closed w w
 then_kept now t r None w some = absurd (cc)

@@ -43,7 +43,7 @@ pub record HasServed (programs : List Program) (closing : Closing) (h : Story) :
   -- the k-th answer has the number of the k-th call taken; at most the last call waits
   pub answers : Begins (map transaction_in h.answers) (map transaction_in h.taken)
   pub most : length h.taken ≤ length h.answers + 1
-  -- the others were rejected
+  -- the calls that are not listed were rejected
   pub rejected : AreRejected programs h.taken h.answers
 
 -- what each of two ends handed up begins what the other one accepted

@@ -53,7 +53,7 @@ has_packets (p ∷ ps) = true
 abbrev pub flushed : Giving → Giving
 flushed x = record x { state = after_flush x.state; packets = flush_answer x.state }
 
--- the first of them; where there are none, the packet without an item that is owed
+-- the first packet of those made; where there are none, the packet without an item that is owed
 abbrev pub newer_of : List (List ℕ) → Giving → Option (List ℕ) × Giving
 newer_of [] x = (word_answer x.owed x.state, record x { packets = []; owed = record x.owed { asks = false; word = false; fresh = x.owed.moving } })
 newer_of (p ∷ ps) x =

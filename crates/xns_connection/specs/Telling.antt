@@ -65,7 +65,7 @@ pub record Tells (conversation : Conversation) (h : Story) : Type 0 where
   pub all : drains conversation.side conversation.closing ≡ false → h.fed ≡ take h.state.handed h.state.taken
   pub given : h.given ++ closing_items conversation.closing ≡ h.state.accepted
   pub last : EndsLast conversation.side conversation.closing
-  -- the others say what is known of the peer's closing
+  -- the items that were handed up and not fed say what is known of the peer's closing
   pub knows : Knows conversation.closing (drained h)
 
 -- whatever it had done goes on so: the program makes no call and is handed nothing; once it drains it does so for good, and once it was
