@@ -134,7 +134,7 @@ next_turn {a} {c} turn after (gives {b = b} {turns = turns} id t more) e =
       goes_on = subst (λ (l : List Turn). Given b l c) (ap (λ (l : List Turn). drop 1 l) e) more;
     }
 
--- one that stands ahead has its turn, or still stands ahead
+-- an identifier that stands ahead has its turn, or still stands ahead
 at_turn : (ids : List ℕ) (turn : Turn) (place y x : ℕ) → position (is_free turn.owners) ids ≡ Some place → slice_get ids place ≡ Some turn.given
     → Leads ids y x → HadTurn y turn ⊎ ((turn.given ≢ x) × Leads (turned (place + 1) ids) y x)
 at_turn ids turn place y x first there l = by (sides l.at place) where

@@ -187,7 +187,7 @@ filled a gs n most g for_most less within all = record {
       turn_same a.free n false (omega (arith, for_most.free, less)) ∙ ap is_none here;
 }
 
--- one that has nothing to tell needs no turn
+-- a connection that has nothing to tell needs no turn
 pub quiet_noted : (a : Plan) (gs : Places) (n most : ℕ) → IsFor a most → n < most → ((p : Option Guest) → slice_get gs n ≡ Some p → event_in n p ≡ None)
     → IsAllNoted a gs → IsAllNoted (record a { events = with_turn a.events n false }) gs
 quiet_noted a gs n most for_most less quiet all = record { each = λ k p is. by k p is (same_or_other k n) } where

@@ -198,7 +198,7 @@ pub settled_apart : (gs ks : Row) (x d : Plan) (n : ℕ) (done : Bool) → place
 settled_apart gs ks x d n true is = set_apart gs ks n None (ap rows is)
 settled_apart gs ks x d n false is = record { others = λ k other. ap (λ (xs : Row). slice_get xs k) (ap rows is) }
 
--- one that gave way to another
+-- a connection gave way to another
 pub taken_apart : (gs ks : Row) (x d : Plan) (n : ℕ) (g : Guest) → places_with ks d ≡ taken_by (vacated (places_with gs x) n) n g → IsApart gs ks n
 taken_apart gs ks x d n g is =
     apart_then gs (slice_set gs n None) ks n (set_apart gs (slice_set gs n None) n None refl) (set_apart (slice_set gs n None) ks n (Some g) (ap rows is))

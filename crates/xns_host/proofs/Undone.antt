@@ -180,7 +180,7 @@ still_not_done gs n old v all after read less = record { each = λ k g there. by
       (after (was_not_done gs n old all read less))
   by k g there (inr other) = all.each k g (sym (place_other gs n k v other) ∙ there)
 
--- one came into a place
+-- a connection came into a place
 pub came_not_done : (gs hs : Places) (n : ℕ) (g : Guest) → HasNoneDone gs → IsApart gs hs n → slice_get hs n ≡ Some (Some g)
     → IsNotDone g.connection → HasNoneDone hs
 came_not_done gs hs n g all apart here new = record { each = λ k h there. by k h there (same_or_other k n) } where
@@ -189,7 +189,7 @@ came_not_done gs hs n g all apart here new = record { each = λ k h there. by k 
       at_place IsNotDoneIn (slice_get hs n) (Some g) (Some h) here (subst (λ (m : ℕ). slice_get hs m ≡ Some (Some h)) e there) new
   by k h there (inr other) = all.each k h (sym (apart.others k other) ∙ there)
 
--- one is gone
+-- a connection is gone
 pub gone_not_done : (gs hs : Places) (n : ℕ) → HasNoneDone gs → hs ≡ slice_set gs n None → HasNoneDone hs
 gone_not_done gs hs n all is = record { each = λ k g there. by k g there (same_or_other k n) } where
   by : (k : ℕ) (g : Guest) → slice_get hs k ≡ Some (Some g) → (k ≡ n) ⊎ (k ≢ n) → IsNotDone g.connection
@@ -199,7 +199,7 @@ gone_not_done gs hs n all is = record { each = λ k g there. by k g there (same_
       absurd (cc)
   by k g there (inr other) = all.each k g (sym (place_other gs n k None other) ∙ subst (λ (xs : Places). slice_get xs k ≡ Some (Some g)) is there)
 
--- none of them may be forgotten
+-- a connection that lingers has a time at which something is due
 not_lingering : (d : Due) → is_lingering d ≡ true → is_none (due_time d) ≡ false
 not_lingering Never is = absurd (cc)
 not_lingering (AgainAt t) is = refl

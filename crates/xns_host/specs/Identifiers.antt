@@ -58,7 +58,7 @@ pub record TurnsOver (old new : Ids) (id : ℕ) : Type 0 where
   pub there : slice_get old.ahead place ≡ Some id
   pub turned : new.ahead ≡ drop (place + 1) old.ahead ++ take (place + 1) old.ahead
 
--- none was given: they come in the order in which they came
+-- no identifier was given: they come in the order in which they came
 abbrev pub StaysInOrder : (old new : Ids) → Type 0
 StaysInOrder old new = new.ahead ≡ old.ahead
 

@@ -59,7 +59,7 @@ pub record IsFit (s : Settings) : Type 0 where
 abbrev pub is_within : ℕ → ℕ → ℕ → Bool
 is_within low n high = nat_le low n && nat_le n high
 
--- the first one that is not
+-- the first setting that is out of its range
 abbrev pub wrong_setting : Settings → Option Setting
 wrong_setting s =
     if not (is_within 1 s.connections most_connections) then Some Connections

@@ -20,7 +20,7 @@ const MOST_ID: u16 = 65_535;
 /// walk.
 #[derive(Drop)]
 pub struct Identifiers {
-    /// All of them, in the order in which they come next.
+    /// All identifiers, in the order in which they come next.
     ahead: VecDeque<u16>,
     /// By identifier, the number of the connection that has it.
     owners: Vec<Option<u16>>,

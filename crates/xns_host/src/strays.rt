@@ -35,7 +35,7 @@ impl Model for Strays {
 }
 
 impl Strays {
-    /// None, with room for so many.
+    /// No packets, with room for so many.
     pub fn new(alloc: Global, most: usize) -> Result<Strays, AllocError>
         ensures { IfOk result (λ s. s ≡ new_strays most) }
     {
