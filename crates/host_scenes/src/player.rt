@@ -205,7 +205,7 @@ impl Player {
         true
     }
 
-    /// When it wants to do something.
+    /// When the player wants to do something.
     pub fn next_time(&self) -> Option<u64> {
         let answer = self.late.iter().map(|late| late.at).min();
         earlier(answer, self.host.wake())
