@@ -107,7 +107,7 @@ number_by : (number tag : ℕ) (told : Bool) (closed : Option Why) (o : Option M
 number_by number tag told closed (Some m) event e = let same : event_of number tag m ≡ event = cc in ap number_of (sym same) ∙ number_there number tag m
 number_by number tag told closed None event e = ap number_of (sym (why_by number tag told closed event e).3)
 
--- where it is to be told that the connection is open, that is the event; else the event is what else there is to tell
+-- a connection that is newly open has that event; any other has the event of what else there is to tell
 pub newly_event : (number : ℕ) (g : Guest) (event : Event) → is_newly_open g ≡ true → event_in number (Some g) ≡ Some event → events.Opened number g.tag ≡ event
 newly_event number g event is e =
     let some : Some (events.Opened number g.tag) ≡ Some event
