@@ -31,7 +31,7 @@ impl Shown {
         }
     }
 
-    /// What it shows at this time, when so many turns were made.
+    /// The clock's time at this time, when so many turns were made.
     fn at(self, now: u64, turns: usize) -> u64 {
         match self {
             Shown::SetBack if now < 1_000 => now.saturating_add(AHEAD),
