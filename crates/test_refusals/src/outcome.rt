@@ -29,7 +29,7 @@ pub fn refused(as_before: bool, right: bool) -> Outcome {
     }
 }
 
-/// As it is printed; an error is that of making what the call is given.
+/// The outcome as it is printed; an error is that of making what the call is given.
 pub fn text(outcome: &Result<Outcome, AllocError>) -> &'static str {
     match outcome {
         Ok(Outcome::Done) => "done",
