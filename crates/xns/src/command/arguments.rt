@@ -26,7 +26,7 @@ const CAPTURE: &str = "A capture (pcap or pcapng), or lines of hex; - or no FILE
 const TIMES: &str = "times";
 
 const RELATIVE: &str = "relative";
-/// What they do.
+/// What the flags for times do.
 const TIMES_HELP: &str =
     "Print when each frame was captured, in seconds since 1970, and how long each call took";
 
@@ -34,7 +34,7 @@ const RELATIVE_HELP: &str = "The same as --times=relative: in seconds since the 
 
 /// The name of the option for descriptions of programs.
 const PROGRAMS: &str = "programs";
-/// What it does.
+/// What the option for descriptions does.
 const NAMING_HELP: &str =
     "Name calls by the programs that this file in Courier's notation describes; again for each file";
 
