@@ -11,9 +11,9 @@ use std::alloc::{AllocError, Global};
 /// By the number of each connection, what decides which one gives way to a new one. Its room is made once.
 #[derive(Drop)]
 pub struct Places {
-    /// Since when those linger that are closed.
+    /// Since when closed connections linger.
     closed: Times,
-    /// Since when those are silent that a peer opened and never confirmed.
+    /// Since when connections are silent that a peer opened and never confirmed.
     strangers: Times,
 }
 
