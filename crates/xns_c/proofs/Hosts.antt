@@ -107,7 +107,7 @@ wakes_host h at time wakes is = record { at = at; wakes = wakes; is = is }
 pub unused : ok ≡ no_slot → ⊥
 unused e = omega (arith, e)
 
--- where it is told that there is no room, there is none
+-- a result that says that there is no room is right: there is none
 pub no_room_by : (r : Result ℕ HostFault) (fault : HostFault) (W P : Type 0) → r ≡ Err fault → W
     → OnErr r (W → (r ≡ Err NoRoom) ⊎ (r ≡ Err NoMemory)) → (r ≡ Err NoRoom → P) → host_fault_number fault ≡ no_slot → P
 no_room_by (Ok n) fault W P is right why room full = absurd (cc)

@@ -160,7 +160,7 @@ pub record WakesHost (h : Host) (time : ℕ) : Type 0 where
   pub wakes : WakesAt h at
   pub is : time ≡ time_or_never at
 
--- when it wants to be asked: at once where something is kept, and else when the host does
+-- when a host of C wants to be asked: at once where something is kept, and else when the host in it does
 pub record Wakes (k : KeptHost) (time : ℕ) : Type 0 where
   pub event : k.event ≢ None → time ≡ 0
   pub packet : k.packet ≢ None → time ≡ 0

@@ -2,7 +2,7 @@
 #[repr(C)]
 #[derive(Clone, Copy)]
 pub struct XnsNode {
-    /// What it stands for, by number.
+    /// What the node stands for, by number.
     pub kind: u32,
     /// What the kind says; 0 where it says nothing.
     pub number: u32,
