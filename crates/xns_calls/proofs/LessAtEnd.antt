@@ -162,7 +162,7 @@ pub both_left : (h : Heading) (s : Scene) → end_turn (both_ended h s).own.trac
 unfolding both_ended
 both_left h s = times_left (count s) h s (omega arith)
 
--- where it is no flow's turn, neither keeps an item
+-- a flow that has no turn keeps no item
 line_none : (track : Track) → end_line (Some track) ≡ None → track.early ≡ []
 line_none track is = by_early track.early is
   where

@@ -121,7 +121,7 @@ after_data n packet f content cs cs' count count' page flow at is plain (inr (no
     ∙ ap (λ x. after_at n (length cs) flow packet f content (renewed n (length cs) flow f x)) more
     ∙ ap (λ i. after_at n i flow packet f content (renewed n i flow f (known cs' count' page))) (sym place)
 
--- where it wants memory behind the renewal, it did before
+-- a packet that wants memory behind the renewal did before
 renewed_wants : (n : Origin) (at : ℕ) (flow : Flow) (f : Header) (k : Known) → wants_at at flow f (renewed n at flow f k) ≡ true → wants_at at flow f k ≡ true
 unfolding renewed
 renewed_wants n at flow f k e = by_connection (slice_get k.connections at) refl e

@@ -8,11 +8,11 @@ use Rattle.xns_calls.specs.Input.{Arrival, arrival}
 use Rattle.xns_calls.specs.Over.{has_replied}
 use Rattle.xns_calls.specs.declared.connection.Connection.{Connection}
 
--- one of its flows has closed the connection with EndReply
+-- a flow of the connection has closed it with EndReply
 abbrev pub is_answered : Connection → Bool
 is_answered connection = has_replied connection.first_closing || has_replied connection.second_closing
 
--- if it is a packet of the connection at a place, its item is no EndReply
+-- a packet of the connection at a place, if one came, has an item that is no EndReply
 abbrev pub AnswersNothing : ℕ → Option Arrival → Known → Type 0
 AnswersNothing i None k = Unit {0}
 AnswersNothing i (Some a) k = place_of (flow_of a.0 a.1) k.connections ≡ Some i → a.1.stream ≢ 255

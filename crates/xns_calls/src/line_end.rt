@@ -16,7 +16,7 @@ const ROOM: usize = 256;
 pub struct LineEnd {
     /// The text stands at the end.
     room: [u8; ROOM],
-    /// Where it begins.
+    /// Where the text begins.
     start: usize,
 }
 
