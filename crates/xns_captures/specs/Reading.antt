@@ -28,7 +28,7 @@ StandsAfterPacket run.NoMemory stands fails packets packet = stands packets
 StandsAfterPacket run.Write stands fails packets packet = fails (packets ++ packet ∷ [])
 StandsAfterPacket _ stands fails packets packet = ⊥
 
--- where it is a want of memory, this is so
+-- what holds where the fault is a want of memory
 abbrev pub IfWants : RunFault → Type 0 → Type 0
 IfWants run.NoMemory wants = wants
 IfWants _ wants = Unit {0}

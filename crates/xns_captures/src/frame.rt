@@ -6,10 +6,10 @@ use crate::frame_time::FrameTime;
 pub struct Frame {
     /// The frame's link type.
     pub link: u16,
-    /// Where it begins.
+    /// Where the frame begins.
     pub start: usize,
-    /// How many bytes of it were captured.
+    /// How many bytes of the frame were captured.
     pub count: usize,
-    /// When it was captured; none where the capture does not say.
+    /// When the frame was captured; none where the capture does not say.
     pub time: Option<FrameTime>,
 }

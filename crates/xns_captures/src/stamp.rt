@@ -6,7 +6,7 @@ use crate::frame_time::FrameTime;
 pub struct Stamp {
     /// The number of the frame, from 1.
     pub number: usize,
-    /// When it was captured; none where the capture does not say.
+    /// When the frame was captured; none where the capture does not say.
     pub time: Option<FrameTime>,
     /// The first time that the capture says of a frame, up to this one.
     pub first: Option<FrameTime>,
