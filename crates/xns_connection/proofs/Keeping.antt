@@ -135,7 +135,7 @@ module _ (below : Below) (under : Underneath) (law : ItemsAreAcceptedOrChangeNot
       let k = (moves h.state tells.stands).settles in
       has_settled below law (told_by deed t.side h) (did under deed t h step.may tells) k.moves (subst (λ (y : Scene). How step.moved k.mid y) (sym k.is) (how step.moved k.mid))
 
-  -- what it had done went on so
+  -- a story of the connection goes on so
   tells_last : (h : Story) (tells : Tells t h) → Tells new.conversation (at_end (last h.state tells.stands).state (story h tells).story)
   tells_last h tells =
       let m = moves h.state tells.stands in

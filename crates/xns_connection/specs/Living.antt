@@ -25,7 +25,7 @@ pub record Deeds : Type 0 where
 abbrev pub no_deeds : Deeds
 no_deeds = record { made = []; handed = []; gave = [] }
 
--- whatever it had done goes on from where it is after something else was done
+-- every story of the old connection goes on, from what something else made of it, to one of the new connection
 abbrev pub GoesFrom : (old new : Conversation) → (Story → Story) → Type 0
 GoesFrom old new base = (h : Story) → Tells old h → (m : Story) × Tells new m × GoesOn (base h) m
 

@@ -68,8 +68,8 @@ pub record Tells (conversation : Conversation) (h : Story) : Type 0 where
   -- the items that were handed up and not fed say what is known of the peer's closing
   pub knows : Knows conversation.closing (drained h)
 
--- whatever it had done goes on so: the program makes no call and is handed nothing; once it drains it does so for good, and once it was
--- asked to close it stays asked
+-- every story of the old connection goes on: the program makes no call and is handed nothing; once the side drains it does so for
+-- good, and once it was asked to close it stays asked
 pub record Goes (old new : Conversation) : Type 0 where
   pub still : drains new.side new.closing ≡ false → drains old.side old.closing ≡ false
   pub wanted : old.closing.wanted ≡ true → new.closing.wanted ≡ true
@@ -125,7 +125,7 @@ pub record Calm (old new : Conversation) : Type 0 where
 pub record CalmFrom (old new : Conversation) (base : Story → Story) : Type 0 where
   pub on : (h : Story) → Tells old h → (m : Story) × Tells new m × GoesOn (base h) m × IsMoved new.side m.state × IsListed new.side
 
--- whatever it had done went on from where it is after something else was done, up to where no more was moved for this reason; till then
+-- every story of the old connection went on, from what something else made of it, up to where no more was moved for this reason; till then
 -- what came was read
 pub record GoesUntil (old : Conversation) (base : Story → Story) (e : FeedRefusal) : Type 0 where
   pub on : (h : Story) → Tells old h → (last : Conversation) × (m : Story) × Tells last m × GoesOn (base h) m
