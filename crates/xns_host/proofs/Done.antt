@@ -155,7 +155,7 @@ record WillAct (now : ℕ) (c : Connection) (place : Option (Option Guest)) : Ty
   will : Leads now c next
   stays : StaysIn next place
   gone : may_go next ≡ true → place ≡ Some None
-  -- where it was forgotten, it had acted
+  -- a connection that was forgotten had acted
   later : place ≡ Some None → IsDueAfter now next.wait.due
 
 -- after so many rounds: what will be done at each connection, and each round left one place fewer in which something is due

@@ -24,7 +24,7 @@ use Rattle.xns_host.proofs.Apart.{apart_then, set_apart, set_there}
 
 -- ---- one that gives a packet
 
--- where it has none, none is left
+-- a connection that gave no packet has none left
 pub rested_so : (way : ℕ) (left : Bool) (answer : Result (Option (List ℕ)) AllocError) → Ok None ≡ given_by way left answer → left ≡ false
 rested_so way left (Ok (Some p)) is = absurd (cc)
 rested_so way true (Ok None) is = absurd (cc)
