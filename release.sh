@@ -25,7 +25,7 @@ DESTDIR=$work sh install.sh "/$name" > /dev/null
 tree=$work/$name
 rm "$tree/share/xns/installed"
 
-# It serves wherever it is unpacked.
+# The archive serves wherever it is unpacked.
 sed "s|^prefix=.*|prefix=\${pcfiledir}/../..|" "$tree/lib/pkgconfig/xns.pc" > "$work/xns.pc"
 cat "$work/xns.pc" > "$tree/lib/pkgconfig/xns.pc"
 

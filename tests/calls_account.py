@@ -91,7 +91,7 @@ class Speech:
         self.waits, self.range, self.drops_mark, self.data = waits, not waits, False, b""
 
     def behind(self, is_last):
-        """The same behind a gap or a fault."""
+        """Goes on behind a gap or a fault: all up to the next end of a message is lost."""
         self.waits, self.range, self.drops_mark, self.data = not is_last, False, False, b""
 
     def hear(self, body, is_last):
@@ -252,7 +252,7 @@ class Connection:
         self.pass_to(flow, number)
 
     def bring_to(self, flow, number):
-        """The same as far as the flow keeps items."""
+        """Reads what is kept below the number, and passes over the rest, as far as the flow keeps items."""
         if number is not None and flow.kept:
             self.bring(flow, min(number, max(flow.kept) + 1))
 

@@ -241,7 +241,7 @@ class Twins:
         self.come_to(at if at and kind < 0.5 else near if kind < 0.8 else rng.choice((rng.randrange(self.now + 1), far, rng.randrange(LAST + 1))))
 
     def come_to(self, now):
-        """This time is told. Before the wake nothing may happen."""
+        """Tells the host this time. Before the wake nothing may happen."""
         wake, self.now, self.is_waiting = self.wake(), now, True
         found, self.is_waiting = self.fetch(), False
         assert not found or wake is not None and wake <= self.clock.own, ("something happened before the wake", wake, vars(self.clock))

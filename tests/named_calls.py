@@ -29,7 +29,7 @@ class Flow:
         self.front = struct.pack(">2H", 2, 3)
 
     def packets(self, words):
-        """Those of a message."""
+        """The packets of a message."""
         data = self.front + struct.pack(f">{len(words)}H", *words)
         self.front = b""
         for at in range(0, len(data), MOST_ITEM):

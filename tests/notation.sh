@@ -71,7 +71,7 @@ names_one() {
     fi
 }
 
-# The same of the calls that the lines of a case make, in hex and in a capture with times.
+# Names the calls that the lines of a case make, as names_one does, in hex and in a capture with times.
 names_as() {
     name_of=$1
     folder_of=$2
@@ -190,7 +190,7 @@ ends 'no description' 2 "error: a value is required for '--programs <FILE>' but 
 
 # ---- each growth refused in turn
 
-# There was a growth to refuse, and the last run, which was refused none, printed the file.
+# A growth was refused before, and the last run, which was refused none, printed the file.
 comes_through() {
     if [ $growth -gt 1 ] && [ $ended -eq 0 ] && cmp -s "$work/out" "$2"; then pass; else fail "$1, with nothing refused: status $ended"; fi
     echo "$1: $((growth - 1)) growths"

@@ -171,7 +171,7 @@ class Maker:
         return bytes.fromhex("00000001") + bytes([0, 0, 0xAA, 0, 0, number]) + struct.pack(">H", 5)
 
     def conversations(self, number):
-        """Those of two ends that come one after the other, with the same identifiers."""
+        """The conversations of two ends that come one after the other, with the same identifiers."""
         server, caller = self.place(1), self.place(number + 2)
         packets = []
         for _ in range(self.rng.choice([1, 1, 2, 3])):

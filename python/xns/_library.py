@@ -88,7 +88,7 @@ class RawSettings(ctypes.Structure):
 
     @staticmethod
     def of(settings: dict) -> "RawSettings":
-        """Those that are given; 0, which stands for the default, is none."""
+        """The settings that are given; 0, which stands for the default, is none."""
         settings = dict(settings)
         answers_echo, tells_opened = (_yes_or_no(settings.pop(name, usual), name) for name, usual in (("answers_echo", True), ("tells_opened", False)))
         unknown = set(settings) - set(_MOST_SETTINGS)

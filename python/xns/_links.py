@@ -139,7 +139,7 @@ class NetHub(_Link):
         return -1 if self._stream is None else self._stream.fileno()
 
     def setblocking(self, flag: bool) -> None:
-        """It never blocks."""
+        """Changes nothing: a hub never blocks."""
 
     def recvfrom(self, _: int) -> Tuple[bytes, bytes]:
         """The next packet to this station or to all, and the station that it comes from."""

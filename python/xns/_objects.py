@@ -107,7 +107,7 @@ class Endpoint(Object):
 
     @property
     def own(self) -> Tuple[Address, int]:
-        """Its own address and identifier."""
+        """The endpoint's own address and identifier."""
         return self._name("own")
 
     @property

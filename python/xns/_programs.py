@@ -94,7 +94,7 @@ class Procedure:
 
     @property
     def signature(self) -> inspect.Signature:
-        """That of the method, for `help`."""
+        """The signature of the method, for `help`."""
         kind = inspect.Parameter.POSITIONAL_OR_KEYWORD
         given = [inspect.Parameter(as_python(name), kind, annotation=one.python) for name, one in self.arguments.components]
         results = [one.python for _, one in self.results.components]
@@ -327,11 +327,11 @@ class Programs(Object, Mapping):
         return self._text("call_text", program, version, procedure, words)
 
     def return_text(self, program: int, version: int, procedure: int, words: Iterable[int]) -> Optional[str]:
-        """The same of a return of a call."""
+        """A return of a call by name and value, as `call_text` has a call."""
         return self._text("return_text", program, version, procedure, words)
 
     def abort_text(self, program: int, version: int, error: int, words: Iterable[int]) -> Optional[str]:
-        """The same of an abort of a call, by the number of its error."""
+        """An abort of a call by name and value, as `call_text` has a call, by the number of its error."""
         return self._text("abort_text", program, version, error, words)
 
     def _text(self, name: str, program: int, version: int, number: int, words: Iterable[int]) -> Optional[str]:

@@ -44,7 +44,7 @@ class Network:
         link.setblocking(False)
 
     def own(self, socket_number: Optional[int] = None) -> Address:
-        """Its own address; without a socket, of one at random."""
+        """The station's own address; without a socket, of one at random."""
         number = random.SystemRandom().randrange(_FIRST_SOCKET, _LAST_SOCKET) if socket_number is None else socket_number
         return Address(self._number, self._host, number)
 

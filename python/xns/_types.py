@@ -135,7 +135,7 @@ class _String(Type):
 
 
 class Enumeration(Type):
-    """Its values are members of an `IntEnum`."""
+    """An enumeration, whose values are members of an `IntEnum`."""
 
     def __init__(self, node: Node, name: str, module: str) -> None:
         self._words = {member.name: member.number for member in node.parts}
@@ -188,7 +188,7 @@ class _Elements(Type):
 
 
 class Record(Type):
-    """Its values are named tuples."""
+    """A record, whose values are named tuples."""
 
     def __init__(self, components: List[Tuple[str, Type]], name: str, module: str) -> None:
         self.components = components
@@ -229,7 +229,7 @@ class Record(Type):
 
 
 class Choice(Type):
-    """Its values are pairs: the name of the candidate, and its value."""
+    """A choice, whose values are pairs: the name of the candidate, and its value."""
 
     python = Tuple[str, Any]
 
