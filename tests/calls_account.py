@@ -91,7 +91,7 @@ class Speech:
         self.waits, self.range, self.drops_mark, self.data = waits, not waits, False, b""
 
     def behind(self, is_last):
-        """Goes on behind a gap or a fault: all up to the next end of a message is lost."""
+        """Goes on behind a gap or a fault: where that ended no message, all up to the next end of one is lost."""
         self.waits, self.range, self.drops_mark, self.data = not is_last, False, False, b""
 
     def hear(self, body, is_last):
