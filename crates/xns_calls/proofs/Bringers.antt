@@ -8,7 +8,7 @@ use Rattle.xns_calls.specs.Acknowledged.{acknowledged_in, due_in}
 use Rattle.xns_calls.specs.Capture.{heading_at, repeats_told, scene_in}
 use Rattle.xns_calls.specs.Events.{Event, acknowledged, acknowledged_event, after_event, after_events, brought_if, captured, captured_event, meanwhile, own_events, read}
 use Rattle.xns_calls.specs.Exchange.{Scene, carried, first_track, is_repeat, of_other, other_reached, seen_from_other, told_of, up_to}
-use Rattle.xns_calls.specs.Held.{AreHandled, CameWith, Handled, IsHandled, handled_by, item_of, scene_behind, with_all, with_handled}
+use Rattle.xns_calls.specs.Held.{AreHandled, CameWith, Handled, IsHandled, handled_in, item_of, with_all, with_handled}
 use Rattle.xns_calls.specs.Numbers.{most_early, near}
 use Rattle.xns_calls.specs.Over.{side_in}
 use Rattle.xns_calls.specs.Queue.{kept, last_number}
@@ -165,20 +165,20 @@ behind_have Q n m q due packet f content s = by_track s.other.track refl
 
 -- ---- the packets of a connection
 
-one_has : (Q : Carried → Type 0) (d : Bool) (packet : Handled) (c : Connection) → (w : IsHandled packet c) → (w.is_behind ≡ d → Q (item_of packet c w))
+one_has : (Q : Carried → Type 0) (d : Bool) (packet : Handled) (c : Connection) → (w : IsHandled packet c) → (packet.is_behind ≡ d → Q (item_of packet c))
     → GoesOn None (side_in d c).track → AllOf Q (side_in d c).track → AllOf Q (side_in d (with_handled packet c)).track
-one_has Q d packet c w new order has = subst (λ x. AllOf Q (side_in d (with_handled x c)).track) (sym w.is) (by_flow d w.is_behind new order has)
+one_has Q d packet c w new order has = subst (λ x. AllOf Q (side_in d (with_handled x c)).track) (sym w.is) (by_flow d packet.is_behind new order has)
   where
-    by_flow : (d q : Bool) → (q ≡ d → Q (carried (heading_at w.origin c.number q) (acknowledged_in q w.header c) w.header w.content)) → GoesOn None (side_in d c).track → AllOf Q (side_in d c).track
-        → AllOf Q (side_in d (with_handled (handled_by q w.header (scene_behind w.origin q w.sent w.header w.content c w.known)) c)).track
-    by_flow true true new order has = own_have Q w.origin c.number true (due_in true w.header c) w.sent w.header w.content (scene_in true c (repeats_told w.origin true w.header c w.known)) (new refl) order has
-    by_flow false false new order has = own_have Q w.origin c.number false (due_in false w.header c) w.sent w.header w.content (scene_in false c (repeats_told w.origin false w.header c w.known)) (new refl) order has
-    by_flow true false new order has = behind_have Q w.origin c.number false (due_in false w.header c) w.sent w.header w.content (scene_in false c (repeats_told w.origin false w.header c w.known)) order has
-    by_flow false true new order has = behind_have Q w.origin c.number true (due_in true w.header c) w.sent w.header w.content (scene_in true c (repeats_told w.origin true w.header c w.known)) order has
+    by_flow : (d q : Bool) → (q ≡ d → Q (carried (heading_at packet.origin c.number q) (acknowledged_in q packet.header c) packet.header packet.content)) → GoesOn None (side_in d c).track → AllOf Q (side_in d c).track
+        → AllOf Q (side_in d (with_handled (handled_in packet.origin q packet.sent packet.header packet.content c w.known) c)).track
+    by_flow true true new order has = own_have Q packet.origin c.number true (due_in true packet.header c) packet.sent packet.header packet.content (scene_in true c (repeats_told packet.origin true packet.header c w.known)) (new refl) order has
+    by_flow false false new order has = own_have Q packet.origin c.number false (due_in false packet.header c) packet.sent packet.header packet.content (scene_in false c (repeats_told packet.origin false packet.header c w.known)) (new refl) order has
+    by_flow true false new order has = behind_have Q packet.origin c.number false (due_in false packet.header c) packet.sent packet.header packet.content (scene_in false c (repeats_told packet.origin false packet.header c w.known)) order has
+    by_flow false true new order has = behind_have Q packet.origin c.number true (due_in true packet.header c) packet.sent packet.header packet.content (scene_in true c (repeats_told packet.origin true packet.header c w.known)) order has
 
 -- an item is that of a packet of a flow
 abbrev IsOf : Bool → Handled → Connection → Carried → Type 0
-IsOf d packet c item = (w : IsHandled packet c) × (w.is_behind ≡ d) × (item ≡ item_of packet c w)
+IsOf d packet c item = (packet.is_behind ≡ d) × (item ≡ item_of packet c)
 
 -- one of the packets brought the item
 abbrev IsBrought : Bool → List Handled → Connection → Carried → Type 0
@@ -201,7 +201,7 @@ over_again A B C (inr c) = inr (inr c)
 one_own : (Q : Carried → Type 0) (d : Bool) (packet : Handled) (c : Connection) → IsHandled packet c → GoesOn None (side_in d c).track → AllOf Q (side_in d c).track
     → AllOf (λ item. Q item ⊎ IsOf d packet c item) (side_in d (with_handled packet c)).track
 one_own Q d packet c w order has =
-    one_has (λ item. Q item ⊎ IsOf d packet c item) d packet c w (λ own. inr (w, own, refl)) order
+    one_has (λ item. Q item ⊎ IsOf d packet c item) d packet c w (λ own. inr (own, refl)) order
     (all_more Q (λ item. Q item ⊎ IsOf d packet c item) (λ item is. inl is) (side_in d c).track has)
 
 all_brought : (Q : Carried → Type 0) (d : Bool) (packets : List Handled) (c : Connection) → AreHandled packets c → GoesOn None (side_in d c).track → AllOf Q (side_in d c).track
@@ -219,10 +219,10 @@ all_brought Q d (packet ∷ more) c are order has =
 
 stands_among : (d : Bool) (packets : List Handled) (c : Connection) (item : Carried) → IsBrought d packets c item → CameWith d packets c item
 stands_among d [] c item is = absurd is
-stands_among d (packet ∷ more) c item (inl (w, own, is)) = record { before = []; packet = packet; more = more; are = refl; handled = w; own = own; brought = is }
+stands_among d (packet ∷ more) c item (inl (own, is)) = record { before = []; packet = packet; more = more; are = refl; own = own; brought = is }
 stands_among d (packet ∷ more) c item (inr later) =
     let x = stands_among d more (with_handled packet c) item later in
-    record { before = packet ∷ x.before; packet = x.packet; more = x.more; are = ap (λ xs. packet ∷ xs) x.are; handled = x.handled; own = x.own; brought = x.brought }
+    record { before = packet ∷ x.before; packet = x.packet; more = x.more; are = ap (λ xs. packet ∷ xs) x.are; own = x.own; brought = x.brought }
 
 first_brought : (d : Bool) (packets : List Handled) (c : Connection) (o : Option Track) (track : Track) (e : Early) (rest : List Early) → o ≡ Some track → track.early ≡ e ∷ rest
     → AllOf (λ item. ⊥ ⊎ IsBrought d packets c item) o → IsBrought d packets c e.item

@@ -9,7 +9,7 @@ use Rattle.xns_calls.specs.Acknowledged.{due_in}
 use Rattle.xns_calls.specs.Capture.{heading_at, new_connection, repeats_told, scene_in}
 use Rattle.xns_calls.specs.Events.{Event, acknowledged, acknowledged_event, after_event, after_events, brought_if, captured, captured_event, meanwhile, own_events, read}
 use Rattle.xns_calls.specs.Exchange.{Scene, advance_other, advance_own, after_content, after_data, after_packet, after_told, begin_track, carried, first_track, is_repeat, of_other, other_reached, own_reached, reached, seen_from_other, told_of, up_to}
-use Rattle.xns_calls.specs.Held.{AreHandled, Handled, IsHandled, handled_by, scene_behind, with_all, with_handled}
+use Rattle.xns_calls.specs.Held.{AreHandled, Handled, IsHandled, handled_in, with_all, with_handled}
 use Rattle.xns_calls.specs.Numbers.{most_early, near}
 use Rattle.xns_calls.specs.Over.{side_in}
 use Rattle.xns_calls.specs.Queue.{last_number}
@@ -258,14 +258,14 @@ behind_goes n m q due packet f content s = by_track s.other.track refl
 -- ---- the packets of a connection
 
 pub one_goes : (d : Bool) (packet : Handled) (c : Connection) → IsHandled packet c → GoesOn None (side_in d c).track → GoesOn (side_in d c).track (side_in d (with_handled packet c)).track
-one_goes d packet c w order = subst (λ x. GoesOn (side_in d c).track (side_in d (with_handled x c)).track) (sym w.is) (by_flow d w.is_behind order)
+one_goes d packet c w order = subst (λ x. GoesOn (side_in d c).track (side_in d (with_handled x c)).track) (sym w.is) (by_flow d packet.is_behind order)
   where
     by_flow : (d q : Bool) → GoesOn None (side_in d c).track
-        → GoesOn (side_in d c).track (side_in d (with_handled (handled_by q w.header (scene_behind w.origin q w.sent w.header w.content c w.known)) c)).track
-    by_flow true true order = own_goes w.origin c.number true (due_in true w.header c) w.sent w.header w.content (scene_in true c (repeats_told w.origin true w.header c w.known)) order
-    by_flow false false order = own_goes w.origin c.number false (due_in false w.header c) w.sent w.header w.content (scene_in false c (repeats_told w.origin false w.header c w.known)) order
-    by_flow true false order = behind_goes w.origin c.number false (due_in false w.header c) w.sent w.header w.content (scene_in false c (repeats_told w.origin false w.header c w.known)) order
-    by_flow false true order = behind_goes w.origin c.number true (due_in true w.header c) w.sent w.header w.content (scene_in true c (repeats_told w.origin true w.header c w.known)) order
+        → GoesOn (side_in d c).track (side_in d (with_handled (handled_in packet.origin q packet.sent packet.header packet.content c w.known) c)).track
+    by_flow true true order = own_goes packet.origin c.number true (due_in true packet.header c) packet.sent packet.header packet.content (scene_in true c (repeats_told packet.origin true packet.header c w.known)) order
+    by_flow false false order = own_goes packet.origin c.number false (due_in false packet.header c) packet.sent packet.header packet.content (scene_in false c (repeats_told packet.origin false packet.header c w.known)) order
+    by_flow true false order = behind_goes packet.origin c.number false (due_in false packet.header c) packet.sent packet.header packet.content (scene_in false c (repeats_told packet.origin false packet.header c w.known)) order
+    by_flow false true order = behind_goes packet.origin c.number true (due_in true packet.header c) packet.sent packet.header packet.content (scene_in true c (repeats_told packet.origin true packet.header c w.known)) order
 
 pub all_go : (d : Bool) (packets : List Handled) (c : Connection) → AreHandled packets c → GoesOn None (side_in d c).track → GoesOn (side_in d c).track (side_in d (with_all packets c)).track
 all_go d [] c are order = stays_on (side_in d c).track order

@@ -1,21 +1,26 @@
 -- Each connection that is known has come from a new one, by packets that were handled.
-use Rattle.std.proofs.Common.{◌≡◌, ◌∙◌, ap, sym, refl, subst, inl, inr, ℕ, ◌+◌, ◌<◌, ◌⊎◌, Bool, true, false, cond, List, [], ◌∷◌, ◌++◌, length, Option, Some, None}
-use Rattle.std.specs.Prelude.{slice_get, slice_set}
+use Rattle.std.proofs.Common.{◌≡◌, ◌∙◌, ap, sym, refl, subst, inl, inr, ℕ, ◌+◌, ◌<◌, ◌==◌, ◌⊎◌, Bool, true, false, cond, List, [], ◌∷◌, ◌++◌, length, Option, Some, None}
+use Rattle.std.specs.Prelude.{slice_get}
 use Rattle.xns_idp.specs.Packet.{PacketModel}
 use Rattle.xns_spp.specs.Header.{is_system}
 use Rattle.xns_spp.specs.declared.header.Header.{Header}
 use Rattle.xns_dump.specs.Flows.{flow_of}
 use Rattle.xns_dump.specs.declared.flows.flow.Flow.{Flow}
+use Rattle.xns_calls.specs.Acknowledged.{noted}
 use Rattle.xns_calls.specs.Anew.{begins_anew}
 use Rattle.xns_calls.specs.Calls.{known_from, known_of, line_taken, nothing_known}
 use Rattle.xns_calls.specs.Capture.{Known, after_at, after_in, after_place, after_sequenced, after_there, forgotten, is_behind_in, new_connection, place_of, renewed, renewed_there, with_new}
-use Rattle.xns_calls.specs.Held.{AreHandled, Handled, IsHandled, behind_all, handled_by, scene_behind, with_all, with_handled}
+use Rattle.xns_calls.specs.Held.{AreHandled, Handled, IsHandled, behind_all, handled_in, handled_of, packets_at, packets_from, packets_in, packets_place, packets_there, with_all, with_handled}
+use Rattle.xns_calls.specs.Input.{Arrival, arrival}
 use Rattle.xns_calls.specs.Naming.{Programs}
 use Rattle.xns_calls.specs.Origins.{line_origin}
 use Rattle.xns_calls.specs.declared.connection.Connection.{Connection}
 use Rattle.xns_calls.specs.declared.origin.Origin.{Origin}
+use Rattle.xns_calls.proofs.Comparing.{equal_tells}
 use Rattle.xns_calls.proofs.Inputs.{line_is}
-use Rattle.xns_calls.proofs.Numbered.{more_cases, set_cases}
+use Rattle.xns_calls.proofs.Numbered.{more_cases}
+use Rattle.xns_calls.proofs.Others.{at_same, get_last, get_same, renewed_same}
+use Rattle.xns_calls.proofs.Parts.{number_tells}
 use Rattle.xns_calls.proofs.Taken.{fused}
 
 pub with_both : (xs ys : List Handled) (c : Connection) → with_all (xs ++ ys) c ≡ with_all ys (with_all xs c)
@@ -32,107 +37,129 @@ one_more (x ∷ xs) packet c are is = (are.0, one_more xs packet (with_handled x
 
 -- ---- one connection
 
-record Comes (c : Connection) : Type 0 where
-  number : ℕ
-  flow : Flow
-  packets : List Handled
-  are : AreHandled packets (new_connection number flow)
-  is : c ≡ behind_all number flow packets
+record Comes (packets : List Handled) (c : Connection) : Type 0 where
+  are : AreHandled packets (new_connection c.number c.flow)
+  is : c ≡ behind_all c.number c.flow packets
 
-new_comes : (number : ℕ) (flow : Flow) → Comes (new_connection number flow)
-new_comes number flow = record { number = number; flow = flow; packets = []; are = tt; is = refl }
+new_comes : (number : ℕ) (flow : Flow) → Comes [] (new_connection number flow)
+new_comes number flow = record { are = tt; is = refl }
 
-comes_on : (packet : Handled) (c : Connection) → IsHandled packet c → Comes c → Comes (with_handled packet c)
-comes_on packet c one w = record {
-  number = w.number;
-  flow = w.flow;
-  packets = w.packets ++ packet ∷ [];
-  are = one_more w.packets packet (new_connection w.number w.flow) w.are (subst (IsHandled packet) w.is one);
-  is = ap (with_handled packet) w.is ∙ sym (with_both w.packets (packet ∷ []) (new_connection w.number w.flow));
-}
-
--- ---- all connections
-
-abbrev AllCome : List Connection → Type 0
-AllCome cs = (i : ℕ) (c : Connection) → slice_get cs i ≡ Some c → Comes c
-
-none_come : AllCome []
-none_come i c there = (cc)
-
-come_set : (cs : List Connection) (i : ℕ) (c' : Connection) → AllCome cs → Comes c' → AllCome (slice_set cs i c')
-come_set cs i c' all new j d at = by_case (set_cases cs i j c' d at)
+-- a packet leaves the number and the flow
+same_start : (packet : Handled) (c : Connection) → new_connection (with_handled packet c).number (with_handled packet c).flow ≡ new_connection c.number c.flow
+same_start packet c = by_flow packet.is_behind
   where
-    by_case : ((i ≡ j) × (d ≡ c')) ⊎ ((i ≡ j → ⊥) × (slice_get cs j ≡ Some d)) → Comes d
-    by_case (inl (e, is)) = subst Comes (sym is) new
-    by_case (inr (other, there)) = all j d there
+    by_flow : (q : Bool) → new_connection (noted q packet.header c).number (noted q packet.header c).flow ≡ new_connection c.number c.flow
+    by_flow true = refl
+    by_flow false = refl
 
-come_more : (cs : List Connection) (c' : Connection) → AllCome cs → Comes c' → AllCome (cs ++ c' ∷ [])
-come_more cs c' all new j d at = by_case (more_cases cs j c' d at)
+comes_on : (packets : List Handled) (packet : Handled) (c : Connection) → IsHandled packet c → Comes packets c → Comes (packets ++ packet ∷ []) (with_handled packet c)
+comes_on packets packet c one w =
+    let start = new_connection c.number c.flow in
+    let same = same_start packet c in record {
+      are = subst (AreHandled (packets ++ packet ∷ [])) (sym same) (one_more packets packet start w.are (subst (IsHandled packet) w.is one));
+      is = ap (with_handled packet) w.is ∙ sym (with_both packets (packet ∷ []) start) ∙ ap (with_all (packets ++ packet ∷ [])) (sym same);
+    }
+
+-- ---- the connection at a place
+
+abbrev ComesAt : ℕ → List Handled → Known → Type 0
+ComesAt i packets k = (c : Connection) → slice_get k.connections i ≡ Some c → Comes packets c
+
+pub handled_there : (n : Origin) (i : ℕ) (q : Bool) (packet : PacketModel) (f : Header) (content : List ℕ) (c : Connection) (k : Known) → slice_get k.connections i ≡ Some c
+    → slice_get (after_in n i q packet f content c k).connections i ≡ Some (with_handled (handled_in n q packet f content c k) c)
+handled_there n i true packet f content c k there =
+    ap (λ (x : Known). slice_get x.connections i) (fused n i true packet f content c k there) ∙ get_same k.connections i c (with_handled (handled_in n true packet f content c k) c) there
+handled_there n i false packet f content c k there =
+    ap (λ (x : Known). slice_get x.connections i) (fused n i false packet f content c k there) ∙ get_same k.connections i c (with_handled (handled_in n false packet f content c k) c) there
+
+-- a packet of its flow is handled there
+at_comes : (n : Origin) (i : ℕ) (flow : Flow) (a : Arrival) (k : Known) (c : Connection) (packets : List Handled) → slice_get k.connections i ≡ Some c → Comes packets c
+    → ComesAt i (packets ++ handled_of n flow a c k ∷ []) (after_at n i flow a.0 a.1 a.2 k)
+unfolding after_at
+at_comes n i flow a k c packets there w d at =
+    let packet = handled_of n flow a c k in
+    let new = with_handled packet c in
+    let is : slice_get (after_there n i flow a.0 a.1 a.2 (slice_get k.connections i) k).connections i ≡ Some new =
+    ap (λ o. slice_get (after_there n i flow a.0 a.1 a.2 o k).connections i) there ∙ handled_there n i (is_behind_in flow c) a.0 a.1 a.2 c k there in
+    let some : Some new ≡ Some d = sym is ∙ at in
+    let same : new ≡ d = (cc) in
+    subst (Comes (packets ++ packet ∷ [])) same (comes_on packets packet c (record { known = k; is = refl }) w)
+
+-- it may begin the connection anew
+there_comes : (n : Origin) (i : ℕ) (flow : Flow) (a : Arrival) (k : Known) (packets : List Handled) → ComesAt i packets k
+    → ComesAt i (packets_there i n flow a (slice_get k.connections i) k packets) (after_at n i flow a.0 a.1 a.2 (renewed n i flow a.1 k))
+unfolding renewed after_at
+there_comes n i flow a k packets w = by_connection (slice_get k.connections i) refl
   where
-    by_case : ((j ≡ length cs) × (d ≡ c')) ⊎ ((j < length cs) × (slice_get cs j ≡ Some d)) → Comes d
-    by_case (inl (e, is)) = subst Comes (sym is) new
-    by_case (inr (lt, there)) = all j d there
+    by_anew : (c : Connection) → slice_get k.connections i ≡ Some c → (p : Bool)
+        → ComesAt i (cond p (handled_of n flow a (new_connection (k.count + 1) flow) (forgotten n i flow c k) ∷ []) (packets ++ handled_of n flow a c k ∷ []))
+        (after_at n i flow a.0 a.1 a.2 (cond p (forgotten n i flow c k) k))
+    by_anew c there true =
+        let new = new_connection (k.count + 1) flow in at_comes n i flow a (forgotten n i flow c k) new [] (get_same k.connections i c new there) (new_comes (k.count + 1) flow)
+    by_anew c there false = at_comes n i flow a k c packets there (w c there)
+
+    by_connection : (o : Option Connection) → slice_get k.connections i ≡ o → ComesAt i (packets_there i n flow a o k packets) (after_at n i flow a.0 a.1 a.2 (renewed_there n i flow a.1 o k))
+    by_connection None there = subst (λ o. ComesAt i packets (after_there n i flow a.0 a.1 a.2 o k)) (sym there) w
+    by_connection (Some c) there = by_anew c there (begins_anew a.1 c)
 
 -- ---- a packet
 
-in_connections : (n : Origin) (i : ℕ) (q : Bool) (packet : PacketModel) (f : Header) (content : List ℕ) (c : Connection) (k : Known) → slice_get k.connections i ≡ Some c
-    → (after_in n i q packet f content c k).connections ≡ slice_set k.connections i (with_handled (handled_by q f (scene_behind n q packet f content c k)) c)
-in_connections n i true packet f content c k there = ap (λ (x : Known). x.connections) (fused n i true packet f content c k there)
-in_connections n i false packet f content c k there = ap (λ (x : Known). x.connections) (fused n i false packet f content c k there)
-
-at_comes : (n : Origin) (i : ℕ) (flow : Flow) (packet : PacketModel) (f : Header) (content : List ℕ) (k : Known) → AllCome k.connections → AllCome (after_at n i flow packet f content k).connections
-unfolding after_at
-at_comes n i flow packet f content k all = by_connection (slice_get k.connections i) refl
+place_comes : (n : Origin) (i : ℕ) (flow : Flow) (a : Arrival) (o : Option ℕ) (k : Known) (packets : List Handled) → ComesAt i packets k
+    → ComesAt i (packets_place i n flow a o k packets) (after_place n flow a.0 a.1 a.2 o k)
+place_comes n i flow a (Some j) k packets w = by_place (i == j) refl
   where
-    by_connection : (o : Option Connection) → slice_get k.connections i ≡ o → AllCome (after_there n i flow packet f content o k).connections
-    by_connection None there = all
-    by_connection (Some c) there =
-        let q = is_behind_in flow c in
-        let packet' = handled_by q f (scene_behind n q packet f content c k) in
-        let one : IsHandled packet' c = record { origin = n; is_behind = q; header = f; sent = packet; content = content; known = k; is = refl } in
-        subst AllCome (sym (in_connections n i q packet f content c k there)) (come_set k.connections i (with_handled packet' c) all (comes_on packet' c one (all i c there)))
-
-renewed_come : (n : Origin) (i : ℕ) (flow : Flow) (f : Header) (k : Known) → AllCome k.connections → AllCome (renewed n i flow f k).connections
-unfolding renewed
-renewed_come n i flow f k all = by_connection (slice_get k.connections i)
+    by_place : (p : Bool) → (i == j) ≡ p → ComesAt i (cond p (packets_there i n flow a (slice_get k.connections i) k packets) packets) (after_at n j flow a.0 a.1 a.2 (renewed n j flow a.1 k))
+    by_place true e =
+        subst (λ x. ComesAt i (packets_there i n flow a (slice_get k.connections i) k packets) (after_at n x flow a.0 a.1 a.2 (renewed n x flow a.1 k))) (equal_tells i j e)
+        (there_comes n i flow a k packets w)
+    by_place false e = λ c at.
+        let other = number_tells i j e in w c (sym (at_same n i j flow a.0 a.1 a.2 (renewed n j flow a.1 k) other ∙ renewed_same n i j flow a.1 k other) ∙ at)
+place_comes n i flow a None k packets w = by_system (is_system a.1)
   where
-    by_anew : (c : Connection) (p : Bool) → AllCome (cond p (forgotten n i flow c k) k).connections
-    by_anew c true = come_set k.connections i (new_connection (k.count + 1) flow) all (new_comes (k.count + 1) flow)
-    by_anew c false = all
+    new : Connection
+    new = new_connection (k.count + 1) flow
 
-    by_connection : (o : Option Connection) → AllCome (renewed_there n i flow f o k).connections
-    by_connection None = all
-    by_connection (Some c) = by_anew c (begins_anew f c)
+    last : ℕ
+    last = length k.connections
 
-place_comes : (n : Origin) (flow : Flow) (packet : PacketModel) (f : Header) (content : List ℕ) (o : Option ℕ) (k : Known) → AllCome k.connections → AllCome (after_place n flow packet f content o k).connections
-place_comes n flow packet f content (Some i) k all = at_comes n i flow packet f content (renewed n i flow f k) (renewed_come n i flow f k all)
-place_comes n flow packet f content None k all = by_system (is_system f)
-  where
-    more : Known
-    more = with_new flow k
+    begun : Known
+    begun = after_at n last flow a.0 a.1 a.2 (with_new flow k)
 
-    by_system : (p : Bool) → AllCome (cond p k (after_at n (length k.connections) flow packet f content more)).connections
-    by_system true = all
-    by_system false =
-        at_comes n (length k.connections) flow packet f content more (come_more k.connections (new_connection (k.count + 1) flow) all (new_comes (k.count + 1) flow))
+    first : List Handled
+    first = handled_of n flow a new (with_new flow k) ∷ []
 
-sequenced_come : (n : Origin) (packet : PacketModel) (f : Header) (content : List ℕ) (k : Known) → AllCome k.connections → AllCome (after_sequenced n packet f content k).connections
+    by_last : (p : Bool) → (i == last) ≡ p → ComesAt i (cond p first packets) begun
+    by_last true e = subst (λ x. ComesAt x first begun) (sym (equal_tells i last e)) (at_comes n last flow a (with_new flow k) new [] (get_last k.connections new) (new_comes (k.count + 1) flow))
+    by_last false e = λ c at. by_case e c (more_cases k.connections i new c (sym (at_same n i last flow a.0 a.1 a.2 (with_new flow k) (number_tells i last e)) ∙ at))
+      where
+        by_case : (i == last) ≡ false → (c : Connection) → ((i ≡ last) × (c ≡ new)) ⊎ ((i < last) × (slice_get k.connections i ≡ Some c)) → Comes packets c
+        by_case e c (inl (is, same)) = absurd (number_tells i last e is)
+        by_case e c (inr (lt, there)) = w c there
+
+    by_system : (p : Bool) → ComesAt i (cond p packets (cond (i == last) first packets)) (cond p k begun)
+    by_system true = w
+    by_system false = by_last (i == last) refl
+
+sequenced_comes : (n : Origin) (i : ℕ) (a : Arrival) (k : Known) (packets : List Handled) → ComesAt i packets k
+    → ComesAt i (packets_at i n (Some a) k packets) (after_sequenced n a.0 a.1 a.2 k)
 unfolding after_sequenced
-sequenced_come n packet f content k all = place_comes n (flow_of packet f) packet f content (place_of (flow_of packet f) k.connections) k all
+sequenced_comes n i a k packets w = place_comes n i (flow_of a.0 a.1) a (place_of (flow_of a.0 a.1) k.connections) k packets w
 
 -- ---- all lines
 
 module _ (programs : Programs) where
-  line_comes : (n : ℕ) (k : Known) (line : List ℕ) → AllCome k.connections → AllCome (line_taken programs n line k).connections
-  line_comes n k line all =
-      line_is programs (λ k' o. AllCome k'.connections) n (record k { text = [] }) (λ part none. all) all
-      (λ x. sequenced_come (line_origin programs n) x.0 x.1 x.2 (record k { text = [] }) all)
+  line_comes : (i n : ℕ) (k : Known) (line : List ℕ) (packets : List Handled) → ComesAt i packets k
+      → ComesAt i (packets_at i (line_origin programs n) (arrival line) (record k { text = [] }) packets) (line_taken programs n line k)
+  line_comes i n k line packets w =
+      line_is programs (λ k' o. ComesAt i (packets_at i (line_origin programs n) o (record k { text = [] }) packets) k') n (record k { text = [] }) (λ part none. w) w
+      (λ a. sequenced_comes (line_origin programs n) i a (record k { text = [] }) packets w)
       line
 
-  lines_come : (n : ℕ) (k : Known) (lines : List (List ℕ)) → AllCome k.connections → AllCome (known_from programs n k lines).connections
-  lines_come n k [] all = all
-  lines_come n k (line ∷ lines) all = lines_come (n + 1) (line_taken programs n line k) lines (line_comes n k line all)
+  lines_come : (i n : ℕ) (k : Known) (packets : List Handled) (lines : List (List ℕ)) → ComesAt i packets k → ComesAt i (packets_from programs i n k packets lines) (known_from programs n k lines)
+  lines_come i n k packets [] w = w
+  lines_come i n k packets (line ∷ lines) w =
+      lines_come i (n + 1) (line_taken programs n line k) (packets_at i (line_origin programs n) (arrival line) (record k { text = [] }) packets) lines (line_comes i n k line packets w)
 
   pub known_come : (lines : List (List ℕ)) (i : ℕ) (c : Connection) → slice_get (known_of programs lines).connections i ≡ Some c
-      → (number : ℕ) × (flow : Flow) × (packets : List Handled) × AreHandled packets (new_connection number flow) × (c ≡ behind_all number flow packets)
-  known_come lines i c there = let w = lines_come 1 nothing_known lines none_come i c there in (w.number, w.flow, w.packets, w.are, w.is)
+      → AreHandled (packets_in programs i lines) (new_connection c.number c.flow) × (c ≡ behind_all c.number c.flow (packets_in programs i lines))
+  known_come lines i c there = let w = lines_come i 1 nothing_known [] lines (λ d at. (cc)) c there in (w.are, w.is)

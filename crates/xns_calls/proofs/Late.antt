@@ -1,13 +1,13 @@
 -- An item that comes next of its flow is not kept longer than 64 packets of its connection.
 use Rattle.std.proofs.Common.{◌≡◌, ◌∙◌, ap, sym, refl, subst, arith, inl, inr, ℕ, ◌<◌, ◌≤◌, ◌⊎◌, Bool, true, false, List, [], ◌∷◌, ◌++◌, length, Option, Some, None}
-use Rattle.std.specs.Prelude.{nat_lt, not, slice_get}
+use Rattle.std.specs.Prelude.{nat_lt, not}
 use Rattle.xns_idp.specs.Packet.{PacketModel}
 use Rattle.xns_spp.specs.declared.header.Header.{Header}
 use Rattle.xns_dump.specs.declared.flows.flow.Flow.{Flow}
-use Rattle.xns_calls.specs.Acknowledged.{acknowledged_in, acknowledged_of, due_in, given_in, most_waited}
-use Rattle.xns_calls.specs.Capture.{Known, after_in, heading_at, new_connection, repeats_told, scene_in}
+use Rattle.xns_calls.specs.Acknowledged.{acknowledged_of, due_in, given_in, most_waited}
+use Rattle.xns_calls.specs.Capture.{heading_at, new_connection, repeats_told, scene_in}
 use Rattle.xns_calls.specs.Exchange.{Scene, after_packet}
-use Rattle.xns_calls.specs.Held.{AreHandled, CameWith, Handled, IsHandled, NextItemsAreNotHeldLonger, acknowledges, behind_all, handled_by, scene_behind, track_behind, with_all, with_handled}
+use Rattle.xns_calls.specs.Held.{AreHandled, CameWith, Handled, IsHandled, NextItemsAreNotHeldLonger, acknowledges, behind_all, handled_by, packets_in, scene_behind, track_behind, with_all, with_handled}
 use Rattle.xns_calls.specs.InOrder.{IsFree}
 use Rattle.xns_calls.specs.Over.{side_in}
 use Rattle.xns_calls.specs.Turns.{first_line, readable}
@@ -16,10 +16,8 @@ use Rattle.xns_calls.specs.declared.origin.Origin.{Origin}
 use Rattle.xns_calls.specs.declared.track.Track.{Track}
 use Rattle.xns_calls.proofs.Comparing.{le_tells, lt_tells}
 use Rattle.xns_calls.proofs.GoingOn.{GoesOn, all_go, goes_order, new_order}
-use Rattle.xns_calls.proofs.Histories.{both_handled, known_come, with_both}
+use Rattle.xns_calls.proofs.Histories.{both_handled, handled_there, known_come, with_both}
 use Rattle.xns_calls.proofs.InOrder.{can_so, settled_left}
-use Rattle.xns_calls.proofs.Others.{get_same}
-use Rattle.xns_calls.proofs.Taken.{fused}
 use Rattle.xns_calls.specs.declared.carried.Carried.{Carried}
 use Rattle.xns_calls.specs.declared.early.Early.{Early}
 use Rattle.xns_calls.proofs.Bringers.{first_stands}
@@ -41,18 +39,10 @@ free_then (Some old) (Some new) field given (Some n) is on waited = by_wait (wai
 
 -- ---- a packet of a connection
 
-handled_there : (n : Origin) (i : ℕ) (q : Bool) (packet : PacketModel) (f : Header) (content : List ℕ) (c : Connection) (k : Known) → slice_get k.connections i ≡ Some c
-    → slice_get (after_in n i q packet f content c k).connections i ≡ Some (with_handled (handled_by q f (scene_behind n q packet f content c k)) c)
-handled_there n i true packet f content c k there =
-    ap (λ (x : Known). slice_get x.connections i) (fused n i true packet f content c k there)
-    ∙ get_same k.connections i c (with_handled (handled_by true f (scene_behind n true packet f content c k)) c) there
-handled_there n i false packet f content c k there =
-    ap (λ (x : Known). slice_get x.connections i) (fused n i false packet f content c k there)
-    ∙ get_same k.connections i c (with_handled (handled_by false f (scene_behind n false packet f content c k)) c) there
-
-given_there : (q : Bool) (f : Header) (c : Connection) (s : Scene) → (due_in q f c).given ≡ given_in q (with_handled (handled_by q f s) c)
-given_there true f c s = refl
-given_there false f c s = refl
+given_there : (n : Origin) (q : Bool) (packet : PacketModel) (f : Header) (content : List ℕ) (c : Connection) (s : Scene)
+    → (due_in q f c).given ≡ given_in q (with_handled (handled_by n q packet f content s) c)
+given_there n true packet f content c s = refl
+given_there n false packet f content c s = refl
 
 -- ---- what is left of a connection
 
@@ -67,19 +57,22 @@ no_lines (Some a) None is = (cc)
 no_lines (Some a) (Some b) is = (cc)
 
 packet_read : (packet : Handled) (c : Connection) → IsHandled packet c → IsRead (with_handled packet c)
-packet_read packet c w = subst (λ x. IsRead (with_handled x c)) (sym w.is) (by_flow w.is_behind)
+packet_read packet c w = subst (λ x. IsRead (with_handled x c)) (sym w.is) (by_flow packet.is_behind)
   where
+    f : Header
+    f = packet.header
+
     left : Bool → Scene
-    left q = scene_behind w.origin q w.sent w.header w.content c w.known
+    left q = scene_behind packet.origin q packet.sent f packet.content c w.known
 
-    none : (q : Bool) → (readable (left q).own.track (left q).other.track (due_in q w.header c).given.other ≡ None) × (readable (left q).other.track (left q).own.track (due_in q w.header c).given.own ≡ None)
+    none : (q : Bool) → (readable (left q).own.track (left q).other.track (due_in q f c).given.other ≡ None) × (readable (left q).other.track (left q).own.track (due_in q f c).given.own ≡ None)
     none q =
-        let given = (due_in q w.header c).given in
-        let s = scene_in q c (repeats_told w.origin q w.header c w.known) in
+        let given = (due_in q f c).given in
+        let s = scene_in q c (repeats_told packet.origin q f c w.known) in
         no_lines (readable (left q).own.track (left q).other.track given.other) (readable (left q).other.track (left q).own.track given.own)
-        (settled_left (heading_at w.origin c.number q) given (after_packet (heading_at w.origin c.number q) (due_in q w.header c) w.sent w.header w.content s))
+        (settled_left (heading_at packet.origin c.number q) given (after_packet (heading_at packet.origin c.number q) (due_in q f c) packet.sent f packet.content s))
 
-    by_flow : (q : Bool) → IsRead (with_handled (handled_by q w.header (left q)) c)
+    by_flow : (q : Bool) → IsRead (with_handled (handled_by packet.origin q packet.sent f packet.content (left q)) c)
     by_flow true true = (none true).0
     by_flow true false = (none true).1
     by_flow false true = (none false).1
@@ -117,14 +110,6 @@ never_held number flow before more packet track early rest are long is at first 
     sym (can_so track (side_in (not b) last).track (given_of (not b) last) early (record { rest = rest; first = first; next = next; free = free }))
     ∙ ap (λ o. readable o (side_in (not b) last).track (given_of (not b) last)) (sym at) ∙ none in (cc)
 
-flow_is : (b : Bool) (f : Header) (s : Scene) → (handled_by b f s).is_behind ≡ b
-flow_is true f s = refl
-flow_is false f s = refl
-
-acknowledges_is : (b : Bool) (f : Header) (s : Scene) (c : Connection) → acknowledges (handled_by b f s) c ≡ acknowledged_in b f c
-acknowledges_is true f s c = refl
-acknowledges_is false f s c = refl
-
 new_none : (d : Bool) (number : ℕ) (flow : Flow) → (side_in d (new_connection number flow)).track ≡ None
 new_none true number flow = refl
 new_none false number flow = refl
@@ -140,26 +125,11 @@ came_late number flow packets d track early rest are at first next = (x, by_coun
     x : CameWith d packets start early.item
     x = first_stands d packets start track early rest are (new_none d number flow) at first
 
-    c' : Connection
-    c' = with_all x.before start
-
-    w : IsHandled x.packet c'
-    w = x.handled
-
-    left : Scene
-    left = scene_behind w.origin w.is_behind w.sent w.header w.content c' w.known
-
-    own : x.packet.is_behind ≡ d
-    own = ap (λ (y : Handled). y.is_behind) w.is ∙ flow_is w.is_behind w.header left ∙ x.own
-
-    acknowledged : early.item.acknowledged ≡ acknowledges x.packet c'
-    acknowledged = ap (λ (y : Carried). y.acknowledged) x.brought ∙ sym (ap (λ (y : Handled). acknowledges y c') w.is ∙ acknowledges_is w.is_behind w.header left c')
-
     by_count : (p : Bool) → nat_lt (length x.more) most_waited ≡ p → length x.more < most_waited
     by_count true few = lt_tells (length x.more) most_waited few
     by_count false long =
-        absurd (never_held number flow x.before x.more x.packet track early rest (subst (λ ps. AreHandled ps start) x.are are) (le_tells (length x.more) most_waited long) acknowledged
-        (ap (λ b. (side_in b (with_all (x.before ++ x.packet ∷ x.more) start)).track) own ∙ ap (λ ps. (side_in d (with_all ps start)).track) (sym x.are) ∙ at) first next)
+        absurd (never_held number flow x.before x.more x.packet track early rest (subst (λ ps. AreHandled ps start) x.are are) (le_tells (length x.more) most_waited long) (ap (λ (y : Carried). y.acknowledged) x.brought)
+        (ap (λ b. (side_in b (with_all (x.before ++ x.packet ∷ x.more) start)).track) x.own ∙ ap (λ ps. (side_in d (with_all ps start)).track) (sym x.are) ∙ at) first next)
 
 pub not_held_longer : NextItemsAreNotHeldLonger
 not_held_longer = record {
@@ -169,4 +139,7 @@ not_held_longer = record {
       (given_then number flow before more packet track n at is long);
   held = never_held;
   late = came_late;
+  lines = λ programs lines i c d track early rest there at first next.
+      let w = known_come programs lines i c there in
+      came_late c.number c.flow (packets_in programs i lines) d track early rest w.0 (sym (ap (λ (x : Connection). (side_in d x).track) w.1) ∙ at) first next;
 }

@@ -50,12 +50,12 @@ there_same n i j flow packet f content None k other = refl
 there_same n i j flow packet f content (Some c) k other =
     let q = is_behind_in flow c in settled_same n i j q (taken_in n j q packet f content c (repeats_told n q f c k)) other ∙ get_set k.connections i j _ other
 
-at_same : (n : Origin) (i j : ℕ) (flow : Flow) (packet : PacketModel) (f : Header) (content : List ℕ) (k : Known) → (i ≡ j → ⊥)
+pub at_same : (n : Origin) (i j : ℕ) (flow : Flow) (packet : PacketModel) (f : Header) (content : List ℕ) (k : Known) → (i ≡ j → ⊥)
     → connection_at i (after_at n j flow packet f content k) ≡ connection_at i k
 unfolding after_at
 at_same n i j flow packet f content k other = there_same n i j flow packet f content (slice_get k.connections j) k other
 
-renewed_same : (n : Origin) (i j : ℕ) (flow : Flow) (f : Header) (k : Known) → (i ≡ j → ⊥) → connection_at i (renewed n j flow f k) ≡ connection_at i k
+pub renewed_same : (n : Origin) (i j : ℕ) (flow : Flow) (f : Header) (k : Known) → (i ≡ j → ⊥) → connection_at i (renewed n j flow f k) ≡ connection_at i k
 unfolding renewed
 renewed_same n i j flow f k other = by_connection (slice_get k.connections j)
   where

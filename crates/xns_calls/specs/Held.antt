@@ -1,15 +1,20 @@
 -- How many items a flow keeps, which, and how long.
-use Rattle.std.specs.Prelude.{◌≡◌, ℕ, ◌+◌, ◌<◌, ◌≤◌, ◌⊎◌, Bool, true, false, not, List, [], ◌∷◌, ◌++◌, length, slice_get, Option, Some}
+use Rattle.std.specs.Prelude.{◌≡◌, ℕ, ◌+◌, ◌<◌, ◌≤◌, ◌==◌, ◌⊎◌, Bool, true, false, not, if◌then◌else◌, List, [], ◌∷◌, ◌++◌, length, slice_get, Option, Some, None}
 use Rattle.xns_idp.specs.Packet.{PacketModel}
 use Rattle.xns_spp.specs.Ends.{most_pending}
+use Rattle.xns_spp.specs.Header.{is_system}
 use Rattle.xns_spp.specs.declared.header.Header.{Header}
+use Rattle.xns_dump.specs.Flows.{flow_of}
 use Rattle.xns_dump.specs.declared.flows.flow.Flow.{Flow}
 use Rattle.xns_calls.specs.Acknowledged.{acknowledged_in, due_in, given_in, most_waited, noted}
-use Rattle.xns_calls.specs.Calls.{known_of}
-use Rattle.xns_calls.specs.Capture.{Known, after_in, heading_at, new_connection, repeats_told, scene_in}
+use Rattle.xns_calls.specs.Anew.{begins_anew}
+use Rattle.xns_calls.specs.Calls.{known_of, line_taken, nothing_known}
+use Rattle.xns_calls.specs.Capture.{Known, after_in, forgotten, heading_at, is_behind_in, new_connection, place_of, repeats_told, scene_in, with_new}
 use Rattle.xns_calls.specs.Exchange.{Scene, carried}
+use Rattle.xns_calls.specs.Input.{Arrival, arrival}
 use Rattle.xns_calls.specs.Naming.{Programs}
 use Rattle.xns_calls.specs.Numbers.{most_early}
+use Rattle.xns_calls.specs.Origins.{line_origin}
 use Rattle.xns_calls.specs.Over.{side_in}
 use Rattle.xns_calls.specs.Read.{handled}
 use Rattle.xns_calls.specs.declared.carried.Carried.{Carried}
@@ -35,10 +40,14 @@ pub record FewItemsAreKept : Type 0 where
 
 -- ---- the packets of one connection
 
--- a packet: whether it is of the flow that begins behind the other, its header, and the two flows once it was handled
+-- a packet: the line or frame that brought it, whether it is of the flow that begins behind the other, its header and its content, and the
+-- two flows once it was handled
 pub record Handled : Type 0 where
+  pub origin : Origin
   pub is_behind : Bool
+  pub sent : PacketModel
   pub header : Header
+  pub content : List ℕ
   pub first : Side
   pub second : Side
 
@@ -62,25 +71,36 @@ acknowledges packet connection = acknowledged_in packet.is_behind packet.header 
 abbrev pub track_behind : Handled → Connection → Option Track
 track_behind packet connection = (side_in (not packet.is_behind) connection).track
 
--- a packet of a flow, with the scene that it leaves, seen from that flow
-abbrev pub handled_by : Bool → Header → Scene → Handled
-handled_by true f s = record { is_behind = true; header = f; first = s.other; second = s.own }
-handled_by false f s = record { is_behind = false; header = f; first = s.own; second = s.other }
-
 -- what a packet of one of its flows leaves of a connection
 abbrev pub scene_behind : Origin → Bool → PacketModel → Header → List ℕ → Connection → Known → Scene
 scene_behind n is_behind packet f content c k =
     handled (heading_at n c.number is_behind) (due_in is_behind f c) packet f content (scene_in is_behind c (repeats_told n is_behind f c k))
 
--- a packet was handled as one of a connection, at some line or frame and with some content
+-- a flow of a scene, or the one behind it (true)
+abbrev pub side_seen : Bool → Scene → Side
+side_seen true s = s.other
+side_seen false s = s.own
+
+-- a packet of a flow, with the scene that it leaves, seen from that flow
+abbrev pub handled_by : Origin → Bool → PacketModel → Header → List ℕ → Scene → Handled
+handled_by n is_behind packet f content s = record {
+  origin = n;
+  is_behind = is_behind;
+  sent = packet;
+  header = f;
+  content = content;
+  first = side_seen is_behind s;
+  second = side_seen (not is_behind) s;
+}
+
+-- a packet of one of its flows, as a connection handles it
+abbrev pub handled_in : Origin → Bool → PacketModel → Header → List ℕ → Connection → Known → Handled
+handled_in n is_behind packet f content c k = handled_by n is_behind packet f content (scene_behind n is_behind packet f content c k)
+
+-- a packet was handled as one of a connection
 pub record IsHandled (packet : Handled) (connection : Connection) : Type 0 where
-  pub origin : Origin
-  pub is_behind : Bool
-  pub header : Header
-  pub sent : PacketModel
-  pub content : List ℕ
   pub known : Known
-  pub is : packet ≡ handled_by is_behind header (scene_behind origin is_behind sent header content connection known)
+  pub is : packet ≡ handled_in packet.origin packet.is_behind packet.sent packet.header packet.content connection known
 
 -- packets were handled one after the other, the first as one of a connection, and each of the others as one of what the last one left
 abbrev pub AreHandled : List Handled → Connection → Type 0
@@ -88,8 +108,9 @@ AreHandled [] connection = Unit {0}
 AreHandled (packet ∷ more) connection = IsHandled packet connection × AreHandled more (with_handled packet connection)
 
 -- the item of a packet, with what the packet acknowledges and the line or frame that brought it
-abbrev pub item_of : (packet : Handled) (connection : Connection) → IsHandled packet connection → Carried
-item_of packet connection w = carried (heading_at w.origin connection.number w.is_behind) (acknowledged_in w.is_behind w.header connection) w.header w.content
+abbrev pub item_of : Handled → Connection → Carried
+item_of packet connection =
+    carried (heading_at packet.origin connection.number packet.is_behind) (acknowledges packet connection) packet.header packet.content
 
 -- an item of a flow came with one of the packets that were handled as those of a connection, which is a packet of the flow
 pub record CameWith (is_behind : Bool) (packets : List Handled) (connection : Connection) (item : Carried) : Type 0 where
@@ -97,22 +118,58 @@ pub record CameWith (is_behind : Bool) (packets : List Handled) (connection : Co
   pub packet : Handled
   pub more : List Handled
   pub are : packets ≡ before ++ packet ∷ more
-  pub handled : IsHandled packet (with_all before connection)
-  pub own : handled.is_behind ≡ is_behind
-  pub brought : item ≡ item_of packet (with_all before connection) handled
+  pub own : packet.is_behind ≡ is_behind
+  pub brought : item ≡ item_of packet (with_all before connection)
 
--- behind whatever lines each connection that is known has come from a new one by packets that were handled, as the packets of the
--- connection are; what is read with one goes by what is given behind it
+-- ---- the packets of the lines of an input
+
+-- a packet of the flow, as a connection of the flow handles it
+abbrev pub handled_of : Origin → Flow → Arrival → Connection → Known → Handled
+handled_of n flow a c k = handled_in n (is_behind_in flow c) a.0 a.1 a.2 c k
+
+-- the packets of the connection at a place, behind one more packet of it: one that begins the connection anew is the first of the new one's
+abbrev pub packets_there : ℕ → Origin → Flow → Arrival → Option Connection → Known → List Handled → List Handled
+packets_there i n flow a None k packets = packets
+packets_there i n flow a (Some c) k packets =
+    if begins_anew a.1 c then handled_of n flow a (new_connection (k.count + 1) flow) (forgotten n i flow c k) ∷ []
+    else packets ++ handled_of n flow a c k ∷ []
+
+-- the packets of the connection at place i, behind a packet of the connection at the other place, or of one that it begins
+abbrev pub packets_place : ℕ → Origin → Flow → Arrival → Option ℕ → Known → List Handled → List Handled
+packets_place i n flow a (Some j) k packets = if i == j then packets_there i n flow a (slice_get k.connections i) k packets else packets
+packets_place i n flow a None k packets =
+    if is_system a.1 then packets
+    else (if i == length k.connections then handled_of n flow a (new_connection (k.count + 1) flow) (with_new flow k) ∷ [] else packets)
+
+abbrev pub packets_at : ℕ → Origin → Option Arrival → Known → List Handled → List Handled
+packets_at i n None k packets = packets
+packets_at i n (Some a) k packets = packets_place i n (flow_of a.0 a.1) a (place_of (flow_of a.0 a.1) k.connections) k packets
+
+abbrev pub packets_from : Programs → ℕ → ℕ → Known → List Handled → List (List ℕ) → List Handled
+packets_from programs i n k packets [] = packets
+packets_from programs i n k packets (line ∷ lines) =
+    packets_from programs i (n + 1) (line_taken programs n line k) (packets_at i (line_origin programs n) (arrival line) (record k { text = [] }) packets) lines
+
+-- the packets of the connection at place i behind all lines, in order: those since it began, each of a line of the input
+abbrev pub packets_in : Programs → ℕ → List (List ℕ) → List Handled
+packets_in programs i lines = packets_from programs i 1 nothing_known [] lines
+
+-- ---- what holds of them
+
+-- behind whatever lines each connection that is known has come from a new one by its packets in these lines, handled one after the other, as
+-- the packets of the connection are; what is read with one goes by what is given behind it
 pub record PacketsAreHandled : Type 0 where
   pub known : (programs : Programs) (lines : List (List ℕ)) (i : ℕ) (c : Connection) → slice_get (known_of programs lines).connections i ≡ Some c
-      → (number : ℕ) × (flow : Flow) × (packets : List Handled) × AreHandled packets (new_connection number flow) × (c ≡ behind_all number flow packets)
+      → AreHandled (packets_in programs i lines) (new_connection c.number c.flow) × (c ≡ behind_all c.number c.flow (packets_in programs i lines))
   pub connection : (n : Origin) (i : ℕ) (is_behind : Bool) (packet : PacketModel) (f : Header) (content : List ℕ) (c : Connection) (k : Known) → slice_get k.connections i ≡ Some c
-      → slice_get (after_in n i is_behind packet f content c k).connections i ≡ Some (with_handled (handled_by is_behind f (scene_behind n is_behind packet f content c k)) c)
-  pub given : (is_behind : Bool) (f : Header) (c : Connection) (s : Scene) → (due_in is_behind f c).given ≡ given_in is_behind (with_handled (handled_by is_behind f s) c)
+      → slice_get (after_in n i is_behind packet f content c k).connections i ≡ Some (with_handled (handled_in n is_behind packet f content c k) c)
+  pub given : (n : Origin) (is_behind : Bool) (packet : PacketModel) (f : Header) (content : List ℕ) (c : Connection) (s : Scene)
+      → (due_in is_behind f c).given ≡ given_in is_behind (with_handled (handled_by n is_behind packet f content s) c)
 
 -- the items of the flow behind that a packet acknowledges were read when it came, or are waited for no longer behind the 64th packet of
 -- the connection after it. Behind that packet no item that waits for no more than these comes next of its flow and is still kept. So an item
--- that comes next of its flow and is still kept came with a packet of the flow after which fewer than 64 packets of the connection came
+-- that comes next of its flow and is still kept came with a packet of the flow after which fewer than 64 packets of the connection came: in
+-- an input, with a packet of one of its lines, behind which fewer than 64 packets of the connection came in lines
 pub record NextItemsAreNotHeldLonger : Type 0 where
   pub packets : PacketsAreHandled
   pub waited : (number : ℕ) (flow : Flow) (before more : List Handled) (packet : Handled) (track : Track) (n : ℕ)
@@ -127,3 +184,7 @@ pub record NextItemsAreNotHeldLonger : Type 0 where
       → AreHandled packets (new_connection number flow) → (side_in is_behind (behind_all number flow packets)).track ≡ Some track
       → track.early ≡ early ∷ rest → early.number ≤ track.next
       → (came : CameWith is_behind packets (new_connection number flow) early.item) × (length came.more < most_waited)
+  pub lines : (programs : Programs) (lines : List (List ℕ)) (i : ℕ) (c : Connection) (is_behind : Bool) (track : Track) (early : Early) (rest : List Early)
+      → slice_get (known_of programs lines).connections i ≡ Some c → (side_in is_behind c).track ≡ Some track
+      → track.early ≡ early ∷ rest → early.number ≤ track.next
+      → (came : CameWith is_behind (packets_in programs i lines) (new_connection c.number c.flow) early.item) × (length came.more < most_waited)
