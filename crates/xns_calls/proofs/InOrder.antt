@@ -73,13 +73,31 @@ can_so track behind given early can =
 
 -- ---- what is read
 
-own_can : (given : Given) (own : Track) (other : Option Track) → next_turn given (Some own) other ≡ Some false → (early : Early) × CanBeRead own other given.other early
-own_can given own other is = by_lines (readable (Some own) other given.other) (readable other (Some own) given.own) refl is
+own_can : (given : Given) (own other : Option Track) → next_turn given own other ≡ Some false → (track : Track) × (own ≡ Some track) × (early : Early) × CanBeRead track other given.other early
+own_can given None other is = by_line (readable other None given.own) is
+  where
+    by_line : (b : Option ℕ) → first_line None b ≡ Some false → (track : Track) × (None ≡ Some track) × (early : Early) × CanBeRead track other given.other early
+    by_line None is = (cc)
+    by_line (Some b) is = (cc)
+own_can given (Some own) other is = let w = by_lines (readable (Some own) other given.other) (readable other (Some own) given.own) refl is in (own, refl, w.0, w.1)
   where
     by_lines : (a b : Option ℕ) → readable (Some own) other given.other ≡ a → first_line a b ≡ Some false → (early : Early) × CanBeRead own other given.other early
     by_lines None None at is = (cc)
     by_lines None (Some b) at is = (cc)
     by_lines (Some a) b at is = can_is own other given.other a at
+
+other_can : (given : Given) (own other : Option Track) → next_turn given own other ≡ Some true → (track : Track) × (other ≡ Some track) × (early : Early) × CanBeRead track own given.own early
+other_can given own None is = by_line (readable own None given.other) is
+  where
+    by_line : (a : Option ℕ) → first_line a None ≡ Some true → (track : Track) × (None ≡ Some track) × (early : Early) × CanBeRead track own given.own early
+    by_line None is = (cc)
+    by_line (Some a) is = (cc)
+other_can given own (Some other) is = let w = by_lines (readable own (Some other) given.other) (readable (Some other) own given.own) refl is in (other, refl, w.0, w.1)
+  where
+    by_lines : (a b : Option ℕ) → readable (Some other) own given.own ≡ b → first_line a b ≡ Some true → (early : Early) × CanBeRead other own given.own early
+    by_lines None None at is = (cc)
+    by_lines (Some a) None at is = (cc)
+    by_lines a (Some b) at is = can_is other own given.own b at
 
 turn_first : (given : Given) (own other : Track) (a b : Early) → CanBeRead own (Some other) given.other a → CanBeRead other (Some own) given.own b
     → next_turn given (Some own) (Some other) ≡ Some (nat_lt b.item.line a.item.line)
@@ -118,17 +136,26 @@ pub settled_left : (h : Heading) (given : Given) (s : Scene) → next_turn given
 unfolding settled
 settled_left h given s = times_left (count s) h given s (omega arith)
 
-no_turn : (a b : Option ℕ) (line : ℕ) → a ≡ Some line → first_line a b ≡ None → ⊥
-no_turn None b line at is = (cc)
+no_turn : (a b : Option ℕ) (line : ℕ) → (a ≡ Some line) ⊎ (b ≡ Some line) → first_line a b ≡ None → ⊥
+no_turn None None line (inl at) is = (cc)
+no_turn None None line (inr at) is = (cc)
+no_turn None (Some b) line at is = (cc)
 no_turn (Some a) None line at is = (cc)
 no_turn (Some a) (Some b) line at is = (cc)
 
-nothing_left : (h : Heading) (given : Given) (s : Scene) (track : Track) (early : Early) → (settled h given s).own.track ≡ Some track
+own_left_none : (h : Heading) (given : Given) (s : Scene) (track : Track) (early : Early) → (settled h given s).own.track ≡ Some track
     → CanBeRead track (settled h given s).other.track given.other early → ⊥
-nothing_left h given s track early at can =
+own_left_none h given s track early at can =
     let u = settled h given s in
     no_turn (readable u.own.track u.other.track given.other) (readable u.other.track u.own.track given.own) early.item.line
-    (ap (λ o. readable o u.other.track given.other) at ∙ can_so track u.other.track given.other early can) (settled_left h given s)
+    (inl (ap (λ o. readable o u.other.track given.other) at ∙ can_so track u.other.track given.other early can)) (settled_left h given s)
+
+other_left_none : (h : Heading) (given : Given) (s : Scene) (track : Track) (early : Early) → (settled h given s).other.track ≡ Some track
+    → CanBeRead track (settled h given s).own.track given.own early → ⊥
+other_left_none h given s track early at can =
+    let u = settled h given s in
+    no_turn (readable u.own.track u.other.track given.other) (readable u.other.track u.own.track given.own) early.item.line
+    (inr (ap (λ o. readable o u.own.track given.own) at ∙ can_so track u.own.track given.own early can)) (settled_left h given s)
 
 all_ended : (h : Heading) (s : Scene) (track : Track) → ((both_ended h s).own.track ≡ Some track) ⊎ ((both_ended h s).other.track ≡ Some track) → track.early ≡ []
 all_ended h s track (inl at) = own_left track (both_ended h s).own.track (both_ended h s).other.track at (both_left h s)
@@ -137,10 +164,12 @@ all_ended h s track (inr at) = other_left track (both_ended h s).own.track (both
 pub in_turn : KeptItemsAreReadInTurn
 in_turn = record {
   can = own_can;
+  can_behind = other_can;
   first = λ given own other a b can can'. (
     λ lt. turn_first given own other a b can can' ∙ ap Some (lt_true b.item.line a.item.line lt),
     λ le. turn_first given own other a b can can' ∙ ap Some (lt_false b.item.line a.item.line le),
   );
-  left = nothing_left;
+  left = own_left_none;
+  left_behind = other_left_none;
   ended = all_ended;
 }

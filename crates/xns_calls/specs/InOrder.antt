@@ -24,15 +24,19 @@ pub record CanBeRead (track : Track) (behind : Option Track) (given : ℕ) (earl
   pub next : early.number ≤ track.next
   pub free : IsFree behind given early.item.acknowledged
 
--- an item is read only where it can be; of two that can be, the one that was captured first is read first; what is still kept then can't be
--- read; and at the end of the input nothing is still kept
+-- an item is read only where it can be: of a flow, or of the one behind it; of two that can be, the one that was captured first is read first;
+-- what is still kept then can't be read, of neither flow; and at the end of the input nothing is still kept
 pub record KeptItemsAreReadInTurn : Type 0 where
-  pub can : (given : Given) (own : Track) (other : Option Track) → next_turn given (Some own) other ≡ Some false
-      → (early : Early) × CanBeRead own other given.other early
+  pub can : (given : Given) (own other : Option Track) → next_turn given own other ≡ Some false
+      → (track : Track) × (own ≡ Some track) × (early : Early) × CanBeRead track other given.other early
+  pub can_behind : (given : Given) (own other : Option Track) → next_turn given own other ≡ Some true
+      → (track : Track) × (other ≡ Some track) × (early : Early) × CanBeRead track own given.own early
   pub first : (given : Given) (own other : Track) (a b : Early) → CanBeRead own (Some other) given.other a → CanBeRead other (Some own) given.own b
       → (b.item.line < a.item.line → next_turn given (Some own) (Some other) ≡ Some true)
       × (a.item.line ≤ b.item.line → next_turn given (Some own) (Some other) ≡ Some false)
   pub left : (h : Heading) (given : Given) (s : Scene) (track : Track) (early : Early) → (settled h given s).own.track ≡ Some track
       → CanBeRead track (settled h given s).other.track given.other early → ⊥
+  pub left_behind : (h : Heading) (given : Given) (s : Scene) (track : Track) (early : Early) → (settled h given s).other.track ≡ Some track
+      → CanBeRead track (settled h given s).own.track given.own early → ⊥
   pub ended : (h : Heading) (s : Scene) (track : Track) → ((both_ended h s).own.track ≡ Some track) ⊎ ((both_ended h s).other.track ≡ Some track)
       → track.early ≡ []

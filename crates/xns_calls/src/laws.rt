@@ -57,8 +57,8 @@ pub fn acknowledgements_wait()
 {}
 
 /// An item that is kept is read only where it comes next, and where the items of the other flow that its packet acknowledges were read or
-/// are waited for no longer. Of two that can be read, one of each flow, the one that was captured first is read first. What is still kept
-/// behind a packet can't be read, and nothing is still kept behind the end of the input.
+/// are waited for no longer. That holds of both flows of a connection. Of two that can be read, one of each flow, the one that was captured
+/// first is read first. What is still kept behind a packet can't be read, of neither flow, and nothing is still kept behind the end of the input.
 pub fn kept_items_are_read_in_turn()
     ensures { KeptItemsAreReadInTurn }
 {}
