@@ -11,7 +11,7 @@ use Rattle.courier_messages.specs.Text.{written}
 use Rattle.xns_lines.specs.Lines.{lines_of}
 use Rattle.xns_dump.specs.Laws.{FlowsAreToldApart}
 use Rattle.xns_calls.specs.Naming.{Programs}
-use Rattle.xns_calls.specs.Calls.{calls_text, end_count, known_from, known_of, known_with_end, line_taken, nothing_known, text_of, text_with_end}
+use Rattle.xns_calls.specs.Calls.{calls_text, end_count, known_of, known_with_end, nothing_known, text_of, text_with_end}
 use Rattle.xns_calls.specs.Capture.{Known, after_end, ended_there, heading_at, scene_in, with_scene}
 use Rattle.xns_calls.specs.Events.{Event, after_event, after_events, meanwhile}
 use Rattle.xns_calls.specs.AtEnd.{both_ended}
@@ -32,7 +32,7 @@ use Rattle.xns_calls.proofs.Begun.{IsAt, IsGone, IsOn, still}
 use Rattle.xns_calls.proofs.Happenings.{gone_set, other_place}
 use Rattle.xns_calls.proofs.LastKept.{AreAcks, AreBelow}
 use Rattle.xns_calls.proofs.Onwards.{Says}
-use Rattle.xns_calls.proofs.Inputs.{from_front, numbered_line}
+use Rattle.xns_calls.proofs.Inputs.{from_front, numbered_from}
 use Rattle.xns_calls.proofs.Parts.{flow_at, joined_own, number_tells, plain, plain_whole}
 use Rattle.xns_calls.proofs.Numbered.{AllKeep, IsNumbered, numbered_none, numbered_set}
 use Rattle.xns_calls.proofs.Others.{get_same, get_set}
@@ -243,11 +243,6 @@ module _ (programs : Programs) where
   goes_on items m b start line lines first begun (suc part) =
       goes_one (line_origin programs (length lines)) items m b start line (text_with_end programs lines part) (known_with_end programs lines part) (end_count programs lines) part first
       (goes_on items m b start line lines first begun part)
-
-  -- the connections of all lines
-  pub numbered_from : (n : ℕ) (k : Known) (lines : List (List ℕ)) → IsNumbered k.connections k.count → IsNumbered (known_from programs n k lines).connections (known_from programs n k lines).count
-  numbered_from n k [] numbered = numbered
-  numbered_from n k (line ∷ lines) numbered = numbered_from (n + 1) (line_taken programs n line k) lines (numbered_line programs n k line numbered)
 
 pub none_at_first : (m : ℕ) (b : Bool) → AllKeep m b [] None
 none_at_first m b i c there is = (cc)

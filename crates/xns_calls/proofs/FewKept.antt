@@ -21,7 +21,8 @@ use Rattle.xns_calls.specs.declared.heading.Heading.{Heading}
 use Rattle.xns_calls.specs.declared.track.Track.{Track}
 use Rattle.xns_calls.proofs.Begun.{IsOn}
 use Rattle.xns_calls.proofs.Comparing.{by_test}
-use Rattle.xns_calls.proofs.Endings.{none_at_first, numbered_from}
+use Rattle.xns_calls.proofs.Endings.{none_at_first}
+use Rattle.xns_calls.proofs.Inputs.{numbered_from}
 use Rattle.xns_calls.proofs.FirstLines.{lines_awaited, lines_met}
 use Rattle.xns_calls.proofs.Happenings.{side_track}
 use Rattle.xns_calls.proofs.Known.{early, event_ordered, events_ordered, kept_cases, new_ordered, with_item}

@@ -19,7 +19,7 @@ use Rattle.xns_calls.specs.Reading.{Told}
 use Rattle.xns_calls.specs.Whole.{flow_text}
 use Rattle.xns_calls.specs.declared.connection.Connection.{Connection}
 use Rattle.xns_calls.specs.declared.heading.Heading.{Heading}
-use Rattle.xns_calls.proofs.Numbered.{IsNumbered, numbered_sequenced}
+use Rattle.xns_calls.proofs.Numbered.{IsNumbered, Stays, numbered_stays, sequenced_holds}
 use Rattle.xns_calls.specs.declared.origin.Origin.{Origin}
 use Rattle.xns_calls.specs.Origins.{line_origin}
 use Rattle.xns_calls.proofs.Whole.{after_append}
@@ -68,12 +68,25 @@ module _ (programs : Programs) where
       (λ x. sequenced_step plain (line_origin programs n) m b x.0 x.1 x.2 k t numbered on)
       line
 
+  -- what holds with each packet holds with each line
+  line_holds : (P : List Connection → ℕ → Type 0) (stays : Stays P) (n : ℕ) (k : Known) (line : List ℕ) → P k.connections k.count → P (line_taken programs n line k).connections (line_taken programs n line k).count
+  line_holds P stays n k line w =
+      line_is (λ k' o. P k'.connections k'.count) n (record k { text = [] }) (λ part none. w) w
+      (λ x. sequenced_holds P stays (line_origin programs n) x.0 x.1 x.2 (record k { text = [] }) w)
+      line
+
+  pub lines_hold : (P : List Connection → ℕ → Type 0) (stays : Stays P) (n : ℕ) (k : Known) (lines : List (List ℕ)) → P k.connections k.count
+      → P (known_from programs n k lines).connections (known_from programs n k lines).count
+  lines_hold P stays n k [] w = w
+  lines_hold P stays n k (line ∷ lines) w = lines_hold P stays (n + 1) (line_taken programs n line k) lines (line_holds P stays n k line w)
+
   -- each line leaves each connection a number of its own
   pub numbered_line : (n : ℕ) (k : Known) (line : List ℕ) → IsNumbered k.connections k.count → IsNumbered (line_taken programs n line k).connections (line_taken programs n line k).count
-  numbered_line n k line numbered =
-      line_is (λ k' o. IsNumbered k'.connections k'.count) n (record k { text = [] }) (λ part none. numbered) numbered
-      (λ x. numbered_sequenced (line_origin programs n) x.0 x.1 x.2 (record k { text = [] }) numbered)
-      line
+  numbered_line n k line numbered = line_holds IsNumbered numbered_stays n k line numbered
+
+  -- the connections of all lines
+  pub numbered_from : (n : ℕ) (k : Known) (lines : List (List ℕ)) → IsNumbered k.connections k.count → IsNumbered (known_from programs n k lines).connections (known_from programs n k lines).count
+  numbered_from n k lines numbered = lines_hold IsNumbered numbered_stays n k lines numbered
 
 -- ---- all lines, once the flow has begun
 

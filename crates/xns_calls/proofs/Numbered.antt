@@ -145,49 +145,74 @@ pub same_number : (b : Bool) (s : Scene) (c : Connection) → (with_scene b s c)
 same_number true s c = refl
 same_number false s c = refl
 
-pub numbered_settled : (n : Origin) (i : ℕ) (q : Bool) (k : Known) → AreNumbered k → AreNumbered (settled_at n i q k)
-unfolding settled_at
-numbered_settled n i q k w = by_connection (slice_get k.connections i) refl
-  where
-    by_connection : (o : Option Connection) → slice_get k.connections i ≡ o → AreNumbered (settled_there n i q o k)
-    by_connection None there = w
-    by_connection (Some c) there = numbered_set k.connections k.count i c _ w there (same_number q _ c)
-
 pub numbered_taken : (n : Origin) (i : ℕ) (q : Bool) (packet : PacketModel) (f : Header) (content : List ℕ) (c : Connection) (k : Known) → slice_get k.connections i ≡ Some c → AreNumbered k
     → AreNumbered (taken_in n i q packet f content c k)
 numbered_taken n i q packet f content c k there w = numbered_set k.connections k.count i c _ w there (scene_number q _ f c)
 
-numbered_there : (n : Origin) (i : ℕ) (flow : Flow) (packet : PacketModel) (f : Header) (content : List ℕ) (o : Option Connection) (k : Known) → slice_get k.connections i ≡ o → AreNumbered k
-    → AreNumbered (after_there n i flow packet f content o k)
-numbered_there n i flow packet f content None k there w = w
-numbered_there n i flow packet f content (Some c) k there w =
-    let q = is_behind_in flow c in
-    let told = repeats_told n q f c k in
-    numbered_settled n i q (taken_in n i q packet f content c told) (numbered_taken n i q packet f content c told there w)
+-- what holds of the connections and their count with each packet: where one of them changes, but for its number and its flow, where one begins
+-- in its place, and where one begins behind them
+pub record Stays (P : List Connection → ℕ → Type 0) : Type 0 where
+  pub set : (cs : List Connection) (n i : ℕ) (c c' : Connection) → P cs n → slice_get cs i ≡ Some c → c'.number ≡ c.number → c'.flow ≡ c.flow → P (slice_set cs i c') n
+  pub anew : (cs : List Connection) (n i : ℕ) (flow : Flow) → P cs n → P (slice_set cs i (new_connection (n + 1) flow)) (n + 1)
+  pub more : (cs : List Connection) (n : ℕ) (flow : Flow) → P cs n → P (cs ++ new_connection (n + 1) flow ∷ []) (n + 1)
 
-numbered_at : (n : Origin) (i : ℕ) (flow : Flow) (packet : PacketModel) (f : Header) (content : List ℕ) (k : Known) → AreNumbered k → AreNumbered (after_at n i flow packet f content k)
-unfolding after_at
-numbered_at n i flow packet f content k w = numbered_there n i flow packet f content (slice_get k.connections i) k refl w
+pub numbered_stays : Stays IsNumbered
+numbered_stays = record {
+  set = λ cs n i c c' w there number flow. numbered_set cs n i c c' w there number;
+  anew = λ cs n i flow w. numbered_renewed cs n i (new_connection (n + 1) flow) w refl;
+  more = λ cs n flow w. numbered_more cs n (new_connection (n + 1) flow) w refl;
+}
 
-numbered_place : (n : Origin) (flow : Flow) (packet : PacketModel) (f : Header) (content : List ℕ) (o : Option ℕ) (k : Known) → AreNumbered k → AreNumbered (after_place n flow packet f content o k)
-unfolding renewed
-numbered_place n flow packet f content (Some i) k w = numbered_at n i flow packet f content (renewed n i flow f k) (by_connection (slice_get k.connections i))
-  where
-    by_anew : (c : Connection) (p : Bool) → AreNumbered (cond p (forgotten n i flow c k) k)
-    by_anew c true = numbered_renewed k.connections k.count i (new_connection (k.count + 1) flow) w refl
-    by_anew c false = w
+scene_flow : (b : Bool) (s : Scene) (f : Header) (c : Connection) → (with_scene b s (noted b f c)).flow ≡ c.flow
+scene_flow true s f c = refl
+scene_flow false s f c = refl
 
-    by_connection : (o : Option Connection) → AreNumbered (renewed_there n i flow f o k)
-    by_connection None = w
-    by_connection (Some c) = by_anew c (begins_anew f c)
-numbered_place n flow packet f content None k w = by_system (is_system f)
-  where
-    by_system : (p : Bool) → AreNumbered (cond p k (after_at n (length k.connections) flow packet f content (with_new flow k)))
-    by_system true = w
-    by_system false =
-        numbered_at n (length k.connections) flow packet f content (with_new flow k) (numbered_more k.connections k.count (new_connection (k.count + 1) flow) w refl)
+same_flow : (b : Bool) (s : Scene) (c : Connection) → (with_scene b s c).flow ≡ c.flow
+same_flow true s c = refl
+same_flow false s c = refl
 
-pub numbered_sequenced : (n : Origin) (packet : PacketModel) (f : Header) (content : List ℕ) (k : Known) → IsNumbered k.connections k.count
-    → IsNumbered (after_sequenced n packet f content k).connections (after_sequenced n packet f content k).count
-unfolding after_sequenced
-numbered_sequenced n packet f content k w = numbered_place n (flow_of packet f) packet f content (place_of (flow_of packet f) k.connections) k w
+module _ (P : List Connection → ℕ → Type 0) (stays : Stays P) where
+  abbrev Holds : Known → Type 0
+  Holds k = P k.connections k.count
+
+  settled_holds : (n : Origin) (i : ℕ) (q : Bool) (k : Known) → Holds k → Holds (settled_at n i q k)
+  unfolding settled_at
+  settled_holds n i q k w = by_connection (slice_get k.connections i) refl
+    where
+      by_connection : (o : Option Connection) → slice_get k.connections i ≡ o → Holds (settled_there n i q o k)
+      by_connection None there = w
+      by_connection (Some c) there = stays.set k.connections k.count i c _ w there (same_number q _ c) (same_flow q _ c)
+
+  there_holds : (n : Origin) (i : ℕ) (flow : Flow) (packet : PacketModel) (f : Header) (content : List ℕ) (o : Option Connection) (k : Known) → slice_get k.connections i ≡ o → Holds k
+      → Holds (after_there n i flow packet f content o k)
+  there_holds n i flow packet f content None k there w = w
+  there_holds n i flow packet f content (Some c) k there w =
+      let q = is_behind_in flow c in
+      let told = repeats_told n q f c k in
+      settled_holds n i q (taken_in n i q packet f content c told) (stays.set k.connections k.count i c _ w there (scene_number q _ f c) (scene_flow q _ f c))
+
+  at_holds : (n : Origin) (i : ℕ) (flow : Flow) (packet : PacketModel) (f : Header) (content : List ℕ) (k : Known) → Holds k → Holds (after_at n i flow packet f content k)
+  unfolding after_at
+  at_holds n i flow packet f content k w = there_holds n i flow packet f content (slice_get k.connections i) k refl w
+
+  place_holds : (n : Origin) (flow : Flow) (packet : PacketModel) (f : Header) (content : List ℕ) (o : Option ℕ) (k : Known) → Holds k → Holds (after_place n flow packet f content o k)
+  unfolding renewed
+  place_holds n flow packet f content (Some i) k w = at_holds n i flow packet f content (renewed n i flow f k) (by_connection (slice_get k.connections i))
+    where
+      by_anew : (c : Connection) (p : Bool) → Holds (cond p (forgotten n i flow c k) k)
+      by_anew c true = stays.anew k.connections k.count i flow w
+      by_anew c false = w
+
+      by_connection : (o : Option Connection) → Holds (renewed_there n i flow f o k)
+      by_connection None = w
+      by_connection (Some c) = by_anew c (begins_anew f c)
+  place_holds n flow packet f content None k w = by_system (is_system f)
+    where
+      by_system : (p : Bool) → Holds (cond p k (after_at n (length k.connections) flow packet f content (with_new flow k)))
+      by_system true = w
+      by_system false = at_holds n (length k.connections) flow packet f content (with_new flow k) (stays.more k.connections k.count flow w)
+
+  pub sequenced_holds : (n : Origin) (packet : PacketModel) (f : Header) (content : List ℕ) (k : Known) → P k.connections k.count
+      → P (after_sequenced n packet f content k).connections (after_sequenced n packet f content k).count
+  unfolding after_sequenced
+  sequenced_holds n packet f content k w = place_holds n (flow_of packet f) packet f content (place_of (flow_of packet f) k.connections) k w

@@ -141,13 +141,21 @@ OtherConnectionsStay = (n : Origin) (packet : PacketModel) (f : Header) (content
     → place_of (flow_of packet f) k.connections ≢ Some i
     → slice_get (after_sequenced n packet f content k).connections i ≡ slice_get k.connections i
 
--- behind whatever lines, the connections that are kept have numbers of their own, up to the number of those that have begun
+-- among these connections, one of the same number and the same flow stands at the place of this one
+abbrev pub WasThere : List Connection → ℕ → Connection → Type 0
+WasThere old i c = (before : Connection) × (slice_get old i ≡ Some before) × (before.number ≡ c.number) × (before.flow ≡ c.flow)
+
+-- behind whatever lines, the connections that are kept have numbers of their own, up to the number of those that have begun; a number that
+-- was given is never given again: whatever lines come, a connection that has it then was there, at its place
 pub record ConnectionsHaveNumbers : Type 0 where
   pub below : (programs : Programs) (lines : List (List ℕ)) (i : ℕ) (c : Connection)
       → slice_get (known_of programs lines).connections i ≡ Some c → c.number ≤ (known_of programs lines).count
   pub own : (programs : Programs) (lines : List (List ℕ)) (i j : ℕ) (c d : Connection)
       → slice_get (known_of programs lines).connections i ≡ Some c → slice_get (known_of programs lines).connections j ≡ Some d
       → c.number ≡ d.number → i ≡ j
+  pub once : (programs : Programs) (lines more : List (List ℕ)) (i : ℕ) (c : Connection)
+      → slice_get (known_of programs (lines ++ more)).connections i ≡ Some c → c.number ≤ (known_of programs lines).count
+      → WasThere (known_of programs lines).connections i c
 
 -- a connection of which no flow has an item of datastream 255, EndReply, keeps its place and its number, whatever comes: it begins never anew
 abbrev pub LivingConnectionsAreKept : Type 0

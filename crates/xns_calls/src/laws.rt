@@ -137,8 +137,9 @@ pub fn other_connections_stay()
     ensures { OtherConnectionsStay }
 {}
 
-/// The connections that are kept have numbers of their own, up to the number of those that have begun. So the name of a flow in
-/// the text says which connection it is of.
+/// The connections that are kept have numbers of their own, up to the number of those that have begun. A number that was given is never given
+/// again: whatever lines come, a connection that has it then was there, at the same place and of the same ends. So the name of a flow in the
+/// text says which connection it is of.
 pub fn connections_have_numbers()
     ensures { ConnectionsHaveNumbers }
 {}
