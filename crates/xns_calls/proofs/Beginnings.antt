@@ -19,6 +19,7 @@ use Rattle.xns_calls.specs.Over.{side_in}
 use Rattle.xns_calls.specs.Repeats.{tells_repeats}
 use Rattle.xns_calls.specs.Texts.{flow_line}
 use Rattle.xns_calls.specs.declared.connection.Connection.{Connection}
+use Rattle.xns_calls.proofs.AtLines.{both_at}
 use Rattle.xns_calls.proofs.Whole.{after_append}
 use Rattle.xns_calls.proofs.EndReads.{ends_say, other_ends_rest, own_ends_rest}
 use Rattle.xns_calls.proofs.Fits.{Fits, fits_on}
@@ -97,7 +98,7 @@ joined_text : (a b c : List ℕ) (xs ys : List Part) → b ≡ a ++ parts_text x
 joined_text a b c xs ys e f =
     f ∙ ap (λ z. z ++ parts_text ys) e ∙ append_assoc a (parts_text xs) (parts_text ys) ∙ ap (λ z. a ++ z) (sym (flat_map-append part_text xs ys))
 
-met_settled : (n : Origin) (m i : ℕ) (b q : Bool) (before : List ℕ) (k : Known) (xs : List Event) (field : Option ℕ) → IsNumbered k.connections k.count → Met m b before k xs field → Met m b before (settled_at n i q k) xs field
+met_settled : (n : Origin) (m i : ℕ) (b q : Bool) (before : List ℕ) (k : Known) (xs : List Event) (field : Option ℕ) → IsNumbered k.connections k.count → Met n m b before k xs field → Met n m b before (settled_at n i q k) xs field
 met_settled n m i b q before k xs field numbered (inl w) =
     let v = settled_waits n m i b q k w.none in inl (record {
       none = v.none;
@@ -116,6 +117,7 @@ met_settled n m i b q before k xs field numbered (inr w) =
       track = w.track;
       events = w.events ++ v.events;
       are = subst (λ es. Fits es (plain (w.events ++ v.events))) (append-nil xs) (fits_on xs [] w.events v.events w.are v.are);
+      at = both_at (heading_at n m b) w.events v.events w.at v.at;
       stands = subst (IsOn m b (settled_at n i q k)) (sym (after_append w.events v.events w.start)) v.stands;
       heading = w.heading;
       packet = w.packet;
@@ -126,8 +128,8 @@ met_settled n m i b q before k xs field numbered (inr w) =
     })
 
 -- one step behind another
-met_behind : (m : ℕ) (b : Bool) (before : List ℕ) (k k' : Known) (xs ys : List Event) (field : Option ℕ) → Awaits m b before k xs None → Met m b k.text k' ys field → Met m b before k' (xs ++ ys) field
-met_behind m b before k k' xs ys field w (inl v) = inl (record {
+met_behind : (n : Origin) (m : ℕ) (b : Bool) (before : List ℕ) (k k' : Known) (xs ys : List Event) (field : Option ℕ) → Awaits m b before k xs None → Met n m b k.text k' ys field → Met n m b before k' (xs ++ ys) field
+met_behind n m b before k k' xs ys field w (inl v) = inl (record {
   none = v.none;
   nothing = ap (λ z. z ++ ys) w.nothing ∙ v.nothing;
   later = v.later;
@@ -135,13 +137,14 @@ met_behind m b before k k' xs ys field w (inl v) = inl (record {
   text = joined_text before k.text k'.text w.parts v.parts w.text v.text;
   own = flat_map-append (text_in (flow_at m b)) w.parts v.parts ∙ ap (λ z. z ++ texts_in (flow_at m b) v.parts) w.own ∙ v.own;
 })
-met_behind m b before k k' xs ys field w (inr v) = inr (record {
+met_behind n m b before k k' xs ys field w (inr v) = inr (record {
   first = v.first;
   has = v.has;
   start = v.start;
   track = v.track;
   events = v.events;
   are = subst (λ es. Fits es (plain v.events)) (sym (ap (λ z. z ++ ys) w.nothing)) v.are;
+  at = v.at;
   stands = v.stands;
   heading = v.heading;
   packet = v.packet;
@@ -165,23 +168,23 @@ repeats_wait n m b q f c k all =
     }
 
 at_meets : (n : Origin) (m i : ℕ) (b q : Bool) (packet : PacketModel) (f : Header) (content : List ℕ) (c : Connection) (k : Known) → IsNumbered k.connections k.count → slice_get k.connections i ≡ Some c → AllKeep m b k.connections None
-    → Met m b k.text (after_in n i q packet f content c k) (events_between (flow_at m b) (flow_at c.number q) (heading_at n m b) f content (acknowledged_in q f c) (side_in b c).track (due_of b c)) (field_between (flow_at m b) (flow_at c.number q) f)
+    → Met n m b k.text (after_in n i q packet f content c k) (events_between (flow_at m b) (flow_at c.number q) (heading_at n m b) f content (acknowledged_in q f c) (side_in b c).track (due_of b c)) (field_between (flow_at m b) (flow_at c.number q) f)
 at_meets n m i b q packet f content c k numbered there all =
     let told = repeats_told n q f c k in
     let k' = taken_in n i q packet f content c told in
-    met_behind m b k.text told (settled_at n i q k') [] _ _ (repeats_wait n m b q f c k all)
+    met_behind n m b k.text told (settled_at n i q k') [] _ _ (repeats_wait n m b q f c k all)
     (met_settled n m i b q told.text k' _ _ (numbered_taken n i q packet f content c told there numbered) (taken_meets n m i b q packet f content c told there all))
 
 -- ---- where its connection stands
 
 fresh_meets : IsPlain → (n : Origin) (m i : ℕ) (b : Bool) (flow : Flow) (packet : PacketModel) (f : Header) (content : List ℕ) (number : ℕ) (k : Known) → IsNumbered k.connections k.count → slice_get k.connections i ≡ Some (new_connection number flow) → AllKeep m b k.connections None
-    → Met m b k.text (after_at n i flow packet f content k) (events_between (flow_at m b) (flow_at number false) (heading_at n m b) f content None None None) (field_between (flow_at m b) (flow_at number false) f)
+    → Met n m b k.text (after_at n i flow packet f content k) (events_between (flow_at m b) (flow_at number false) (heading_at n m b) f content None None None) (field_between (flow_at m b) (flow_at number false) f)
 fresh_meets plain_places n m i b flow packet f content number k numbered there all =
     let c = new_connection number flow in
-    subst (λ k'. Met m b k.text k' (events_between (flow_at m b) (flow_at number false) (heading_at n m b) f content None None None) (field_between (flow_at m b) (flow_at number false) f)) (sym (new_there plain_places n i flow packet f content number k there))
-    (subst (λ o. Met m b k.text (after_in n i false packet f content c k) (events_between (flow_at m b) (flow_at number false) (heading_at n m b) f content None None o) (field_between (flow_at m b) (flow_at number false) f)) (none_due b number flow)
-    (subst (λ o. Met m b k.text (after_in n i false packet f content c k) (events_between (flow_at m b) (flow_at number false) (heading_at n m b) f content None o (due_of b c)) (field_between (flow_at m b) (flow_at number false) f)) (none_new b number flow)
-    (subst (λ o. Met m b k.text (after_in n i false packet f content c k) (events_between (flow_at m b) (flow_at number false) (heading_at n m b) f content o (side_in b c).track (due_of b c)) (field_between (flow_at m b) (flow_at number false) f)) (none_acknowledged false f number flow)
+    subst (λ k'. Met n m b k.text k' (events_between (flow_at m b) (flow_at number false) (heading_at n m b) f content None None None) (field_between (flow_at m b) (flow_at number false) f)) (sym (new_there plain_places n i flow packet f content number k there))
+    (subst (λ o. Met n m b k.text (after_in n i false packet f content c k) (events_between (flow_at m b) (flow_at number false) (heading_at n m b) f content None None o) (field_between (flow_at m b) (flow_at number false) f)) (none_due b number flow)
+    (subst (λ o. Met n m b k.text (after_in n i false packet f content c k) (events_between (flow_at m b) (flow_at number false) (heading_at n m b) f content None o (due_of b c)) (field_between (flow_at m b) (flow_at number false) f)) (none_new b number flow)
+    (subst (λ o. Met n m b k.text (after_in n i false packet f content c k) (events_between (flow_at m b) (flow_at number false) (heading_at n m b) f content o (side_in b c).track (due_of b c)) (field_between (flow_at m b) (flow_at number false) f)) (none_acknowledged false f number flow)
     (at_meets n m i b false packet f content c k numbered there all))))
 
 nothing_left : {A : Type 0} (p q : Bool) (x : A) → cond p (cond q x x) x ≡ x
@@ -195,11 +198,11 @@ no_events true false x none = refl
 no_events false q x none = refl
 
 new_meets : IsPlain → (n : Origin) (m : ℕ) (b : Bool) (flow : Flow) (packet : PacketModel) (f : Header) (content : List ℕ) (k : Known) → IsNumbered k.connections k.count → AllKeep m b k.connections None
-    → Met m b k.text (after_new_flow n flow packet f content k) (events_between (flow_at m b) (next_name k) (heading_at n m b) f content None None None) (field_between (flow_at m b) (next_name k) f)
+    → Met n m b k.text (after_new_flow n flow packet f content k) (events_between (flow_at m b) (next_name k) (heading_at n m b) f content None None None) (field_between (flow_at m b) (next_name k) f)
 new_meets plain_places n m b flow packet f content k numbered all = by_system (is_system f) refl
   where
     by_system : (p : Bool) → is_system f ≡ p
-        → Met m b k.text (cond p k (after_at n (length k.connections) flow packet f content (with_new flow k))) (events_between (flow_at m b) (next_name k) (heading_at n m b) f content None None None) (field_between (flow_at m b) (next_name k) f)
+        → Met n m b k.text (cond p k (after_at n (length k.connections) flow packet f content (with_new flow k))) (events_between (flow_at m b) (next_name k) (heading_at n m b) f content None None None) (field_between (flow_at m b) (next_name k) f)
     by_system true e =
         let h = heading_at n m b in
         let items = captured_event h (near (first_track f.sequence).next f.sequence) (carried h None f content) in
@@ -256,11 +259,11 @@ forget_waits n m i b flow c k there all = by_number (m == c.number) refl
         }
 
 place_meets : IsPlain → (n : Origin) (m i : ℕ) (b : Bool) (packet : PacketModel) (f : Header) (content : List ℕ) (c : Connection) (k : Known) → IsNumbered k.connections k.count → slice_get k.connections i ≡ Some c → AllKeep m b k.connections None
-    → Met m b k.text (after_at n i (flow_of packet f) packet f content (renewed n i (flow_of packet f) f k)) (events_there (flow_at m b) (heading_at n m b) (packet, f, content) (Some c) k)
+    → Met n m b k.text (after_at n i (flow_of packet f) packet f content (renewed n i (flow_of packet f) f k)) (events_there (flow_at m b) (heading_at n m b) (packet, f, content) (Some c) k)
     (field_there (flow_at m b) (packet, f, content) (Some c) k)
 unfolding renewed after_at
 place_meets plain_places n m i b packet f content c k numbered there all =
-    subst (λ o. Met m b k.text (after_at n i flow packet f content (renewed_there n i flow f o k)) (events_there (flow_at m b) (heading_at n m b) (packet, f, content) (Some c) k)
+    subst (λ o. Met n m b k.text (after_at n i flow packet f content (renewed_there n i flow f o k)) (events_there (flow_at m b) (heading_at n m b) (packet, f, content) (Some c) k)
     (field_there (flow_at m b) (packet, f, content) (Some c) k)) (sym there)
     (by_anew (begins_anew f c))
   where
@@ -268,34 +271,34 @@ place_meets plain_places n m i b packet f content c k numbered there all =
     flow = flow_of packet f
 
     by_anew : (p : Bool)
-        → Met m b k.text (after_at n i flow packet f content (cond p (forgotten n i flow c k) k))
+        → Met n m b k.text (after_at n i flow packet f content (cond p (forgotten n i flow c k) k))
         (cond p (ending_events (flow_at m b) (heading_at n m b) c ++ events_between (flow_at m b) (next_name k) (heading_at n m b) f content None None None)
         (events_between (flow_at m b) (name_in flow c) (heading_at n m b) f content (acknowledged_in (is_behind_in flow c) f c) (side_in b c).track (due_of b c)))
         (cond p (field_between (flow_at m b) (next_name k) f) (field_between (flow_at m b) (name_in flow c) f))
     by_anew true =
         let w = forget_waits n m i b flow c k there all in
-        met_behind m b k.text (forgotten n i flow c k) (after_at n i flow packet f content (forgotten n i flow c k)) (ending_events (flow_at m b) (heading_at n m b) c)
+        met_behind n m b k.text (forgotten n i flow c k) (after_at n i flow packet f content (forgotten n i flow c k)) (ending_events (flow_at m b) (heading_at n m b) c)
         (events_between (flow_at m b) (next_name k) (heading_at n m b) f content None None None) (field_between (flow_at m b) (next_name k) f) w
         (fresh_meets plain_places n m i b flow packet f content (k.count + 1) (forgotten n i flow c k) (numbered_renewed k.connections k.count i (new_connection (k.count + 1) flow) numbered refl) (get_same k.connections i c (new_connection (k.count + 1) flow) there) w.none)
     by_anew false = there_meets
       where
-        there_meets : Met m b k.text (after_at n i flow packet f content k) (events_between (flow_at m b) (name_in flow c) (heading_at n m b) f content (acknowledged_in (is_behind_in flow c) f c) (side_in b c).track (due_of b c)) (field_between (flow_at m b) (name_in flow c) f)
+        there_meets : Met n m b k.text (after_at n i flow packet f content k) (events_between (flow_at m b) (name_in flow c) (heading_at n m b) f content (acknowledged_in (is_behind_in flow c) f c) (side_in b c).track (due_of b c)) (field_between (flow_at m b) (name_in flow c) f)
         there_meets =
-            subst (λ o. Met m b k.text (after_there n i flow packet f content o k) (events_between (flow_at m b) (name_in flow c) (heading_at n m b) f content (acknowledged_in (is_behind_in flow c) f c) (side_in b c).track (due_of b c)) (field_between (flow_at m b) (name_in flow c) f)) (sym there)
+            subst (λ o. Met n m b k.text (after_there n i flow packet f content o k) (events_between (flow_at m b) (name_in flow c) (heading_at n m b) f content (acknowledged_in (is_behind_in flow c) f c) (side_in b c).track (due_of b c)) (field_between (flow_at m b) (name_in flow c) f)) (sym there)
             (at_meets n m i b (is_behind_in flow c) packet f content c k numbered there all)
 
 pub sequenced_meets : IsPlain → (n : Origin) (m : ℕ) (b : Bool) (packet : PacketModel) (f : Header) (content : List ℕ) (k : Known) → IsNumbered k.connections k.count → AllKeep m b k.connections None
-    → Met m b k.text (after_sequenced n packet f content k) (events_there (flow_at m b) (heading_at n m b) (packet, f, content) (connection_of packet f k.connections) k)
+    → Met n m b k.text (after_sequenced n packet f content k) (events_there (flow_at m b) (heading_at n m b) (packet, f, content) (connection_of packet f k.connections) k)
     (field_there (flow_at m b) (packet, f, content) (connection_of packet f k.connections) k)
 unfolding after_sequenced
 sequenced_meets plain_places n m b packet f content k numbered all = by_place (place_of (flow_of packet f) k.connections) refl
   where
     by_place : (o : Option ℕ) → place_of (flow_of packet f) k.connections ≡ o
-        → Met m b k.text (after_place n (flow_of packet f) packet f content o k) (events_there (flow_at m b) (heading_at n m b) (packet, f, content) (connection_at o k.connections) k)
+        → Met n m b k.text (after_place n (flow_of packet f) packet f content o k) (events_there (flow_at m b) (heading_at n m b) (packet, f, content) (connection_at o k.connections) k)
         (field_there (flow_at m b) (packet, f, content) (connection_at o k.connections) k)
     by_place (Some i) at =
         let w = place_there (flow_of packet f) k.connections i at in
-        subst (λ o. Met m b k.text (after_at n i (flow_of packet f) packet f content (renewed n i (flow_of packet f) f k)) (events_there (flow_at m b) (heading_at n m b) (packet, f, content) o k)
+        subst (λ o. Met n m b k.text (after_at n i (flow_of packet f) packet f content (renewed n i (flow_of packet f) f k)) (events_there (flow_at m b) (heading_at n m b) (packet, f, content) o k)
         (field_there (flow_at m b) (packet, f, content) o k)) (sym w.1)
         (place_meets plain_places n m i b packet f content w.0 k numbered w.1 all)
     by_place None at = new_meets plain_places n m b (flow_of packet f) packet f content k numbered all

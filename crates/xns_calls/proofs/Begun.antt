@@ -4,17 +4,19 @@ use Rattle.std.specs.Prelude.{not, slice_get}
 use Rattle.std.proofs.lemmas.Grind.{flat_map-append}
 use Rattle.xns_spp.specs.declared.header.Header.{Header}
 use Rattle.xns_calls.specs.Acknowledged.{noted}
-use Rattle.xns_calls.specs.Capture.{Known, after_scene, scene_in, with_scene}
+use Rattle.xns_calls.specs.Capture.{Known, after_scene, heading_at, scene_in, with_scene}
 use Rattle.xns_calls.specs.Events.{Event, after_events, meanwhile, with_others}
 use Rattle.xns_calls.specs.Exchange.{Scene, seen_from_other, told_of}
 use Rattle.xns_calls.specs.Input.{Part, part_text, parts_text, text_in, texts_in}
 use Rattle.xns_calls.specs.Reading.{Told}
 use Rattle.xns_calls.specs.Whole.{flow_text}
 use Rattle.xns_calls.specs.declared.connection.Connection.{Connection}
+use Rattle.xns_calls.specs.declared.origin.Origin.{Origin}
 use Rattle.xns_calls.proofs.Fits.{Fits, fits, fits_on}
 use Rattle.xns_calls.proofs.Ordered.{IsOrdered}
 use Rattle.xns_calls.proofs.Others.{get_same}
 use Rattle.xns_calls.proofs.Whole.{after_append}
+use Rattle.xns_calls.proofs.AtLines.{AreAt, both_at}
 use Rattle.xns_calls.proofs.Parts.{flow_append, flow_at, plain}
 
 -- ---- where a flow stands that has begun
@@ -72,40 +74,43 @@ still m false k k' t a same = record {
 
 -- ---- a packet, for a flow that has begun
 
-pub record Stepped (m : ℕ) (b : Bool) (k k' : Known) (t : Told) (happened : List Event) : Type 0 where
+pub record Stepped (n : Origin) (m : ℕ) (b : Bool) (k k' : Known) (t : Told) (happened : List Event) : Type 0 where
   pub events : List Event
   pub are : Fits happened (plain events)
+  pub at : AreAt (heading_at n m b) events
   pub stands : IsOn m b k' (after_events events t)
   pub parts : List Part
   pub text : k'.text ≡ k.text ++ parts_text parts
   pub own : texts_in (flow_at m b) parts ≡ flow_text events t
 
-pub unchanged : (m : ℕ) (b : Bool) (k k' : Known) (t : Told) (parts : List Part) → k'.text ≡ k.text ++ parts_text parts → texts_in (flow_at m b) parts ≡ []
-    → (a : IsAt m b k t) → slice_get k'.connections a.place ≡ slice_get k.connections a.place → Stepped m b k k' t []
-unchanged m b k k' t parts text own a same = record {
+pub unchanged : (n : Origin) (m : ℕ) (b : Bool) (k k' : Known) (t : Told) (parts : List Part) → k'.text ≡ k.text ++ parts_text parts → texts_in (flow_at m b) parts ≡ []
+    → (a : IsAt m b k t) → slice_get k'.connections a.place ≡ slice_get k.connections a.place → Stepped n m b k k' t []
+unchanged n m b k k' t parts text own a same = record {
   events = meanwhile t.calls k'.text k'.is_refused ∷ [];
   are = fits [] [] refl;
+  at = tt;
   stands = inl (still m b k k' t a same);
   parts = parts;
   text = text;
   own = own;
 }
 
-pub stays_gone : (m : ℕ) (b : Bool) (k k' : Known) (t : Told) (parts : List Part) → k'.text ≡ k.text ++ parts_text parts → texts_in (flow_at m b) parts ≡ [] → IsGone m k' t → Stepped m b k k' t []
-stays_gone m b k k' t parts text own gone = record { events = []; are = fits [] [] refl; stands = inr gone; parts = parts; text = text; own = own }
+pub stays_gone : (n : Origin) (m : ℕ) (b : Bool) (k k' : Known) (t : Told) (parts : List Part) → k'.text ≡ k.text ++ parts_text parts → texts_in (flow_at m b) parts ≡ [] → IsGone m k' t → Stepped n m b k k' t []
+stays_gone n m b k k' t parts text own gone = record { events = []; are = fits [] [] refl; at = tt; stands = inr gone; parts = parts; text = text; own = own }
 
 -- nothing happens
-pub nothing_step : (m : ℕ) (b : Bool) (k : Known) (t : Told) → IsOn m b k t → Stepped m b k k t []
-nothing_step m b k t (inl a) = unchanged m b k k t [] (sym (append-nil k.text)) refl a refl
-nothing_step m b k t (inr gone) = stays_gone m b k k t [] (sym (append-nil k.text)) refl gone
+pub nothing_step : (n : Origin) (m : ℕ) (b : Bool) (k : Known) (t : Told) → IsOn m b k t → Stepped n m b k k t []
+nothing_step n m b k t (inl a) = unchanged n m b k k t [] (sym (append-nil k.text)) refl a refl
+nothing_step n m b k t (inr gone) = stays_gone n m b k k t [] (sym (append-nil k.text)) refl gone
 
 -- one step behind another
-pub two_steps : (m : ℕ) (b : Bool) (k k' k'' : Known) (t : Told) (xs ys : List Event) → Stepped m b k k' t xs → ((u : Told) → IsOn m b k' u → Stepped m b k' k'' u ys) → Stepped m b k k'' t (xs ++ ys)
-two_steps m b k k' k'' t xs ys w next =
+pub two_steps : (n : Origin) (m : ℕ) (b : Bool) (k k' k'' : Known) (t : Told) (xs ys : List Event) → Stepped n m b k k' t xs → ((u : Told) → IsOn m b k' u → Stepped n m b k' k'' u ys) → Stepped n m b k k'' t (xs ++ ys)
+two_steps n m b k k' k'' t xs ys w next =
     let v = next (after_events w.events t) w.stands in
     let P = flow_at m b in record {
       events = w.events ++ v.events;
       are = fits_on xs ys w.events v.events w.are v.are;
+      at = both_at (heading_at n m b) w.events v.events w.at v.at;
       stands = subst (IsOn m b k'') (sym (after_append w.events v.events t)) v.stands;
       parts = w.parts ++ v.parts;
       text = v.text ∙ ap (λ z. z ++ parts_text v.parts) w.text ∙ append_assoc k.text (parts_text w.parts) (parts_text v.parts) ∙ ap (λ z. k.text ++ z) (sym (flat_map-append part_text w.parts v.parts));

@@ -7,6 +7,10 @@ pub by_test : {A : Type 0} (P : A → Type 0) (p : Bool) (a b : A) → (p ≡ tr
 by_test P true a b f g = f refl
 by_test P false a b f g = g refl
 
+pub by_both : {A B : Type 0} (P : A → B → Type 0) (p : Bool) (a b : A) (x y : B) → (p ≡ true → P a x) → (p ≡ false → P b y) → P (cond p a b) (cond p x y)
+by_both P true a b x y f g = f refl
+by_both P false a b x y f g = g refl
+
 pub lt_false : (a b : ℕ) → b ≤ a → nat_lt a b ≡ false
 lt_false a b le = grind (arith, nat_tests)
 

@@ -21,6 +21,7 @@ use Rattle.xns_calls.specs.declared.origin.Origin.{Origin}
 use Rattle.xns_calls.specs.declared.side.Side.{Side}
 use Rattle.xns_calls.specs.declared.track.Track.{Track}
 use Rattle.xns_calls.proofs.Adding.{own_adds}
+use Rattle.xns_calls.proofs.AtLines.{AreAt, ack_at, both_at}
 use Rattle.xns_calls.proofs.Known.{events_ordered}
 use Rattle.xns_calls.proofs.Ordered.{IsOrdered}
 use Rattle.xns_calls.proofs.Kept.{earliest_number}
@@ -65,8 +66,9 @@ reach_back n m false a s = ap seen_from_other (reach_is (heading_at n m true) a 
 
 -- ---- for a flow that has begun, which is the scene's own
 
-pub record Ends (m : ℕ) (b : Bool) (s s' : Scene) (t : Told) : Type 0 where
+pub record Ends (n : Origin) (m : ℕ) (b : Bool) (s s' : Scene) (t : Told) : Type 0 where
   pub events : List Event
+  pub at : AreAt (heading_at n m b) events
   pub acks : (bound : ℕ) → AreBelow bound (early_of t) → AreAcks bound events × AreBelow bound (early_of (after_events events t))
   pub track : s'.own.track ≡ Some (after_events events t).track
   pub is : after_events events t ≡ told_of (after_events events t).track s'
@@ -74,9 +76,10 @@ pub record Ends (m : ℕ) (b : Bool) (s s' : Scene) (t : Told) : Type 0 where
   pub text : s'.text ≡ s.text ++ parts_text parts
   pub own : texts_in (flow_at m b) parts ≡ flow_text events t
 
-stays : (m : ℕ) (b : Bool) (s : Scene) (t : Told) → s.own.track ≡ Some t.track → t ≡ told_of t.track s → Ends m b s s t
-stays m b s t track is = record {
+stays : (n : Origin) (m : ℕ) (b : Bool) (s : Scene) (t : Told) → s.own.track ≡ Some t.track → t ≡ told_of t.track s → Ends n m b s s t
+stays n m b s t track is = record {
   events = [];
+  at = tt;
   acks = λ bound below. (tt, below);
   track = track;
   is = is;
@@ -85,11 +88,12 @@ stays m b s t track is = record {
   own = refl;
 }
 
-ends_on : (m : ℕ) (b : Bool) (s s' s'' : Scene) (t : Told) → (w : Ends m b s s' t) → Ends m b s' s'' (after_events w.events t) → Ends m b s s'' t
-ends_on m b s s' s'' t w v =
+ends_on : (n : Origin) (m : ℕ) (b : Bool) (s s' s'' : Scene) (t : Told) → (w : Ends n m b s s' t) → Ends n m b s' s'' (after_events w.events t) → Ends n m b s s'' t
+ends_on n m b s s' s'' t w v =
     let P = flow_at m b in
     let same = after_append w.events v.events t in record {
       events = w.events ++ v.events;
+      at = both_at (heading_at n m b) w.events v.events w.at v.at;
       acks = λ bound below. (
         acks_append bound w.events v.events (w.acks bound below).0 (v.acks bound (w.acks bound below).1).0,
         subst (λ (x : Told). AreBelow bound (early_of x)) (sym same) (v.acks bound (w.acks bound below).1).1,
@@ -114,7 +118,7 @@ moved_acks bound h (Some n) t upto below =
 
 -- the flow is brought to a number, at most the one behind the last item that it keeps
 moves : (n : Origin) (m : ℕ) (b : Bool) (o : Option ℕ) (s : Scene) (t : Told) → s.own.track ≡ Some t.track → t ≡ told_of t.track s → up_to (last_number t.track.early) o ≡ o
-    → Ends m b s (advance_own (heading_at n m b) o s) t
+    → Ends n m b s (advance_own (heading_at n m b) o s) t
 moves n m b o s t track is upto =
     let h = heading_at n m b in
     let events = acknowledged_event h o in
@@ -122,6 +126,7 @@ moves n m b o s t track is upto =
     let said = moved_said n m b o s in
     let after : advance_own h o s ≡ after_told u s = moved_event h o s t.track track upto ∙ ap (λ (x : Told). after_told (after_events events x) s) (sym is) in record {
       events = events;
+      at = ack_at h o;
       acks = λ bound below. moved_acks bound h o t upto below;
       track = ap (λ (x : Scene). x.own.track) after;
       is = sym (ap (λ (x : Scene). told_of u.track x) after);
@@ -133,11 +138,12 @@ moves n m b o s t track is upto =
 
 -- the flow behind is brought to a number
 others : (n : Origin) (m : ℕ) (b : Bool) (o : Option ℕ) (s : Scene) (t : Told) → s.own.track ≡ Some t.track
-    → Ends m b s (seen_from_other (advance_own (heading_at n m (not b)) o (seen_from_other s))) t
+    → Ends n m b s (seen_from_other (advance_own (heading_at n m (not b)) o (seen_from_other s))) t
 others n m b o s t track =
     let x = seen_from_other s in
     let y = advance_own (heading_at n m (not b)) o x in record {
       events = meanwhile (record { own = y.other.call; asked = y.own.call }) y.text y.is_refused ∷ [];
+      at = tt;
       acks = λ bound below. (tt, below);
       track = own_other (heading_at n m (not b)) o x ∙ track;
       is = refl;
@@ -147,33 +153,33 @@ others n m b o s t track =
     }
 
 -- the flow reads its first item, once the flow behind is brought to what has to be read before
-own_reads : (n : Origin) (m : ℕ) (b : Bool) (s : Scene) (t : Told) → s.own.track ≡ Some t.track → t ≡ told_of t.track s → IsOrdered t → Ends m b s (own_ended (heading_at n m b) s) t
+own_reads : (n : Origin) (m : ℕ) (b : Bool) (s : Scene) (t : Told) → s.own.track ≡ Some t.track → t ≡ told_of t.track s → IsOrdered t → Ends n m b s (own_ended (heading_at n m b) s) t
 unfolding own_ended
-own_reads n m b s t track is ordered = subst (λ o. Ends m b s (read_behind h (first_in o) s) t) (sym track) (by_early t.track.early refl)
+own_reads n m b s t track is ordered = subst (λ o. Ends n m b s (read_behind h (first_in o) s) t) (sym track) (by_early t.track.early refl)
   where
     h : Heading
     h = heading_at n m b
 
-    by_early : (es : List Early) → t.track.early ≡ es → Ends m b s (read_behind h (first_at_end es) s) t
-    by_early [] at = stays m b s t track is
+    by_early : (es : List Early) → t.track.early ≡ es → Ends n m b s (read_behind h (first_at_end es) s) t
+    by_early [] at = stays n m b s t track is
     by_early (e ∷ rest) at =
         let start : FirstKept = record { number = e.number; acknowledged = e.item.acknowledged; line = e.item.line } in
         let first = earliest start (e ∷ rest) in
         let a = first.acknowledged in
         let number : first.number ≡ e.number = earliest_number start (e ∷ rest) in
         let s' = other_reached h a s in
-        let w : Ends m b s s' t = subst (λ x. Ends m b s x t) (sym (reach_is h a s)) (others n m b (reached s.other.track a) s t track) in
+        let w : Ends n m b s s' t = subst (λ x. Ends n m b s x t) (sym (reach_is h a s)) (others n m b (reached s.other.track a) s t track) in
         let u = after_events w.events t in
         let some : Some u.track ≡ Some t.track = sym w.track ∙ reached_own h a s ∙ track in
         let same : u.track ≡ t.track = (cc) in
         let upto : up_to (last_number t.track.early) (Some (first.number + 1)) ≡ Some (first.number + 1) =
         ap (λ k. up_to (last_number t.track.early) (Some (k + 1))) number ∙ first_upto t e rest at ordered ∙ ap (λ k. Some (k + 1)) (sym number) in
-        ends_on m b s s' (advance_own h (Some (first.number + 1)) s') t w
+        ends_on n m b s s' (advance_own h (Some (first.number + 1)) s') t w
         (moves n m b (Some (first.number + 1)) s' u w.track w.is (ap (λ (x : Track). up_to (last_number x.early) (Some (first.number + 1))) same ∙ upto))
 
 -- the flow behind reads its first item
 behind_reads : (n : Origin) (m : ℕ) (b : Bool) (s : Scene) (t : Told) → s.own.track ≡ Some t.track → t ≡ told_of t.track s
-    → Ends m b s (seen_from_other (own_ended (heading_at n m (not b)) (seen_from_other s))) t
+    → Ends n m b s (seen_from_other (own_ended (heading_at n m (not b)) (seen_from_other s))) t
 unfolding own_ended
 behind_reads n m b s t track is = by_first (first_in s.other.track)
   where
@@ -183,53 +189,53 @@ behind_reads n m b s t track is = by_first (first_in s.other.track)
     x : Scene
     x = seen_from_other s
 
-    by_first : (o : Option FirstKept) → Ends m b s (seen_from_other (read_behind h o x)) t
-    by_first None = stays m b s t track is
+    by_first : (o : Option FirstKept) → Ends n m b s (seen_from_other (read_behind h o x)) t
+    by_first None = stays n m b s t track is
     by_first (Some first) =
         let a = first.acknowledged in
         let y = seen_from_other (other_reached h a x) in
         let upto : up_to (last_number t.track.early) (reached s.own.track a) ≡ reached s.own.track a =
         subst (λ o. up_to (last_number t.track.early) (reached o a) ≡ reached o a) (sym track) (upto_twice (last_number t.track.early) a) in
-        let w : Ends m b s y t = subst (λ z. Ends m b s z t) (sym (reach_back n m b a s)) (moves n m b (reached s.own.track a) s t track is upto) in
-        ends_on m b s y (seen_from_other (advance_own h (Some (first.number + 1)) (other_reached h a x))) t w
+        let w : Ends n m b s y t = subst (λ z. Ends n m b s z t) (sym (reach_back n m b a s)) (moves n m b (reached s.own.track a) s t track is upto) in
+        ends_on n m b s y (seen_from_other (advance_own h (Some (first.number + 1)) (other_reached h a x))) t w
         (others n m b (Some (first.number + 1)) y (after_events w.events t) w.track)
 
-own_turn : (n : Origin) (m : ℕ) (b : Bool) (o : Option Bool) (s : Scene) (t : Told) → s.own.track ≡ Some t.track → t ≡ told_of t.track s → IsOrdered t → Ends m b s (ended_of (heading_at n m b) o s) t
-own_turn n m b None s t track is ordered = stays m b s t track is
+own_turn : (n : Origin) (m : ℕ) (b : Bool) (o : Option Bool) (s : Scene) (t : Told) → s.own.track ≡ Some t.track → t ≡ told_of t.track s → IsOrdered t → Ends n m b s (ended_of (heading_at n m b) o s) t
+own_turn n m b None s t track is ordered = stays n m b s t track is
 own_turn n m b (Some false) s t track is ordered = own_reads n m b s t track is ordered
 own_turn n m b (Some true) s t track is ordered = behind_reads n m b s t track is
 
 other_turn : (n : Origin) (m : ℕ) (q : Bool) (o : Option Bool) (s : Scene) (t : Told) → s.other.track ≡ Some t.track → t ≡ told_of t.track (seen_from_other s) → IsOrdered t
-    → Ends m (not q) (seen_from_other s) (seen_from_other (ended_of (heading_at n m q) o s)) t
-other_turn n m q None s t track is ordered = stays m (not q) (seen_from_other s) t track is
+    → Ends n m (not q) (seen_from_other s) (seen_from_other (ended_of (heading_at n m q) o s)) t
+other_turn n m q None s t track is ordered = stays n m (not q) (seen_from_other s) t track is
 other_turn n m true (Some false) s t track is ordered = behind_reads n m false (seen_from_other s) t track is
 other_turn n m false (Some false) s t track is ordered = behind_reads n m true (seen_from_other s) t track is
 other_turn n m q (Some true) s t track is ordered = own_reads n m (not q) (seen_from_other s) t track is ordered
 
-own_times : (n : Origin) (m : ℕ) (b : Bool) (count : ℕ) (s : Scene) (t : Told) → s.own.track ≡ Some t.track → t ≡ told_of t.track s → IsOrdered t → Ends m b s (ended_times count (heading_at n m b) s) t
-own_times n m b zero s t track is ordered = stays m b s t track is
+own_times : (n : Origin) (m : ℕ) (b : Bool) (count : ℕ) (s : Scene) (t : Told) → s.own.track ≡ Some t.track → t ≡ told_of t.track s → IsOrdered t → Ends n m b s (ended_times count (heading_at n m b) s) t
+own_times n m b zero s t track is ordered = stays n m b s t track is
 own_times n m b (suc count) s t track is ordered =
     let h = heading_at n m b in
     let s' = one_ended h s in
     let w = own_turn n m b (end_turn s.own.track s.other.track) s t track is ordered in
-    ends_on m b s s' (ended_times count h s') t w (own_times n m b count s' (after_events w.events t) w.track w.is (events_ordered w.events t ordered))
+    ends_on n m b s s' (ended_times count h s') t w (own_times n m b count s' (after_events w.events t) w.track w.is (events_ordered w.events t ordered))
 
 other_times : (n : Origin) (m : ℕ) (q : Bool) (count : ℕ) (s : Scene) (t : Told) → s.other.track ≡ Some t.track → t ≡ told_of t.track (seen_from_other s) → IsOrdered t
-    → Ends m (not q) (seen_from_other s) (seen_from_other (ended_times count (heading_at n m q) s)) t
-other_times n m q zero s t track is ordered = stays m (not q) (seen_from_other s) t track is
+    → Ends n m (not q) (seen_from_other s) (seen_from_other (ended_times count (heading_at n m q) s)) t
+other_times n m q zero s t track is ordered = stays n m (not q) (seen_from_other s) t track is
 other_times n m q (suc count) s t track is ordered =
     let h = heading_at n m q in
     let s' = one_ended h s in
     let w = other_turn n m q (end_turn s.own.track s.other.track) s t track is ordered in
-    ends_on m (not q) (seen_from_other s) (seen_from_other s') (seen_from_other (ended_times count h s')) t w
+    ends_on n m (not q) (seen_from_other s) (seen_from_other s') (seen_from_other (ended_times count h s')) t w
     (other_times n m q count s' (after_events w.events t) w.track w.is (events_ordered w.events t ordered))
 
-pub own_ends : (n : Origin) (m : ℕ) (b : Bool) (s : Scene) (t : Told) → s.own.track ≡ Some t.track → t ≡ told_of t.track s → IsOrdered t → Ends m b s (both_ended (heading_at n m b) s) t
+pub own_ends : (n : Origin) (m : ℕ) (b : Bool) (s : Scene) (t : Told) → s.own.track ≡ Some t.track → t ≡ told_of t.track s → IsOrdered t → Ends n m b s (both_ended (heading_at n m b) s) t
 unfolding both_ended
 own_ends n m b s t track is ordered = own_times n m b (kept_count s.own.track + kept_count s.other.track) s t track is ordered
 
 pub other_ends : (n : Origin) (m : ℕ) (q : Bool) (s : Scene) (t : Told) → s.other.track ≡ Some t.track → t ≡ told_of t.track (seen_from_other s) → IsOrdered t
-    → Ends m (not q) (seen_from_other s) (seen_from_other (both_ended (heading_at n m q) s)) t
+    → Ends n m (not q) (seen_from_other s) (seen_from_other (both_ended (heading_at n m q) s)) t
 unfolding both_ended
 other_ends n m q s t track is ordered = other_times n m q (kept_count s.own.track + kept_count s.other.track) s t track is ordered
 
@@ -252,12 +258,12 @@ abbrev pub ended_scene : Origin → Connection → Known → Scene
 ended_scene n c k = both_ended (heading_at n c.number false) (scene_in false c k)
 
 seen_ends : (n : Origin) (m : ℕ) (b : Bool) (s : Scene) (t : Told) → (seen_by b s).own.track ≡ Some t.track → t ≡ told_of t.track (seen_by b s) → IsOrdered t
-    → Ends m b (seen_by b s) (seen_by b (both_ended (heading_at n m false) s)) t
+    → Ends n m b (seen_by b s) (seen_by b (both_ended (heading_at n m false) s)) t
 seen_ends n m true s t track is ordered = other_ends n m false s t track is ordered
 seen_ends n m false s t track is ordered = own_ends n m false s t track is ordered
 
 pub flow_ends : (n : Origin) (b : Bool) (c : Connection) (k : Known) (t : Told) → (scene_in b c k).own.track ≡ Some t.track → t ≡ told_of t.track (scene_in b c k) → IsOrdered t
-    → Ends c.number b (seen_by b (scene_in false c k)) (seen_by b (ended_scene n c k)) t
+    → Ends n c.number b (seen_by b (scene_in false c k)) (seen_by b (ended_scene n c k)) t
 flow_ends n b c k t track is ordered =
     let same = scene_seen b c k in
     seen_ends n c.number b (scene_in false c k) t (ap (λ (x : Scene). x.own.track) (sym same) ∙ track) (is ∙ ap (λ (x : Scene). told_of t.track x) same) ordered

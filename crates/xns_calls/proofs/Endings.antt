@@ -19,10 +19,12 @@ use Rattle.xns_calls.specs.Exchange.{Scene, told_of}
 use Rattle.xns_calls.specs.Input.{FlowName, Part, TellsConversation, events_in, first_field, part_text, parts_text, texts_in}
 use Rattle.xns_calls.specs.Reading.{Told}
 use Rattle.xns_calls.specs.Texts.{flow_line}
-use Rattle.xns_calls.specs.Whole.{IsWhole, flow_text}
+use Rattle.xns_calls.specs.Whole.{IsWhole, flow_heard, flow_text}
 use Rattle.xns_calls.specs.declared.connection.Connection.{Connection}
+use Rattle.xns_calls.specs.declared.heading.Heading.{Heading}
 use Rattle.xns_calls.specs.declared.speech.Speech.TheVariants.{Hearing}
 use Rattle.xns_calls.proofs.FirstLines.{lines_met}
+use Rattle.xns_calls.proofs.AtLines.{AreAt, AreBetween, last_between, line_heading, told_between}
 use Rattle.xns_calls.proofs.EndReads.{ended_scene, ends_say, flow_ends, flow_left, scene_seen, seen_by}
 use Rattle.xns_calls.proofs.Fits.{fits_whole}
 use Rattle.xns_calls.proofs.Comparing.{equal_tells, le_tells, lt_tells}
@@ -45,8 +47,9 @@ use Rattle.xns_calls.specs.Origins.{line_origin}
 
 -- ---- the end of one connection
 
-record EndStep (m i : ℕ) (b : Bool) (k k' : Known) (t : Told) : Type 0 where
+record EndStep (n : Origin) (m i : ℕ) (b : Bool) (k k' : Known) (t : Told) : Type 0 where
   events : List Event
+  at : AreAt (heading_at n m b) events
   stands : IsOn m b k' (after_events events t)
   acks : (bound : ℕ) → AreBelow bound (early_of t) → AreAcks bound events
   parts : List Part
@@ -56,10 +59,11 @@ record EndStep (m i : ℕ) (b : Bool) (k k' : Known) (t : Told) : Type 0 where
   keeps : t.track.early ≡ [] → (after_events events t).track.early ≡ []
 
 -- nothing happens to it
-step_far : (m i : ℕ) (b : Bool) (k k' : Known) (t : Told) (parts : List Part) → k'.text ≡ k.text ++ parts_text parts → texts_in (flow_at m b) parts ≡ []
-    → (a : IsAt m b k t) → slice_get k'.connections a.place ≡ slice_get k.connections a.place → ((c : Connection) → slice_get k'.connections i ≡ Some c → c.number ≡ m → ⊥) → EndStep m i b k k' t
-step_far m i b k k' t parts text own a same not_here = record {
+step_far : (n : Origin) (m i : ℕ) (b : Bool) (k k' : Known) (t : Told) (parts : List Part) → k'.text ≡ k.text ++ parts_text parts → texts_in (flow_at m b) parts ≡ []
+    → (a : IsAt m b k t) → slice_get k'.connections a.place ≡ slice_get k.connections a.place → ((c : Connection) → slice_get k'.connections i ≡ Some c → c.number ≡ m → ⊥) → EndStep n m i b k k' t
+step_far n m i b k k' t parts text own a same not_here = record {
   events = meanwhile t.calls k'.text k'.is_refused ∷ [];
+  at = tt;
   stands = inl (still m b k k' t a same);
   acks = λ bound below. tt;
   parts = parts;
@@ -69,9 +73,10 @@ step_far m i b k k' t parts text own a same not_here = record {
   keeps = λ none. none;
 }
 
-step_gone : (m i : ℕ) (b : Bool) (k k' : Known) (t : Told) (parts : List Part) → k'.text ≡ k.text ++ parts_text parts → texts_in (flow_at m b) parts ≡ [] → IsGone m k' t → EndStep m i b k k' t
-step_gone m i b k k' t parts text own gone = record {
+step_gone : (n : Origin) (m i : ℕ) (b : Bool) (k k' : Known) (t : Told) (parts : List Part) → k'.text ≡ k.text ++ parts_text parts → texts_in (flow_at m b) parts ≡ [] → IsGone m k' t → EndStep n m i b k k' t
+step_gone n m i b k k' t parts text own gone = record {
   events = [];
+  at = tt;
   stands = inr gone;
   acks = λ bound below. tt;
   parts = parts;
@@ -83,7 +88,7 @@ step_gone m i b k k' t parts text own gone = record {
 
 -- all that it keeps is read
 near_end : (n : Origin) (i : ℕ) (b : Bool) (c : Connection) (k : Known) (t : Told) → slice_get k.connections i ≡ Some c → IsOrdered t → (scene_in b c k).own.track ≡ Some t.track → t ≡ told_of t.track (scene_in b c k)
-    → EndStep c.number i b k (ended_there n i (Some c) k) t
+    → EndStep n c.number i b k (ended_there n i (Some c) k) t
 near_end n i b c k t there ordered track is =
     let w = flow_ends n b c k t track is ordered in
     let u = after_events w.events t in
@@ -91,6 +96,7 @@ near_end n i b c k t there ordered track is =
     let same : scene_in b c' (ended_there n i (Some c) k) ≡ seen_by b (ended_scene n c k) = scene_seen b c' (ended_there n i (Some c) k) in
     let empty : u.track.early ≡ [] = flow_left n b c k u.track w.track in record {
       events = w.events;
+      at = w.at;
       stands = inl (record {
         place = i;
         connection = c';
@@ -108,7 +114,7 @@ near_end n i b c k t there ordered track is =
       keeps = λ e. empty;
     }
 
-there_end : (n : Origin) (m i : ℕ) (b : Bool) (c : Connection) (k : Known) (t : Told) → IsNumbered k.connections k.count → slice_get k.connections i ≡ Some c → IsOn m b k t → EndStep m i b k (ended_there n i (Some c) k) t
+there_end : (n : Origin) (m i : ℕ) (b : Bool) (c : Connection) (k : Known) (t : Told) → IsNumbered k.connections k.count → slice_get k.connections i ≡ Some c → IsOn m b k t → EndStep n m i b k (ended_there n i (Some c) k) t
 there_end n m i b c k t numbered there on = by_number (m == c.number) refl on
   where
     s : Scene
@@ -125,31 +131,31 @@ there_end n m i b c k t numbered there on = by_number (m == c.number) refl on
         let some : Some c' ≡ Some d = sym (get_same k.connections i c c' there) ∙ e in
         let one : c' ≡ d = (cc) in other (sym is ∙ sym (ap (λ (x : Connection). x.number) one))
 
-    by_number : (p : Bool) → (m == c.number) ≡ p → IsOn m b k t → EndStep m i b k (ended_there n i (Some c) k) t
+    by_number : (p : Bool) → (m == c.number) ≡ p → IsOn m b k t → EndStep n m i b k (ended_there n i (Some c) k) t
     by_number true e (inl a) =
         let place : a.place ≡ i = numbered.alone a.place i a.connection c a.there there (a.number ∙ equal_tells m c.number e) in
         let some : Some a.connection ≡ Some c = sym a.there ∙ ap (slice_get k.connections) place ∙ there in
         let one : a.connection ≡ c = (cc) in
         let track : (scene_in b c k).own.track ≡ Some t.track = ap (λ (x : Connection). (scene_in b x k).own.track) (sym one) ∙ a.track in
         let is : t ≡ told_of t.track (scene_in b c k) = a.is ∙ ap (λ (x : Connection). told_of t.track (scene_in b x k)) one in
-        subst (λ g. EndStep g i b k (ended_there n i (Some c) k) t) (sym (equal_tells m c.number e)) (near_end n i b c k t there a.ordered track is)
+        subst (λ g. EndStep n g i b k (ended_there n i (Some c) k) t) (sym (equal_tells m c.number e)) (near_end n i b c k t there a.ordered track is)
     by_number true e (inr gone) = absurd (gone.none i c there (sym (equal_tells m c.number e)))
     by_number false e (inl a) =
-        step_far m i b k (ended_there n i (Some c) k) t says.parts says.text (says.far m b e) a
+        step_far n m i b k (ended_there n i (Some c) k) t says.parts says.text (says.far m b e) a
         (get_set k.connections a.place i c' (other_place k a.place i a.connection c a.there there (λ same. number_tells m c.number e (sym a.number ∙ same))))
         (other_here (number_tells m c.number e))
     by_number false e (inr gone) =
-        step_gone m i b k (ended_there n i (Some c) k) t says.parts says.text (says.far m b e)
+        step_gone n m i b k (ended_there n i (Some c) k) t says.parts says.text (says.far m b e)
         (record { counted = gone.counted; none = gone_set m i k c c' t gone there refl; empty = gone.empty })
 
-end_step : (n : Origin) (m i : ℕ) (b : Bool) (k : Known) (t : Told) → IsNumbered k.connections k.count → IsOn m b k t → EndStep m i b k (after_end n i k) t
+end_step : (n : Origin) (m i : ℕ) (b : Bool) (k : Known) (t : Told) → IsNumbered k.connections k.count → IsOn m b k t → EndStep n m i b k (after_end n i k) t
 unfolding after_end
 end_step n m i b k t numbered on = by_connection (slice_get k.connections i) refl on
   where
-    by_connection : (o : Option Connection) → slice_get k.connections i ≡ o → IsOn m b k t → EndStep m i b k (ended_there n i o k) t
+    by_connection : (o : Option Connection) → slice_get k.connections i ≡ o → IsOn m b k t → EndStep n m i b k (ended_there n i o k) t
     by_connection None there (inl a) =
-        step_far m i b k k t [] (sym (append-nil k.text)) refl a refl (λ c e is. let wrong : None ≡ Some c = sym there ∙ e in (cc))
-    by_connection None there (inr gone) = step_gone m i b k k t [] (sym (append-nil k.text)) refl gone
+        step_far n m i b k k t [] (sym (append-nil k.text)) refl a refl (λ c e is. let wrong : None ≡ Some c = sym there ∙ e in (cc))
+    by_connection None there (inr gone) = step_gone n m i b k k t [] (sym (append-nil k.text)) refl gone
     by_connection (Some c) there on = there_end n m i b c k t numbered there on
 
 -- ---- all connections
@@ -176,9 +182,10 @@ end_numbered n i k w = by_connection (slice_get k.connections i) refl
     by_connection (Some c) there = numbered_set k.connections k.count i c _ w there refl
 
 -- each connection below the place has been ended
-record Goes (items : List Item) (m : ℕ) (b : Bool) (start : Told) (line text : List ℕ) (k : Known) (count part : ℕ) : Type 0 where
+record Goes (at_line : ℕ → Heading) (last : ℕ) (items : List Item) (m : ℕ) (b : Bool) (start : Told) (line text : List ℕ) (k : Known) (count part : ℕ) : Type 0 where
   events : List Event
   whole : IsWhole items (plain events)
+  at : AreBetween at_line 1 (1 + last) events
   stands : IsOn m b k (after_events events start)
   numbered : IsNumbered k.connections k.count
   long : length k.connections ≡ count
@@ -202,10 +209,10 @@ less j i lt other = by_order (nat_lt j i) refl
     by_order true e = lt_tells j i e
     by_order false e = let le : i ≤ j = le_tells j i e in absurd (other (omega (arith, lt, le)))
 
-goes_one : (n : Origin) (items : List Item) (m : ℕ) (b : Bool) (start : Told) (line text : List ℕ) (before : Known) (count part : ℕ) → start.track ≡ record { next = 0; early = []; speech = Hearing (opening []) }
-    → Goes items m b start line text before count part
-    → Goes items m b start line (text ++ (after_end n part (record before { text = [] })).text) (after_end n part (record before { text = [] })) count (suc part)
-goes_one n items m b start line text before count part first w =
+goes_one : (at_line : ℕ → Heading) (last : ℕ) (n : Origin) (items : List Item) (m : ℕ) (b : Bool) (start : Told) (line text : List ℕ) (before : Known) (count part : ℕ) → 1 ≤ last → at_line last ≡ heading_at n m b → start.track ≡ record { next = 0; early = []; speech = Hearing (opening []) }
+    → Goes at_line last items m b start line text before count part
+    → Goes at_line last items m b start line (text ++ (after_end n part (record before { text = [] })).text) (after_end n part (record before { text = [] })) count (suc part)
+goes_one at_line last n items m b start line text before count part some is first w =
     let k : Known = record before { text = [] } in
     let k' = after_end n part k in
     let t = after_events w.events start in
@@ -217,6 +224,7 @@ goes_one n items m b start line text before count part first w =
     let P = flow_at m b in record {
       events = w.events ++ more;
       whole = acks_whole items w.events more w.whole (v.acks (length items) (whole_below items w.events start first (plain_whole items w.events w.whole)));
+      at = last_between at_line last w.events more some (subst (λ h. AreAt h more) (sym is) v.at) w.at;
       stands = subst (IsOn m b k') (sym joined) v.stands;
       numbered = end_numbered n part k w.numbered;
       long = end_length n part k ∙ w.long;
@@ -226,7 +234,7 @@ goes_one n items m b start line text before count part first w =
       done = λ j c there is lt. ap (λ (x : Told). x.track.early) joined ∙ by_place v j c (w.done j c) there is lt (j == part) refl;
     }
   where
-    by_place : {t : Told} (v : EndStep m part b (record before { text = [] }) (after_end n part (record before { text = [] })) t)
+    by_place : {t : Told} (v : EndStep n m part b (record before { text = [] }) (after_end n part (record before { text = [] })) t)
         (j : ℕ) (c : Connection) → (slice_get before.connections j ≡ Some c → c.number ≡ m → j < part → t.track.early ≡ [])
         → slice_get (after_end n part (record before { text = [] })).connections j ≡ Some c → c.number ≡ m → j < suc part → (p : Bool) → (j == part) ≡ p
         → (after_events v.events t).track.early ≡ []
@@ -236,13 +244,13 @@ goes_one n items m b start line text before count part first w =
         v.keeps (old (sym (end_others n part j (record before { text = [] }) other) ∙ there) is (less j part lt other))
 
 module _ (programs : Programs) where
-  goes_on : (items : List Item) (m : ℕ) (b : Bool) (start : Told) (line : List ℕ) (lines : List (List ℕ)) → start.track ≡ record { next = 0; early = []; speech = Hearing (opening []) }
-      → Goes items m b start line (text_of programs lines) (known_of programs lines) (end_count programs lines) 0 → (part : ℕ)
-      → Goes items m b start line (text_with_end programs lines part) (known_with_end programs lines part) (end_count programs lines) part
-  goes_on items m b start line lines first begun zero = begun
-  goes_on items m b start line lines first begun (suc part) =
-      goes_one (line_origin programs (length lines)) items m b start line (text_with_end programs lines part) (known_with_end programs lines part) (end_count programs lines) part first
-      (goes_on items m b start line lines first begun part)
+  goes_on : (items : List Item) (m : ℕ) (b : Bool) (start : Told) (line : List ℕ) (lines : List (List ℕ)) → 1 ≤ length lines → start.track ≡ record { next = 0; early = []; speech = Hearing (opening []) }
+      → Goes (line_heading programs m b) (length lines) items m b start line (text_of programs lines) (known_of programs lines) (end_count programs lines) 0 → (part : ℕ)
+      → Goes (line_heading programs m b) (length lines) items m b start line (text_with_end programs lines part) (known_with_end programs lines part) (end_count programs lines) part
+  goes_on items m b start line lines some first begun zero = begun
+  goes_on items m b start line lines some first begun (suc part) =
+      goes_one (line_heading programs m b) (length lines) (line_origin programs (length lines)) items m b start line (text_with_end programs lines part) (known_with_end programs lines part) (end_count programs lines) part some refl first
+      (goes_on items m b start line lines some first begun part)
 
 pub none_at_first : (m : ℕ) (b : Bool) → AllKeep m b [] None
 none_at_first m b i c there is = (cc)
@@ -253,19 +261,25 @@ all_ended : (m : ℕ) (b : Bool) (k : Known) (t : Told) (count : ℕ) → length
 all_ended m b k t count long (inl a) done = done a.place a.connection a.there a.number (subst (λ x. a.place < x) long (get_below k.connections a.place a.connection a.there))
 all_ended m b k t count long (inr gone) done = gone.empty
 
+-- a flow that begins does so with a line
+has_lines : (programs : Programs) (p : FlowName) (lines : List (List ℕ)) (field : ℕ) → first_field programs p lines ≡ Some field → 1 ≤ length lines
+has_lines programs p [] field has = (cc)
+has_lines programs p (line ∷ lines) field has = omega arith
+
 -- ---- the whole
 
 pub input_told : FlowsAreToldApart → (runs : SignsRunOn) (law : OneItemMore) → ((fed : List Item) → conversation fed ≡ said (opening []) (written fed)) → ((fed : List Item) → ending fed ≡ run (opening []) (written fed))
     → (programs : Programs) (input : List ℕ) (p : FlowName) (items : List Item) (field : ℕ) → first_field programs p (lines_of input) ≡ Some field → field < most_pending → IsWhole items (events_in programs p (lines_of input))
-    → TellsConversation p items (calls_text programs input)
+    → TellsConversation programs p items (lines_of input) (calls_text programs input)
 input_told apart runs law messages ends programs input p items field has small whole =
     let lines = lines_of input in
     let w = lines_met programs (plain_places apart) 1 p.connection p.is_behind nothing_known numbered_none (none_at_first p.connection p.is_behind) lines field has in
     let line = flow_line w.heading w.packet w.header in
     let first = first_of field w.start small w.track in
-    let begun : Goes items p.connection p.is_behind w.start line (text_of programs lines) (known_of programs lines) (end_count programs lines) 0 = record {
+    let begun : Goes (line_heading programs p.connection p.is_behind) (length lines) items p.connection p.is_behind w.start line (text_of programs lines) (known_of programs lines) (end_count programs lines) 0 = record {
       events = w.events;
       whole = fits_whole items (events_in programs p lines) (plain w.events) w.are whole;
+      at = w.at;
       stands = w.stands;
       numbered = numbered_from programs 1 nothing_known lines numbered_none;
       long = refl;
@@ -274,7 +288,7 @@ input_told apart runs law messages ends programs input p items field has small w
       own = w.own;
       done = λ j c there is lt. absurd (omega (arith, lt));
     } in
-    let v = goes_on programs items p.connection p.is_behind w.start line lines first begun (end_count programs lines) in
+    let v = goes_on programs items p.connection p.is_behind w.start line lines (has_lines programs p lines field has) first begun (end_count programs lines) in
     let left = all_ended p.connection p.is_behind (known_with_end programs lines (end_count programs lines)) (after_events v.events w.start) (end_count programs lines) v.long v.stands v.done in record {
       parts = v.parts;
       all = v.all;
@@ -283,5 +297,7 @@ input_told apart runs law messages ends programs input p items field has small w
       header = w.header;
       said = flow_text v.events w.start;
       own = v.own;
+      told = flow_heard v.events w.start;
+      at = told_between programs p (length lines) v.events w.start v.at;
       conversation = whole_said runs law messages ends items v.events field w.start small w.track (plain_whole items v.events v.whole) left;
     }

@@ -21,6 +21,7 @@ use Rattle.xns_calls.specs.declared.due.Due.{Due}
 use Rattle.xns_calls.specs.declared.track.Track.{Track}
 use Rattle.xns_calls.proofs.Fits.{fits}
 use Rattle.xns_calls.proofs.Comparing.{equal_tells}
+use Rattle.xns_calls.proofs.AtLines.{ack_at, both_at, item_at}
 use Rattle.xns_calls.proofs.Known.{events_ordered}
 use Rattle.xns_calls.proofs.Ordered.{IsOrdered}
 use Rattle.xns_calls.proofs.Numbered.{IsNumbered, numbered_taken, same_number, scene_number, set_cases}
@@ -34,7 +35,7 @@ use Rattle.xns_calls.proofs.Begun.{IsAt, IsGone, IsOn, Stepped, nothing_step, st
 
 pub own_step : (n : Origin) (i : ℕ) (b : Bool) (packet : PacketModel) (f : Header) (content : List ℕ) (c : Connection) (k : Known) (t : Told) → slice_get k.connections i ≡ Some c → IsOrdered t
     → (scene_in b c k).own.track ≡ Some t.track → t ≡ told_of t.track (scene_in b c k)
-    → Stepped c.number b k (taken_in n i b packet f content c k) t (item_events (heading_at n c.number b) f content (acknowledged_in b f c) (Some t.track) ++ acknowledged_event (heading_at n c.number b) (due_of b c))
+    → Stepped n c.number b k (taken_in n i b packet f content c k) t (item_events (heading_at n c.number b) f content (acknowledged_in b f c) (Some t.track) ++ acknowledged_event (heading_at n c.number b) (due_of b c))
 own_step n i b packet f content c k t e ordered track is =
     let m = c.number in
     let h = heading_at n m b in
@@ -49,6 +50,7 @@ own_step n i b packet f content c k t e ordered track is =
     let after : new ≡ after_told u known = packet_events h due packet f content s t.track track ∙ ap (λ (x : Told). after_told (after_events events x) known) (sym is) in record {
       events = events;
       are = fits (item_events h f content (acknowledged_in b f c) (Some t.track) ++ acknowledged_event h (due_of b c)) (plain events) (both_plain (is_system f) h o (carried h due.acknowledged f content) due.own);
+      at = item_at (is_system f) h o (carried h due.acknowledged f content) due.own;
       stands = inl (stands_own i b f c new k e u (events_ordered events t ordered) (ap (λ (x : Scene). x.own.track) after) (sym (ap (λ (x : Scene). told_of u.track x) after)));
       parts = packet_parts n m b due packet f content s;
       text = packet_text n m b due packet f content s ∙ ap (λ z. z ++ parts_text (packet_parts n m b due packet f content s)) (scene_text b c k);
@@ -60,7 +62,7 @@ own_step n i b packet f content c k t e ordered track is =
 
 pub behind_step : (n : Origin) (i : ℕ) (q : Bool) (packet : PacketModel) (f : Header) (content : List ℕ) (c : Connection) (k : Known) (t : Told) → slice_get k.connections i ≡ Some c → IsOrdered t
     → (scene_in q c k).other.track ≡ Some t.track → t ≡ told_of t.track (seen_from_other (scene_in q c k))
-    → Stepped c.number (not q) k (taken_in n i q packet f content c k) t (acknowledged_event (heading_at n c.number (not q)) (due_of (not q) c))
+    → Stepped n c.number (not q) k (taken_in n i q packet f content c k) t (acknowledged_event (heading_at n c.number (not q)) (due_of (not q) c))
 behind_step n i q packet f content c k t e ordered track is =
     let m = c.number in
     let h = heading_at n m q in
@@ -76,6 +78,7 @@ behind_step n i q packet f content c k t e ordered track is =
     let P = flow_at m (not q) in record {
       events = acks ++ others ∷ [];
       are = fits acks (plain (acks ++ others ∷ [])) (acknowledged_plain (of_other h) due.other others refl);
+      at = both_at (of_other h) acks (others ∷ []) (ack_at (of_other h) due.other) tt;
       stands = inl (subst (IsAt m (not q) (taken_in n i q packet f content c k)) (sym (after_append acks (others ∷ []) t))
           (stands_behind i q f c new k e (after_event others v) (events_ordered acks t ordered) (packet_other h due packet f content s ∙ ap (λ (x : Scene). x.other.track) after) refl));
       parts = packet_parts n m q due packet f content s;
@@ -104,7 +107,7 @@ near_events n m b q f content a track due = cond (is_same b q) (item_events (hea
 
 -- a packet of its own connection
 pub near_step : (n : Origin) (i : ℕ) (b q : Bool) (packet : PacketModel) (f : Header) (content : List ℕ) (c : Connection) (k : Known) (t : Told) → slice_get k.connections i ≡ Some c → IsOrdered t
-    → (scene_in b c k).own.track ≡ Some t.track → t ≡ told_of t.track (scene_in b c k) → Stepped c.number b k (taken_in n i q packet f content c k) t (near_events n c.number b q f content (acknowledged_in q f c) (Some t.track) (due_of b c))
+    → (scene_in b c k).own.track ≡ Some t.track → t ≡ told_of t.track (scene_in b c k) → Stepped n c.number b k (taken_in n i q packet f content c k) t (near_events n c.number b q f content (acknowledged_in q f c) (Some t.track) (due_of b c))
 near_step n i true true packet f content c k t e ordered track is = own_step n i true packet f content c k t e ordered track is
 near_step n i false false packet f content c k t e ordered track is = own_step n i false packet f content c k t e ordered track is
 near_step n i true false packet f content c k t e ordered track is = behind_step n i false packet f content c k t e ordered track is
@@ -129,7 +132,7 @@ gone_set m i k c c' t gone there same j d at is = by_case (set_cases k.connectio
     by_case (inr (other, e)) = gone.none j d e is
 
 pub taken_step : (n : Origin) (m i : ℕ) (b q : Bool) (packet : PacketModel) (f : Header) (content : List ℕ) (c : Connection) (k : Known) (t : Told) → IsNumbered k.connections k.count → slice_get k.connections i ≡ Some c → IsOn m b k t
-    → Stepped m b k (taken_in n i q packet f content c k) t (events_between (flow_at m b) (flow_at c.number q) (heading_at n m b) f content (acknowledged_in q f c) (side_in b c).track (due_of b c))
+    → Stepped n m b k (taken_in n i q packet f content c k) t (events_between (flow_at m b) (flow_at c.number q) (heading_at n m b) f content (acknowledged_in q f c) (side_in b c).track (due_of b c))
 taken_step n m i b q packet f content c k t numbered there on = by_number (m == c.number) refl on
   where
     s : Scene
@@ -139,7 +142,7 @@ taken_step n m i b q packet f content c k t numbered there on = by_number (m == 
     parts = packet_parts n c.number q (due_in q f c) packet f content s
 
     Goal : Bool → Type 0
-    Goal p = Stepped m b k (taken_in n i q packet f content c k) t (cond p (near_events n m b q f content (acknowledged_in q f c) (side_in b c).track (due_of b c)) [])
+    Goal p = Stepped n m b k (taken_in n i q packet f content c k) t (cond p (near_events n m b q f content (acknowledged_in q f c) (side_in b c).track (due_of b c)) [])
 
     by_number : (p : Bool) → (m == c.number) ≡ p → IsOn m b k t → Goal p
     by_number true e (inl a) =
@@ -148,76 +151,76 @@ taken_step n m i b q packet f content c k t numbered there on = by_number (m == 
         let one : a.connection ≡ c = (cc) in
         let track : (scene_in b c k).own.track ≡ Some t.track = ap (λ (x : Connection). (scene_in b x k).own.track) (sym one) ∙ a.track in
         let is : t ≡ told_of t.track (scene_in b c k) = a.is ∙ ap (λ (x : Connection). told_of t.track (scene_in b x k)) one in
-        subst (λ o. Stepped m b k (taken_in n i q packet f content c k) t (near_events n m b q f content (acknowledged_in q f c) o (due_of b c))) (sym track ∙ side_track b c k)
-        (subst (λ g. Stepped g b k (taken_in n i q packet f content c k) t (near_events n g b q f content (acknowledged_in q f c) (Some t.track) (due_of b c))) (sym (equal_tells m c.number e))
+        subst (λ o. Stepped n m b k (taken_in n i q packet f content c k) t (near_events n m b q f content (acknowledged_in q f c) o (due_of b c))) (sym track ∙ side_track b c k)
+        (subst (λ g. Stepped n g b k (taken_in n i q packet f content c k) t (near_events n g b q f content (acknowledged_in q f c) (Some t.track) (due_of b c))) (sym (equal_tells m c.number e))
         (near_step n i b q packet f content c k t there a.ordered track is))
     by_number true e (inr gone) = absurd (gone.none i c there (sym (equal_tells m c.number e)))
     by_number false e (inl a) =
-        unchanged m b k (taken_in n i q packet f content c k) t parts (in_text n i q packet f content c k) (far_texts n m b q (due_in q f c) packet f content c.number s e) a
+        unchanged n m b k (taken_in n i q packet f content c k) t parts (in_text n i q packet f content c k) (far_texts n m b q (due_in q f c) packet f content c.number s e) a
         (get_set k.connections a.place i _ (other_place k a.place i a.connection c a.there there (λ same. number_tells m c.number e (sym a.number ∙ same))))
     by_number false e (inr gone) =
-        stays_gone m b k (taken_in n i q packet f content c k) t parts (in_text n i q packet f content c k) (far_texts n m b q (due_in q f c) packet f content c.number s e)
+        stays_gone n m b k (taken_in n i q packet f content c k) t parts (in_text n i q packet f content c k) (far_texts n m b q (due_in q f c) packet f content c.number s e)
         (record { counted = gone.counted; none = gone_set m i k c _ t gone there (scene_number q _ f c); empty = gone.empty })
 
 -- ---- what is read then
 
 -- what is then read of the connection of the packet
 near_settled : (n : Origin) (i : ℕ) (b q : Bool) (c : Connection) (k : Known) (t : Told) → slice_get k.connections i ≡ Some c → IsOrdered t → (scene_in b c k).own.track ≡ Some t.track → t ≡ told_of t.track (scene_in b c k)
-    → Stepped c.number b k (settled_there n i q (Some c) k) t []
+    → Stepped n c.number b k (settled_there n i q (Some c) k) t []
 near_settled n i true true c k t there ordered track is =
     let s = scene_in true c k in
     let w = own_settled n c.number true (given_in true c) s t track is in
     let c' = with_scene true (settled (heading_at n c.number true) (given_in true c) s) c in
-    record { events = w.events; are = fits [] (plain w.events) w.are; stands = inl (record { place = i; connection = c'; there = get_same k.connections i c c' there; number = refl; track = w.track; is = w.is; ordered = events_ordered w.events t ordered }); parts = w.parts; text = w.text; own = w.own }
+    record { events = w.events; are = fits [] (plain w.events) w.are; at = w.at; stands = inl (record { place = i; connection = c'; there = get_same k.connections i c c' there; number = refl; track = w.track; is = w.is; ordered = events_ordered w.events t ordered }); parts = w.parts; text = w.text; own = w.own }
 near_settled n i false false c k t there ordered track is =
     let s = scene_in false c k in
     let w = own_settled n c.number false (given_in false c) s t track is in
     let c' = with_scene false (settled (heading_at n c.number false) (given_in false c) s) c in
-    record { events = w.events; are = fits [] (plain w.events) w.are; stands = inl (record { place = i; connection = c'; there = get_same k.connections i c c' there; number = refl; track = w.track; is = w.is; ordered = events_ordered w.events t ordered }); parts = w.parts; text = w.text; own = w.own }
+    record { events = w.events; are = fits [] (plain w.events) w.are; at = w.at; stands = inl (record { place = i; connection = c'; there = get_same k.connections i c c' there; number = refl; track = w.track; is = w.is; ordered = events_ordered w.events t ordered }); parts = w.parts; text = w.text; own = w.own }
 near_settled n i true false c k t there ordered track is =
     let s = scene_in false c k in
     let w = other_settled n c.number false (given_in false c) s t track is in
     let c' = with_scene false (settled (heading_at n c.number false) (given_in false c) s) c in
-    record { events = w.events; are = fits [] (plain w.events) w.are; stands = inl (record { place = i; connection = c'; there = get_same k.connections i c c' there; number = refl; track = w.track; is = w.is; ordered = events_ordered w.events t ordered }); parts = w.parts; text = w.text; own = w.own }
+    record { events = w.events; are = fits [] (plain w.events) w.are; at = w.at; stands = inl (record { place = i; connection = c'; there = get_same k.connections i c c' there; number = refl; track = w.track; is = w.is; ordered = events_ordered w.events t ordered }); parts = w.parts; text = w.text; own = w.own }
 near_settled n i false true c k t there ordered track is =
     let s = scene_in true c k in
     let w = other_settled n c.number true (given_in true c) s t track is in
     let c' = with_scene true (settled (heading_at n c.number true) (given_in true c) s) c in
-    record { events = w.events; are = fits [] (plain w.events) w.are; stands = inl (record { place = i; connection = c'; there = get_same k.connections i c c' there; number = refl; track = w.track; is = w.is; ordered = events_ordered w.events t ordered }); parts = w.parts; text = w.text; own = w.own }
+    record { events = w.events; are = fits [] (plain w.events) w.are; at = w.at; stands = inl (record { place = i; connection = c'; there = get_same k.connections i c c' there; number = refl; track = w.track; is = w.is; ordered = events_ordered w.events t ordered }); parts = w.parts; text = w.text; own = w.own }
 
 pub settled_text : (n : Origin) (i : ℕ) (q : Bool) (c : Connection) (k : Known)
     → (settled_there n i q (Some c) k).text ≡ k.text ++ parts_text (settled_says n c.number q (given_in q c) (scene_in q c k)).parts
 settled_text n i true c k = (settled_says n c.number true (given_in true c) (scene_in true c k)).text
 settled_text n i false c k = (settled_says n c.number false (given_in false c) (scene_in false c k)).text
 
-there_settled : (n : Origin) (m i : ℕ) (b q : Bool) (c : Connection) (k : Known) (t : Told) → IsNumbered k.connections k.count → slice_get k.connections i ≡ Some c → IsOn m b k t → Stepped m b k (settled_there n i q (Some c) k) t []
+there_settled : (n : Origin) (m i : ℕ) (b q : Bool) (c : Connection) (k : Known) (t : Told) → IsNumbered k.connections k.count → slice_get k.connections i ≡ Some c → IsOn m b k t → Stepped n m b k (settled_there n i q (Some c) k) t []
 there_settled n m i b q c k t numbered there on = by_number (m == c.number) refl on
   where
     v : Says c.number (scene_in q c k) (settled (heading_at n c.number q) (given_in q c) (scene_in q c k))
     v = settled_says n c.number q (given_in q c) (scene_in q c k)
 
-    by_number : (p : Bool) → (m == c.number) ≡ p → IsOn m b k t → Stepped m b k (settled_there n i q (Some c) k) t []
+    by_number : (p : Bool) → (m == c.number) ≡ p → IsOn m b k t → Stepped n m b k (settled_there n i q (Some c) k) t []
     by_number true e (inl a) =
         let place : a.place ≡ i = numbered.alone a.place i a.connection c a.there there (a.number ∙ equal_tells m c.number e) in
         let some : Some a.connection ≡ Some c = sym a.there ∙ ap (slice_get k.connections) place ∙ there in
         let one : a.connection ≡ c = (cc) in
         let track : (scene_in b c k).own.track ≡ Some t.track = ap (λ (x : Connection). (scene_in b x k).own.track) (sym one) ∙ a.track in
         let is : t ≡ told_of t.track (scene_in b c k) = a.is ∙ ap (λ (x : Connection). told_of t.track (scene_in b x k)) one in
-        subst (λ g. Stepped g b k (settled_there n i q (Some c) k) t []) (sym (equal_tells m c.number e)) (near_settled n i b q c k t there a.ordered track is)
+        subst (λ g. Stepped n g b k (settled_there n i q (Some c) k) t []) (sym (equal_tells m c.number e)) (near_settled n i b q c k t there a.ordered track is)
     by_number true e (inr gone) = absurd (gone.none i c there (sym (equal_tells m c.number e)))
     by_number false e (inl a) =
-        unchanged m b k (settled_there n i q (Some c) k) t v.parts (settled_text n i q c k) (v.far m b e) a
+        unchanged n m b k (settled_there n i q (Some c) k) t v.parts (settled_text n i q c k) (v.far m b e) a
         (get_set k.connections a.place i _ (other_place k a.place i a.connection c a.there there (λ same. number_tells m c.number e (sym a.number ∙ same))))
     by_number false e (inr gone) =
-        stays_gone m b k (settled_there n i q (Some c) k) t v.parts (settled_text n i q c k) (v.far m b e)
+        stays_gone n m b k (settled_there n i q (Some c) k) t v.parts (settled_text n i q c k) (v.far m b e)
         (record { counted = gone.counted; none = gone_set m i k c _ t gone there (same_number q _ c); empty = gone.empty })
 
-pub settled_step : (n : Origin) (m i : ℕ) (b q : Bool) (k : Known) (t : Told) → IsNumbered k.connections k.count → IsOn m b k t → Stepped m b k (settled_at n i q k) t []
+pub settled_step : (n : Origin) (m i : ℕ) (b q : Bool) (k : Known) (t : Told) → IsNumbered k.connections k.count → IsOn m b k t → Stepped n m b k (settled_at n i q k) t []
 unfolding settled_at
 settled_step n m i b q k t numbered on = by_connection (slice_get k.connections i) refl
   where
-    by_connection : (o : Option Connection) → slice_get k.connections i ≡ o → Stepped m b k (settled_there n i q o k) t []
-    by_connection None there = nothing_step m b k t on
+    by_connection : (o : Option Connection) → slice_get k.connections i ≡ o → Stepped n m b k (settled_there n i q o k) t []
+    by_connection None there = nothing_step n m b k t on
     by_connection (Some c) there = there_settled n m i b q c k t numbered there on
 
 -- ---- the line that tells of repeats
@@ -236,22 +239,22 @@ unfolding repeated_parts
 repeated_own n m g b q true = refl
 repeated_own n m g b q false = refl
 
-repeats_step : (n : Origin) (m : ℕ) (b q : Bool) (f : Header) (c : Connection) (k : Known) (t : Told) → IsOn m b k t → Stepped m b k (repeats_told n q f c k) t []
+repeats_step : (n : Origin) (m : ℕ) (b q : Bool) (f : Header) (c : Connection) (k : Known) (t : Told) → IsOn m b k t → Stepped n m b k (repeats_told n q f c k) t []
 repeats_step n m b q f c k t (inl a) =
     let tells = tells_repeats q f c in
-    unchanged m b k (repeats_told n q f c k) t (repeated_parts n c.number q tells) (ap (λ z. k.text ++ z) (repeated_text n c.number q tells)) (repeated_own n m c.number b q tells) a refl
+    unchanged n m b k (repeats_told n q f c k) t (repeated_parts n c.number q tells) (ap (λ z. k.text ++ z) (repeated_text n c.number q tells)) (repeated_own n m c.number b q tells) a refl
 repeats_step n m b q f c k t (inr gone) =
     let tells = tells_repeats q f c in
-    stays_gone m b k (repeats_told n q f c k) t (repeated_parts n c.number q tells) (ap (λ z. k.text ++ z) (repeated_text n c.number q tells)) (repeated_own n m c.number b q tells)
+    stays_gone n m b k (repeats_told n q f c k) t (repeated_parts n c.number q tells) (ap (λ z. k.text ++ z) (repeated_text n c.number q tells)) (repeated_own n m c.number b q tells)
     (record { counted = gone.counted; none = gone.none; empty = gone.empty })
 
 pub at_step : (n : Origin) (m i : ℕ) (b q : Bool) (packet : PacketModel) (f : Header) (content : List ℕ) (c : Connection) (k : Known) (t : Told) → IsNumbered k.connections k.count → slice_get k.connections i ≡ Some c → IsOn m b k t
-    → Stepped m b k (after_in n i q packet f content c k) t (events_between (flow_at m b) (flow_at c.number q) (heading_at n m b) f content (acknowledged_in q f c) (side_in b c).track (due_of b c))
+    → Stepped n m b k (after_in n i q packet f content c k) t (events_between (flow_at m b) (flow_at c.number q) (heading_at n m b) f content (acknowledged_in q f c) (side_in b c).track (due_of b c))
 at_step n m i b q packet f content c k t numbered there on =
     let happened = events_between (flow_at m b) (flow_at c.number q) (heading_at n m b) f content (acknowledged_in q f c) (side_in b c).track (due_of b c) in
     let told = repeats_told n q f c k in
     let k' = taken_in n i q packet f content c told in
-    two_steps m b k told (settled_at n i q k') t [] happened (repeats_step n m b q f c k t on)
-    (λ v behind. subst (Stepped m b told (settled_at n i q k') v) (append-nil happened)
-    (two_steps m b told k' (settled_at n i q k') v happened [] (taken_step n m i b q packet f content c told v numbered there behind)
+    two_steps n m b k told (settled_at n i q k') t [] happened (repeats_step n m b q f c k t on)
+    (λ v behind. subst (Stepped n m b told (settled_at n i q k') v) (append-nil happened)
+    (two_steps n m b told k' (settled_at n i q k') v happened [] (taken_step n m i b q packet f content c told v numbered there behind)
     (λ u on'. settled_step n m i b q k' u (numbered_taken n i q packet f content c told there numbered) on')))

@@ -1,5 +1,5 @@
 -- A flow of a whole input is told by its events.
-use Rattle.std.proofs.Common.{◌≡◌, ◌∙◌, ap, sym, refl, subst, inl, inr, ℕ, ◌+◌, ◌==◌, Bool, true, false, cond, List, [], ◌∷◌, ◌++◌, append-nil, Option, Some, None, Result, Ok, Err}
+use Rattle.std.proofs.Common.{◌≡◌, ◌∙◌, ap, sym, refl, subst, inl, inr, ℕ, ◌+◌, ◌==◌, Bool, List, [], ◌∷◌, ◌++◌, length, append-nil, Option, Some, None, Result, Ok, Err}
 use Rattle.std.proofs.lemmas.Grind.{flat_map-append}
 use Rattle.hex.specs.Hex.{decode_of}
 use Rattle.hex.specs.declared.error.FromHexError.{FromHexError}
@@ -22,6 +22,8 @@ use Rattle.xns_calls.specs.declared.heading.Heading.{Heading}
 use Rattle.xns_calls.proofs.Numbered.{IsNumbered, Stays, numbered_stays, sequenced_holds}
 use Rattle.xns_calls.specs.declared.origin.Origin.{Origin}
 use Rattle.xns_calls.specs.Origins.{line_origin}
+use Rattle.xns_calls.proofs.AtLines.{AreBetween, line_between, line_heading}
+use Rattle.xns_calls.proofs.Comparing.{by_both}
 use Rattle.xns_calls.proofs.Whole.{after_append}
 use Rattle.xns_calls.proofs.Parts.{flow_append, flow_at, plain}
 use Rattle.xns_calls.proofs.Fits.{Fits, fits, fits_on}
@@ -29,10 +31,6 @@ use Rattle.xns_calls.proofs.Begun.{IsOn, Stepped, nothing_step, stays_gone, stil
 use Rattle.xns_calls.proofs.Renewals.{IsPlain, sequenced_step}
 
 -- ---- a line
-
-by_both : (P : Known → Option Arrival → Type 0) (p : Bool) (x y : Known) (u v : Option Arrival) → P x u → P y v → P (cond p x y) (cond p u v)
-by_both P true x y u v a b = a
-by_both P false x y u v a b = b
 
 module _ (programs : Programs) where
   -- a line is refused, or does nothing, or brings a packet
@@ -42,29 +40,29 @@ module _ (programs : Programs) where
   line_is P n k bad same takes line = by_digits (decode_of (digits_of line))
     where
       by_header : (packet : PacketModel) (r : Result (Header × List ℕ) SppFault) → P (after_header (line_origin programs n) packet r k) (with_header packet r)
-      by_header packet (Ok found) = by_both P (found.0.target_id == 0) k (after_sequenced (line_origin programs n) packet found.0 found.1 k) None (Some (packet, found.0, found.1)) same (takes (packet, found.0, found.1))
+      by_header packet (Ok found) = by_both P (found.0.target_id == 0) k (after_sequenced (line_origin programs n) packet found.0 found.1 k) None (Some (packet, found.0, found.1)) (λ e. same) (λ e. takes (packet, found.0, found.1))
       by_header packet (Err fault) = bad (bad_header (line_origin programs n) fault) (λ p. refl)
 
       by_packet : (r : Result (PacketModel × ℕ) IdpFault) → P (after_found (line_origin programs n) r k) (in_packet r)
       by_packet (Ok found) =
-          by_both P (found.0.kind == 5) (after_header (line_origin programs n) found.0 (header_of found.0.body) k) k (with_header found.0 (header_of found.0.body)) None (by_header found.0 (header_of found.0.body)) same
+          by_both P (found.0.kind == 5) (after_header (line_origin programs n) found.0 (header_of found.0.body) k) k (with_header found.0 (header_of found.0.body)) None (λ e. by_header found.0 (header_of found.0.body)) (λ e. same)
       by_packet (Err fault) = bad (bad_packet (line_origin programs n) fault) (λ p. refl)
 
       by_digits : (r : Result (List ℕ) FromHexError) → P (after_digits programs n r k) (in_bytes r)
       by_digits (Ok bytes) = by_packet (packet_of bytes)
       by_digits (Err error) = bad (bad_hex n error) (λ p. refl)
 
-  refused_step : (m : ℕ) (b : Bool) (k : Known) (t : Told) (part : Part) → text_in (flow_at m b) part ≡ [] → IsOn m b k t → Stepped m b k (refuse (part_text part) k) t []
-  refused_step m b k t part none (inl a) =
-      unchanged m b k (refuse (part_text part) k) t (part ∷ []) (ap (λ z. k.text ++ z) (sym (append-nil (part_text part)))) (ap (λ z. z ++ []) none) a refl
-  refused_step m b k t part none (inr gone) =
-      stays_gone m b k (refuse (part_text part) k) t (part ∷ []) (ap (λ z. k.text ++ z) (sym (append-nil (part_text part)))) (ap (λ z. z ++ []) none) (record { counted = gone.counted; none = gone.none; empty = gone.empty })
+  refused_step : (n : Origin) (m : ℕ) (b : Bool) (k : Known) (t : Told) (part : Part) → text_in (flow_at m b) part ≡ [] → IsOn m b k t → Stepped n m b k (refuse (part_text part) k) t []
+  refused_step n m b k t part none (inl a) =
+      unchanged n m b k (refuse (part_text part) k) t (part ∷ []) (ap (λ z. k.text ++ z) (sym (append-nil (part_text part)))) (ap (λ z. z ++ []) none) a refl
+  refused_step n m b k t part none (inr gone) =
+      stays_gone n m b k (refuse (part_text part) k) t (part ∷ []) (ap (λ z. k.text ++ z) (sym (append-nil (part_text part)))) (ap (λ z. z ++ []) none) (record { counted = gone.counted; none = gone.none; empty = gone.empty })
 
-  line_step : IsPlain → (n m : ℕ) (b : Bool) (k : Known) (t : Told) → IsNumbered k.connections k.count → IsOn m b k t → (line : List ℕ) → Stepped m b k (after_line programs n line k) t (events_at (flow_at m b) (line_origin programs n) (arrival line) k)
+  line_step : IsPlain → (n m : ℕ) (b : Bool) (k : Known) (t : Told) → IsNumbered k.connections k.count → IsOn m b k t → (line : List ℕ) → Stepped (line_origin programs n) m b k (after_line programs n line k) t (events_at (flow_at m b) (line_origin programs n) (arrival line) k)
   line_step plain n m b k t numbered on line =
-      line_is (λ k' o. Stepped m b k k' t (events_at (flow_at m b) (line_origin programs n) o k)) n k
-      (λ part none. refused_step m b k t part (none (flow_at m b)) on)
-      (nothing_step m b k t on)
+      line_is (λ k' o. Stepped (line_origin programs n) m b k k' t (events_at (flow_at m b) (line_origin programs n) o k)) n k
+      (λ part none. refused_step (line_origin programs n) m b k t part (none (flow_at m b)) on)
+      (nothing_step (line_origin programs n) m b k t on)
       (λ x. sequenced_step plain (line_origin programs n) m b x.0 x.1 x.2 k t numbered on)
       line
 
@@ -90,9 +88,10 @@ module _ (programs : Programs) where
 
 -- ---- all lines, once the flow has begun
 
-pub record Ran (m : ℕ) (b : Bool) (text : List ℕ) (k' : Known) (t : Told) (happened : List Event) : Type 0 where
+pub record Ran (at_line : ℕ → Heading) (first behind m : ℕ) (b : Bool) (text : List ℕ) (k' : Known) (t : Told) (happened : List Event) : Type 0 where
   pub events : List Event
   pub are : Fits happened (plain events)
+  pub at : AreBetween at_line first behind events
   pub stands : IsOn m b k' (after_events events t)
   pub parts : List Part
   pub is : text ≡ parts_text parts
@@ -112,8 +111,8 @@ from_front m b k t (inl a) = inl (still m b k (record k { text = [] }) t a refl)
 from_front m b k t (inr gone) = inr (record { counted = gone.counted; none = gone.none; empty = gone.empty })
 
 module _ (programs : Programs) where
-  pub lines_ran : IsPlain → (n m : ℕ) (b : Bool) (k : Known) (t : Told) → IsNumbered k.connections k.count → IsOn m b k t → (lines : List (List ℕ)) → Ran m b (text_from programs n k lines) (known_from programs n k lines) t (events_from programs (flow_at m b) n k lines)
-  lines_ran plain_places n m b k t numbered on [] = record { events = []; are = fits [] [] refl; stands = on; parts = []; is = refl; own = refl }
+  pub lines_ran : IsPlain → (n m : ℕ) (b : Bool) (k : Known) (t : Told) → IsNumbered k.connections k.count → IsOn m b k t → (lines : List (List ℕ)) → Ran (line_heading programs m b) n (n + length lines) m b (text_from programs n k lines) (known_from programs n k lines) t (events_from programs (flow_at m b) n k lines)
+  lines_ran plain_places n m b k t numbered on [] = record { events = []; are = fits [] [] refl; at = tt; stands = on; parts = []; is = refl; own = refl }
   lines_ran plain_places n m b k t numbered on (line ∷ lines) =
       let start : Known = record k { text = [] } in
       let u : Told = with_others t.calls [] k.is_refused t in
@@ -124,6 +123,7 @@ module _ (programs : Programs) where
         events = meanwhile t.calls [] k.is_refused ∷ (w.events ++ v.events);
         are = fits_on (events_at P (line_origin programs n) (arrival line) k) (events_from programs P (n + 1) next lines) w.events v.events
             (subst (λ es. Fits es (plain w.events)) (events_front P (line_origin programs n) (arrival line) k) w.are) v.are;
+        at = line_between (line_heading programs m b) n lines line w.events v.events w.at v.at;
         stands = subst (IsOn m b (known_from programs (n + 1) next lines)) (sym (after_append w.events v.events u)) v.stands;
         parts = w.parts ++ v.parts;
         is = ap (λ z. z ++ text_from programs (n + 1) next lines) w.text ∙ ap (λ z. parts_text w.parts ++ z) v.is ∙ sym (flat_map-append part_text w.parts v.parts);

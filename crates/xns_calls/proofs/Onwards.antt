@@ -17,6 +17,7 @@ use Rattle.xns_calls.specs.declared.track.Track.{Track}
 use Rattle.xns_calls.proofs.Whole.{after_append}
 use Rattle.xns_calls.proofs.Adding.{Adds, first_adds}
 use Rattle.xns_calls.proofs.Packets.{read_event, read_none, read_other}
+use Rattle.xns_calls.proofs.AtLines.{AreAt, both_at}
 use Rattle.xns_calls.proofs.Parts.{added, far_text, flow_append, flow_at, other_text, own_text, plain, plain_one}
 
 -- ---- what one flow reads
@@ -44,26 +45,28 @@ said_new n m b s = let h = heading_at n m b in added h s.text (own_read h s).tex
 
 -- ---- for a flow that has begun, which is the scene's own
 
-pub record Ran (m : ℕ) (b : Bool) (s s' : Scene) (t : Told) : Type 0 where
+pub record Ran (n : Origin) (m : ℕ) (b : Bool) (s s' : Scene) (t : Told) : Type 0 where
   pub events : List Event
   pub are : plain events ≡ []
+  pub at : AreAt (heading_at n m b) events
   pub track : s'.own.track ≡ Some (after_events events t).track
   pub is : after_events events t ≡ told_of (after_events events t).track s'
   pub parts : List Part
   pub text : s'.text ≡ s.text ++ parts_text parts
   pub own : texts_in (flow_at m b) parts ≡ flow_text events t
 
-stays : (m : ℕ) (b : Bool) (s : Scene) (t : Told) → s.own.track ≡ Some t.track → t ≡ told_of t.track s → Ran m b s s t
-stays m b s t track is = record { events = []; are = refl; track = track; is = is; parts = []; text = sym (append-nil s.text); own = refl }
+stays : (n : Origin) (m : ℕ) (b : Bool) (s : Scene) (t : Told) → s.own.track ≡ Some t.track → t ≡ told_of t.track s → Ran n m b s s t
+stays n m b s t track is = record { events = []; are = refl; at = tt; track = track; is = is; parts = []; text = sym (append-nil s.text); own = refl }
 
 -- the flow reads its first item
-reads : (n : Origin) (m : ℕ) (b : Bool) (s : Scene) (t : Told) → s.own.track ≡ Some t.track → t ≡ told_of t.track s → Ran m b s (own_read (heading_at n m b) s) t
+reads : (n : Origin) (m : ℕ) (b : Bool) (s : Scene) (t : Told) → s.own.track ≡ Some t.track → t ≡ told_of t.track s → Ran n m b s (own_read (heading_at n m b) s) t
 reads n m b s t track is =
     let h = heading_at n m b in
     let u = first_read h t in
     let after : own_read h s ≡ after_told u s = read_event h s t.track track ∙ ap (λ (x : Told). after_told (first_read h x) s) (sym is) in record {
       events = read h ∷ [];
       are = refl;
+      at = (refl, tt);
       track = ap (λ (x : Scene). x.own.track) after;
       is = sym (ap (λ (x : Scene). told_of u.track x) after);
       parts = told n (flow_at m b) (read_said n m b s) ∷ [];
@@ -74,12 +77,13 @@ reads n m b s t track is =
 
 -- the flow behind reads
 waits : (n : Origin) (m : ℕ) (b : Bool) (s : Scene) (t : Told) → s.own.track ≡ Some t.track → t ≡ told_of t.track s
-    → Ran m b s (seen_from_other (own_read (heading_at n m (not b)) (seen_from_other s))) t
+    → Ran n m b s (seen_from_other (own_read (heading_at n m (not b)) (seen_from_other s))) t
 waits n m b s t track is =
     let x = seen_from_other s in
     let y = own_read (heading_at n m (not b)) x in record {
       events = meanwhile (record { own = y.other.call; asked = y.own.call }) y.text y.is_refused ∷ [];
       are = refl;
+      at = tt;
       track = read_other (heading_at n m (not b)) x ∙ track;
       is = refl;
       parts = told n (flow_at m (not b)) (read_said n m (not b) x) ∷ [];
@@ -87,12 +91,13 @@ waits n m b s t track is =
       own = ap (λ z. z ++ []) (other_text n m b (read_said n m (not b) x));
     }
 
-ran_on : (m : ℕ) (b : Bool) (s s' s'' : Scene) (t : Told) → (w : Ran m b s s' t) → Ran m b s' s'' (after_events w.events t) → Ran m b s s'' t
-ran_on m b s s' s'' t w v =
+ran_on : (n : Origin) (m : ℕ) (b : Bool) (s s' s'' : Scene) (t : Told) → (w : Ran n m b s s' t) → Ran n m b s' s'' (after_events w.events t) → Ran n m b s s'' t
+ran_on n m b s s' s'' t w v =
     let P = flow_at m b in
     let same = after_append w.events v.events t in record {
       events = w.events ++ v.events;
       are = flat_map-append plain_one w.events v.events ∙ ap (λ z. z ++ plain v.events) w.are ∙ v.are;
+      at = both_at (heading_at n m b) w.events v.events w.at v.at;
       track = v.track ∙ ap (λ (x : Told). Some x.track) (sym same);
       is = same ∙ v.is ∙ ap (λ (x : Told). told_of x.track s'') (sym same);
       parts = w.parts ++ v.parts;
@@ -100,41 +105,41 @@ ran_on m b s s' s'' t w v =
       own = flat_map-append (text_in P) w.parts v.parts ∙ ap (λ z. z ++ texts_in P v.parts) w.own ∙ ap (λ z. flow_text w.events t ++ z) v.own ∙ sym (flow_append w.events v.events t);
     }
 
-own_turn : (n : Origin) (m : ℕ) (b : Bool) (o : Option Bool) (s : Scene) (t : Told) → s.own.track ≡ Some t.track → t ≡ told_of t.track s → Ran m b s (read_of (heading_at n m b) o s) t
-own_turn n m b None s t track is = stays m b s t track is
+own_turn : (n : Origin) (m : ℕ) (b : Bool) (o : Option Bool) (s : Scene) (t : Told) → s.own.track ≡ Some t.track → t ≡ told_of t.track s → Ran n m b s (read_of (heading_at n m b) o s) t
+own_turn n m b None s t track is = stays n m b s t track is
 own_turn n m b (Some false) s t track is = reads n m b s t track is
 own_turn n m b (Some true) s t track is = waits n m b s t track is
 
 other_turn : (n : Origin) (m : ℕ) (q : Bool) (o : Option Bool) (s : Scene) (t : Told) → s.other.track ≡ Some t.track → t ≡ told_of t.track (seen_from_other s)
-    → Ran m (not q) (seen_from_other s) (seen_from_other (read_of (heading_at n m q) o s)) t
-other_turn n m q None s t track is = stays m (not q) (seen_from_other s) t track is
+    → Ran n m (not q) (seen_from_other s) (seen_from_other (read_of (heading_at n m q) o s)) t
+other_turn n m q None s t track is = stays n m (not q) (seen_from_other s) t track is
 other_turn n m true (Some false) s t track is = waits n m false (seen_from_other s) t track is
 other_turn n m false (Some false) s t track is = waits n m true (seen_from_other s) t track is
 other_turn n m q (Some true) s t track is = reads n m (not q) (seen_from_other s) t track is
 
-own_times : (n : Origin) (m : ℕ) (b : Bool) (count : ℕ) (given : Given) (s : Scene) (t : Told) → s.own.track ≡ Some t.track → t ≡ told_of t.track s → Ran m b s (read_times count (heading_at n m b) given s) t
-own_times n m b zero given s t track is = stays m b s t track is
+own_times : (n : Origin) (m : ℕ) (b : Bool) (count : ℕ) (given : Given) (s : Scene) (t : Told) → s.own.track ≡ Some t.track → t ≡ told_of t.track s → Ran n m b s (read_times count (heading_at n m b) given s) t
+own_times n m b zero given s t track is = stays n m b s t track is
 own_times n m b (suc count) given s t track is =
     let h = heading_at n m b in
     let s' = one_read h given s in
     let w = own_turn n m b (next_turn given s.own.track s.other.track) s t track is in
-    ran_on m b s s' (read_times count h given s') t w (own_times n m b count given s' (after_events w.events t) w.track w.is)
+    ran_on n m b s s' (read_times count h given s') t w (own_times n m b count given s' (after_events w.events t) w.track w.is)
 
 other_times : (n : Origin) (m : ℕ) (q : Bool) (count : ℕ) (given : Given) (s : Scene) (t : Told) → s.other.track ≡ Some t.track → t ≡ told_of t.track (seen_from_other s)
-    → Ran m (not q) (seen_from_other s) (seen_from_other (read_times count (heading_at n m q) given s)) t
-other_times n m q zero given s t track is = stays m (not q) (seen_from_other s) t track is
+    → Ran n m (not q) (seen_from_other s) (seen_from_other (read_times count (heading_at n m q) given s)) t
+other_times n m q zero given s t track is = stays n m (not q) (seen_from_other s) t track is
 other_times n m q (suc count) given s t track is =
     let h = heading_at n m q in
     let s' = one_read h given s in
     let w = other_turn n m q (next_turn given s.own.track s.other.track) s t track is in
-    ran_on m (not q) (seen_from_other s) (seen_from_other s') (seen_from_other (read_times count h given s')) t w (other_times n m q count given s' (after_events w.events t) w.track w.is)
+    ran_on n m (not q) (seen_from_other s) (seen_from_other s') (seen_from_other (read_times count h given s')) t w (other_times n m q count given s' (after_events w.events t) w.track w.is)
 
-pub own_settled : (n : Origin) (m : ℕ) (b : Bool) (given : Given) (s : Scene) (t : Told) → s.own.track ≡ Some t.track → t ≡ told_of t.track s → Ran m b s (settled (heading_at n m b) given s) t
+pub own_settled : (n : Origin) (m : ℕ) (b : Bool) (given : Given) (s : Scene) (t : Told) → s.own.track ≡ Some t.track → t ≡ told_of t.track s → Ran n m b s (settled (heading_at n m b) given s) t
 unfolding settled
 own_settled n m b given s t track is = own_times n m b (kept_count s.own.track + kept_count s.other.track) given s t track is
 
 pub other_settled : (n : Origin) (m : ℕ) (q : Bool) (given : Given) (s : Scene) (t : Told) → s.other.track ≡ Some t.track → t ≡ told_of t.track (seen_from_other s)
-    → Ran m (not q) (seen_from_other s) (seen_from_other (settled (heading_at n m q) given s)) t
+    → Ran n m (not q) (seen_from_other s) (seen_from_other (settled (heading_at n m q) given s)) t
 unfolding settled
 other_settled n m q given s t track is = other_times n m q (kept_count s.own.track + kept_count s.other.track) given s t track is
 

@@ -64,14 +64,15 @@ gone_renewed m i flow n c k t gone = record {
 
 pub forget_near : (n : Origin) (i : ℕ) (b : Bool) (flow : Flow) (c : Connection) (k : Known) (t : Told) → IsNumbered k.connections k.count → slice_get k.connections i ≡ Some c → IsOrdered t
     → (scene_in b c k).own.track ≡ Some t.track → t ≡ told_of t.track (scene_in b c k)
-    → Stepped c.number b k (forgotten n i flow c k) t (acknowledged_event (heading_at n c.number b) (behind_last (side_in b c).track))
+    → Stepped n c.number b k (forgotten n i flow c k) t (acknowledged_event (heading_at n c.number b) (behind_last (side_in b c).track))
 forget_near n i b flow c k t numbered there ordered track is =
     let w = flow_ends n b c k t track is ordered in
     let o = behind_last (Some t.track) in
-    subst (λ o. Stepped c.number b k (forgotten n i flow c k) t (acknowledged_event (heading_at n c.number b) (behind_last o))) (sym track ∙ side_track b c k)
+    subst (λ o. Stepped n c.number b k (forgotten n i flow c k) t (acknowledged_event (heading_at n c.number b) (behind_last o))) (sym track ∙ side_track b c k)
     (record {
       events = w.events;
       are = acks_fit (heading_at n c.number b) o w.events (w.acks (bound_of o) (all_below t ordered)).0;
+      at = w.at;
       stands = inr (gone_now k i flow n c (after_events w.events t) numbered there (flow_left n b c k (after_events w.events t).track w.track));
       parts = w.parts;
       text = w.text;
@@ -79,27 +80,27 @@ forget_near n i b flow c k t numbered there ordered track is =
     })
 
 pub forget_step : (n : Origin) (m i : ℕ) (b : Bool) (flow : Flow) (c : Connection) (k : Known) (t : Told) → IsNumbered k.connections k.count → slice_get k.connections i ≡ Some c → IsOn m b k t
-    → Stepped m b k (forgotten n i flow c k) t (ending_events (flow_at m b) (heading_at n m b) c)
+    → Stepped n m b k (forgotten n i flow c k) t (ending_events (flow_at m b) (heading_at n m b) c)
 forget_step n m i b flow c k t numbered there on = by_number (m == c.number) refl on
   where
     ended : Says c.number (scene_in false c k) (both_ended (heading_at n c.number false) (scene_in false c k))
     ended = ends_say n c.number false (scene_in false c k)
 
-    by_number : (p : Bool) → (m == c.number) ≡ p → IsOn m b k t → Stepped m b k (forgotten n i flow c k) t (cond p (acknowledged_event (heading_at n m b) (behind_last (side_in b c).track)) [])
+    by_number : (p : Bool) → (m == c.number) ≡ p → IsOn m b k t → Stepped n m b k (forgotten n i flow c k) t (cond p (acknowledged_event (heading_at n m b) (behind_last (side_in b c).track)) [])
     by_number true e (inl a) =
         let place : a.place ≡ i = numbered.alone a.place i a.connection c a.there there (a.number ∙ equal_tells m c.number e) in
         let some : Some a.connection ≡ Some c = sym a.there ∙ ap (slice_get k.connections) place ∙ there in
         let one : a.connection ≡ c = (cc) in
         let track : (scene_in b c k).own.track ≡ Some t.track = ap (λ (x : Connection). (scene_in b x k).own.track) (sym one) ∙ a.track in
         let is : t ≡ told_of t.track (scene_in b c k) = a.is ∙ ap (λ (x : Connection). told_of t.track (scene_in b x k)) one in
-        subst (λ g. Stepped g b k (forgotten n i flow c k) t (acknowledged_event (heading_at n g b) (behind_last (side_in b c).track))) (sym (equal_tells m c.number e))
+        subst (λ g. Stepped n g b k (forgotten n i flow c k) t (acknowledged_event (heading_at n g b) (behind_last (side_in b c).track))) (sym (equal_tells m c.number e))
         (forget_near n i b flow c k t numbered there a.ordered track is)
     by_number true e (inr gone) = absurd (gone.none i c there (sym (equal_tells m c.number e)))
     by_number false e (inl a) =
-        unchanged m b k (forgotten n i flow c k) t (forgotten_parts n c k) ended.text (ended.far m b e) a
+        unchanged n m b k (forgotten n i flow c k) t (forgotten_parts n c k) ended.text (ended.far m b e) a
         (get_set k.connections a.place i _ (other_place k a.place i a.connection c a.there there (λ same. number_tells m c.number e (sym a.number ∙ same))))
     by_number false e (inr gone) =
-        stays_gone m b k (forgotten n i flow c k) t (forgotten_parts n c k) ended.text (ended.far m b e)
+        stays_gone n m b k (forgotten n i flow c k) t (forgotten_parts n c k) ended.text (ended.far m b e)
         (gone_renewed m i flow n c k t gone)
 
 -- ---- a connection that begins
@@ -130,13 +131,13 @@ new_there plain n i flow packet f content number k there =
 -- the first packet of a connection is nothing to a flow that has begun before
 pub fresh_step : IsPlain → (n : Origin) (m i : ℕ) (b : Bool) (flow : Flow) (packet : PacketModel) (f : Header) (content : List ℕ) (number : ℕ) (k : Known) (t : Told) → IsNumbered k.connections k.count
     → slice_get k.connections i ≡ Some (new_connection number flow) → IsOn m b k t
-    → Stepped m b k (after_at n i flow packet f content k) t (events_between (flow_at m b) (flow_at number false) (heading_at n m b) f content None None None)
+    → Stepped n m b k (after_at n i flow packet f content k) t (events_between (flow_at m b) (flow_at number false) (heading_at n m b) f content None None None)
 fresh_step plain n m i b flow packet f content number k t numbered there on =
     let c = new_connection number flow in
-    subst (λ k'. Stepped m b k k' t (events_between (flow_at m b) (flow_at number false) (heading_at n m b) f content None None None)) (sym (new_there plain n i flow packet f content number k there))
-    (subst (λ o. Stepped m b k (after_in n i false packet f content c k) t (events_between (flow_at m b) (flow_at number false) (heading_at n m b) f content None None o)) (none_due b number flow)
-    (subst (λ o. Stepped m b k (after_in n i false packet f content c k) t (events_between (flow_at m b) (flow_at number false) (heading_at n m b) f content None o (due_of b c))) (none_new b number flow)
-    (subst (λ o. Stepped m b k (after_in n i false packet f content c k) t (events_between (flow_at m b) (flow_at number false) (heading_at n m b) f content o (side_in b c).track (due_of b c))) (none_acknowledged false f number flow)
+    subst (λ k'. Stepped n m b k k' t (events_between (flow_at m b) (flow_at number false) (heading_at n m b) f content None None None)) (sym (new_there plain n i flow packet f content number k there))
+    (subst (λ o. Stepped n m b k (after_in n i false packet f content c k) t (events_between (flow_at m b) (flow_at number false) (heading_at n m b) f content None None o)) (none_due b number flow)
+    (subst (λ o. Stepped n m b k (after_in n i false packet f content c k) t (events_between (flow_at m b) (flow_at number false) (heading_at n m b) f content None o (due_of b c))) (none_new b number flow)
+    (subst (λ o. Stepped n m b k (after_in n i false packet f content c k) t (events_between (flow_at m b) (flow_at number false) (heading_at n m b) f content o (side_in b c).track (due_of b c))) (none_acknowledged false f number flow)
     (at_step n m i b false packet f content c k t numbered there on))))
 
 scene_more : (b : Bool) (flow : Flow) (c : Connection) (k : Known) → scene_in b c (with_new flow k) ≡ scene_in b c k
@@ -170,7 +171,7 @@ begun_before m b k t numbered (inr gone) = gone.counted
 
 -- a packet that begins a connection, or that is a system packet of none
 pub new_step : IsPlain → (n : Origin) (m : ℕ) (b : Bool) (flow : Flow) (packet : PacketModel) (f : Header) (content : List ℕ) (k : Known) (t : Told) → IsNumbered k.connections k.count → IsOn m b k t
-    → Stepped m b k (after_new_flow n flow packet f content k) t (events_between (flow_at m b) (next_name k) (heading_at n m b) f content None None None)
+    → Stepped n m b k (after_new_flow n flow packet f content k) t (events_between (flow_at m b) (next_name k) (heading_at n m b) f content None None None)
 new_step plain n m b flow packet f content k t numbered on = over (is_system f)
   where
     more : Known
@@ -184,30 +185,30 @@ new_step plain n m b flow packet f content k t numbered on = over (is_system f)
         ap (λ (p : Bool). cond p (near_events n m b false f content None None None) [])
         (next_other m k.count (begun_before m b k t numbered on))
 
-    over : (p : Bool) → Stepped m b k (cond p k (after_at n (length k.connections) flow packet f content more)) t happened
-    over true = subst (Stepped m b k k t) (sym none) (nothing_step m b k t on)
+    over : (p : Bool) → Stepped n m b k (cond p k (after_at n (length k.connections) flow packet f content more)) t happened
+    over true = subst (Stepped n m b k k t) (sym none) (nothing_step n m b k t on)
     over false =
         let w = fresh_step plain n m (length k.connections) b flow packet f content (k.count + 1) more t (numbered_more k.connections k.count (new_connection (k.count + 1) flow) numbered refl)
         (get_last k.connections (new_connection (k.count + 1) flow)) (with_more m b flow k t on) in
-        record { events = w.events; are = w.are; stands = w.stands; parts = w.parts; text = w.text; own = w.own }
+        record { events = w.events; are = w.are; at = w.at; stands = w.stands; parts = w.parts; text = w.text; own = w.own }
 
 -- a packet of a connection that is there, which may begin anew
 pub place_step : IsPlain → (n : Origin) (m i : ℕ) (b : Bool) (packet : PacketModel) (f : Header) (content : List ℕ) (c : Connection) (k : Known) (t : Told) → IsNumbered k.connections k.count → slice_get k.connections i ≡ Some c → IsOn m b k t
-    → Stepped m b k (after_at n i (flow_of packet f) packet f content (renewed n i (flow_of packet f) f k)) t (events_there (flow_at m b) (heading_at n m b) (packet, f, content) (Some c) k)
+    → Stepped n m b k (after_at n i (flow_of packet f) packet f content (renewed n i (flow_of packet f) f k)) t (events_there (flow_at m b) (heading_at n m b) (packet, f, content) (Some c) k)
 unfolding renewed after_at
 place_step plain n m i b packet f content c k t numbered there on =
-    subst (λ o. Stepped m b k (after_at n i flow packet f content (renewed_there n i flow f o k)) t (events_there (flow_at m b) (heading_at n m b) (packet, f, content) (Some c) k)) (sym there)
+    subst (λ o. Stepped n m b k (after_at n i flow packet f content (renewed_there n i flow f o k)) t (events_there (flow_at m b) (heading_at n m b) (packet, f, content) (Some c) k)) (sym there)
     (by_anew (begins_anew f c))
   where
     flow : Flow
     flow = flow_of packet f
 
     by_anew : (p : Bool)
-        → Stepped m b k (after_at n i flow packet f content (cond p (forgotten n i flow c k) k)) t
+        → Stepped n m b k (after_at n i flow packet f content (cond p (forgotten n i flow c k) k)) t
         (cond p (ending_events (flow_at m b) (heading_at n m b) c ++ events_between (flow_at m b) (next_name k) (heading_at n m b) f content None None None)
         (events_between (flow_at m b) (name_in flow c) (heading_at n m b) f content (acknowledged_in (is_behind_in flow c) f c) (side_in b c).track (due_of b c)))
     by_anew true =
-        two_steps m b k (forgotten n i flow c k) (after_at n i flow packet f content (forgotten n i flow c k)) t (ending_events (flow_at m b) (heading_at n m b) c)
+        two_steps n m b k (forgotten n i flow c k) (after_at n i flow packet f content (forgotten n i flow c k)) t (ending_events (flow_at m b) (heading_at n m b) c)
         (events_between (flow_at m b) (next_name k) (heading_at n m b) f content None None None)
         (forget_step n m i b flow c k t numbered there on)
         (λ u on'. fresh_step plain n m i b flow packet f content (k.count + 1) (forgotten n i flow c k) u
@@ -215,20 +216,20 @@ place_step plain n m i b packet f content c k t numbered there on =
         (get_same k.connections i c (new_connection (k.count + 1) flow) there) on')
     by_anew false = there_step
       where
-        there_step : Stepped m b k (after_at n i flow packet f content k) t (events_between (flow_at m b) (name_in flow c) (heading_at n m b) f content (acknowledged_in (is_behind_in flow c) f c) (side_in b c).track (due_of b c))
+        there_step : Stepped n m b k (after_at n i flow packet f content k) t (events_between (flow_at m b) (name_in flow c) (heading_at n m b) f content (acknowledged_in (is_behind_in flow c) f c) (side_in b c).track (due_of b c))
         there_step =
-            subst (λ o. Stepped m b k (after_there n i flow packet f content o k) t (events_between (flow_at m b) (name_in flow c) (heading_at n m b) f content (acknowledged_in (is_behind_in flow c) f c) (side_in b c).track (due_of b c))) (sym there)
+            subst (λ o. Stepped n m b k (after_there n i flow packet f content o k) t (events_between (flow_at m b) (name_in flow c) (heading_at n m b) f content (acknowledged_in (is_behind_in flow c) f c) (side_in b c).track (due_of b c))) (sym there)
             (at_step n m i b (is_behind_in flow c) packet f content c k t numbered there on)
 
 pub sequenced_step : IsPlain → (n : Origin) (m : ℕ) (b : Bool) (packet : PacketModel) (f : Header) (content : List ℕ) (k : Known) (t : Told) → IsNumbered k.connections k.count → IsOn m b k t
-    → Stepped m b k (after_sequenced n packet f content k) t (events_there (flow_at m b) (heading_at n m b) (packet, f, content) (connection_of packet f k.connections) k)
+    → Stepped n m b k (after_sequenced n packet f content k) t (events_there (flow_at m b) (heading_at n m b) (packet, f, content) (connection_of packet f k.connections) k)
 unfolding after_sequenced
 sequenced_step plain n m b packet f content k t numbered on = by_place (place_of (flow_of packet f) k.connections) refl
   where
     by_place : (o : Option ℕ) → place_of (flow_of packet f) k.connections ≡ o
-        → Stepped m b k (after_place n (flow_of packet f) packet f content o k) t (events_there (flow_at m b) (heading_at n m b) (packet, f, content) (connection_at o k.connections) k)
+        → Stepped n m b k (after_place n (flow_of packet f) packet f content o k) t (events_there (flow_at m b) (heading_at n m b) (packet, f, content) (connection_at o k.connections) k)
     by_place (Some i) at =
         let w = place_there (flow_of packet f) k.connections i at in
-        subst (λ o. Stepped m b k (after_at n i (flow_of packet f) packet f content (renewed n i (flow_of packet f) f k)) t (events_there (flow_at m b) (heading_at n m b) (packet, f, content) o k)) (sym w.1)
+        subst (λ o. Stepped n m b k (after_at n i (flow_of packet f) packet f content (renewed n i (flow_of packet f) f k)) t (events_there (flow_at m b) (heading_at n m b) (packet, f, content) o k)) (sym w.1)
         (place_step plain n m i b packet f content w.0 k t numbered w.1 on)
     by_place None at = new_step plain n m b (flow_of packet f) packet f content k t numbered on

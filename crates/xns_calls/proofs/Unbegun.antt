@@ -23,6 +23,7 @@ use Rattle.xns_calls.specs.declared.due.Due.{Due}
 use Rattle.xns_calls.specs.declared.heading.Heading.{Heading}
 use Rattle.xns_calls.specs.declared.track.Track.{Track}
 use Rattle.xns_calls.proofs.Adding.{number_adds}
+use Rattle.xns_calls.proofs.AtLines.{AreAt, captured_at}
 use Rattle.xns_calls.proofs.Fits.{Fits, fits}
 use Rattle.xns_calls.proofs.Comparing.{equal_tells}
 use Rattle.xns_calls.proofs.Known.{events_ordered, new_ordered}
@@ -57,13 +58,14 @@ pub record Awaits (m : ℕ) (b : Bool) (before : List ℕ) (k : Known) (happened
   pub own : texts_in (flow_at m b) parts ≡ []
 
 -- the flow begins
-pub record Starts (m : ℕ) (b : Bool) (before : List ℕ) (k : Known) (happened : List Event) (field : Option ℕ) : Type 0 where
+pub record Starts (n : Origin) (m : ℕ) (b : Bool) (before : List ℕ) (k : Known) (happened : List Event) (field : Option ℕ) : Type 0 where
   pub first : ℕ
   pub has : field ≡ Some first
   pub start : Told
   pub track : start.track ≡ first_track first
   pub events : List Event
   pub are : Fits happened (plain events)
+  pub at : AreAt (heading_at n m b) events
   pub stands : IsOn m b k (after_events events start)
   pub heading : Heading
   pub packet : PacketModel
@@ -72,8 +74,8 @@ pub record Starts (m : ℕ) (b : Bool) (before : List ℕ) (k : Known) (happened
   pub text : k.text ≡ before ++ parts_text parts
   pub own : texts_in (flow_at m b) parts ≡ flow_line heading packet header ++ flow_text events start
 
-abbrev pub Met : ℕ → Bool → List ℕ → Known → List Event → Option ℕ → Type 0
-Met m b before k happened field = Awaits m b before k happened field ⊎ Starts m b before k happened field
+abbrev pub Met : Origin → ℕ → Bool → List ℕ → Known → List Event → Option ℕ → Type 0
+Met n m b before k happened field = Awaits m b before k happened field ⊎ Starts n m b before k happened field
 
 pub waits_still : (m : ℕ) (b : Bool) (k : Known) (happened : List Event) (field : Option ℕ) → AllKeep m b k.connections None → happened ≡ [] → field ≡ None → Awaits m b k.text k happened field
 waits_still m b k happened field none nothing later = record { none = none; nothing = nothing; later = later; parts = []; text = sym (append-nil k.text); own = refl }
@@ -144,7 +146,7 @@ packet_new h due packet f content s nothing none e =
     ∙ none_reached h (after_data h due.acknowledged packet f content known) ∙ data_new h due.acknowledged packet f content known (reached_own h due.other s ∙ none)
 
 own_starts : (n : Origin) (i : ℕ) (b : Bool) (packet : PacketModel) (f : Header) (content : List ℕ) (c : Connection) (k : Known) → slice_get k.connections i ≡ Some c → (scene_in b c k).own.track ≡ None → is_system f ≡ false
-    → Starts c.number b k.text (taken_in n i b packet f content c k) (item_events (heading_at n c.number b) f content (acknowledged_in b f c) None ++ acknowledged_event (heading_at n c.number b) (due_of b c)) (item_field f)
+    → Starts n c.number b k.text (taken_in n i b packet f content c k) (item_events (heading_at n c.number b) f content (acknowledged_in b f c) None ++ acknowledged_event (heading_at n c.number b) (due_of b c)) (item_field f)
 own_starts n i b packet f content c k there none e =
     let m = c.number in
     let h = heading_at n m b in
@@ -174,6 +176,7 @@ own_starts n i b packet f content c k there none e =
       events = events;
       are = fits (item_events h f content (acknowledged_in b f c) None ++ acknowledged_event h (due_of b c)) (plain events)
           (captured_plain h o item ∙ sym (append-nil events) ∙ sym (ap (λ a. events ++ acknowledged_event h a) nothing) ∙ sym (ap (λ p. cond p [] events ++ acknowledged_event h due.own) e));
+      at = captured_at h o item;
       stands = inl (stands_own i b f c new k there u (events_ordered events start (begun_ordered f.sequence start refl)) (ap (λ (x : Scene). x.own.track) after) (sym (ap (λ (x : Scene). told_of u.track x) after)));
       heading = h;
       packet = packet;
@@ -189,10 +192,10 @@ own_starts n i b packet f content c k there none e =
     }
 
 own_meets : (n : Origin) (i : ℕ) (b : Bool) (packet : PacketModel) (f : Header) (content : List ℕ) (c : Connection) (k : Known) → slice_get k.connections i ≡ Some c → AllKeep c.number b k.connections None
-    → (scene_in b c k).own.track ≡ None → Met c.number b k.text (taken_in n i b packet f content c k) (item_events (heading_at n c.number b) f content (acknowledged_in b f c) None ++ acknowledged_event (heading_at n c.number b) (due_of b c)) (item_field f)
+    → (scene_in b c k).own.track ≡ None → Met n c.number b k.text (taken_in n i b packet f content c k) (item_events (heading_at n c.number b) f content (acknowledged_in b f c) None ++ acknowledged_event (heading_at n c.number b) (due_of b c)) (item_field f)
 own_meets n i b packet f content c k there all none = by_system (is_system f) refl
   where
-    by_system : (p : Bool) → is_system f ≡ p → Met c.number b k.text (taken_in n i b packet f content c k) (item_events (heading_at n c.number b) f content (acknowledged_in b f c) None ++ acknowledged_event (heading_at n c.number b) (due_of b c)) (item_field f)
+    by_system : (p : Bool) → is_system f ≡ p → Met n c.number b k.text (taken_in n i b packet f content c k) (item_events (heading_at n c.number b) f content (acknowledged_in b f c) None ++ acknowledged_event (heading_at n c.number b) (due_of b c)) (item_field f)
     by_system true e = inl (own_waits n i b packet f content c k all none e)
     by_system false e = inr (own_starts n i b packet f content c k there none e)
 
@@ -230,7 +233,7 @@ abbrev near_field : Bool → Bool → Header → Option ℕ
 near_field b q f = cond (is_same b q) (item_field f) None
 
 near_meets : (n : Origin) (i : ℕ) (b q : Bool) (packet : PacketModel) (f : Header) (content : List ℕ) (c : Connection) (k : Known) → slice_get k.connections i ≡ Some c → AllKeep c.number b k.connections None
-    → (scene_in b c k).own.track ≡ None → Met c.number b k.text (taken_in n i q packet f content c k) (near_events n c.number b q f content (acknowledged_in q f c) None (due_of b c)) (near_field b q f)
+    → (scene_in b c k).own.track ≡ None → Met n c.number b k.text (taken_in n i q packet f content c k) (near_events n c.number b q f content (acknowledged_in q f c) None (due_of b c)) (near_field b q f)
 near_meets n i true true packet f content c k there all none = own_meets n i true packet f content c k there all none
 near_meets n i false false packet f content c k there all none = own_meets n i false packet f content c k there all none
 near_meets n i true false packet f content c k there all none = inl (behind_waits n i false packet f content c k all none)
@@ -250,15 +253,15 @@ far_waits n m i b q packet f content c k far other all =
     }
 
 pub taken_meets : (n : Origin) (m i : ℕ) (b q : Bool) (packet : PacketModel) (f : Header) (content : List ℕ) (c : Connection) (k : Known) → slice_get k.connections i ≡ Some c → AllKeep m b k.connections None
-    → Met m b k.text (taken_in n i q packet f content c k) (events_between (flow_at m b) (flow_at c.number q) (heading_at n m b) f content (acknowledged_in q f c) (side_in b c).track (due_of b c)) (field_between (flow_at m b) (flow_at c.number q) f)
+    → Met n m b k.text (taken_in n i q packet f content c k) (events_between (flow_at m b) (flow_at c.number q) (heading_at n m b) f content (acknowledged_in q f c) (side_in b c).track (due_of b c)) (field_between (flow_at m b) (flow_at c.number q) f)
 taken_meets n m i b q packet f content c k there all = by_number (m == c.number) refl
   where
     by_number : (p : Bool) → (m == c.number) ≡ p
-        → Met m b k.text (taken_in n i q packet f content c k) (cond p (near_events n m b q f content (acknowledged_in q f c) (side_in b c).track (due_of b c)) []) (cond p (near_field b q f) None)
+        → Met n m b k.text (taken_in n i q packet f content c k) (cond p (near_events n m b q f content (acknowledged_in q f c) (side_in b c).track (due_of b c)) []) (cond p (near_field b q f) None)
     by_number true e =
         let same : m ≡ c.number = equal_tells m c.number e in
         let none : (side_in b c).track ≡ None = all i c there (sym same) in
-        subst (λ o. Met m b k.text (taken_in n i q packet f content c k) (near_events n m b q f content (acknowledged_in q f c) o (due_of b c)) (near_field b q f)) (sym none)
-        (subst (λ g. Met g b k.text (taken_in n i q packet f content c k) (near_events n g b q f content (acknowledged_in q f c) None (due_of b c)) (near_field b q f)) (sym same)
+        subst (λ o. Met n m b k.text (taken_in n i q packet f content c k) (near_events n m b q f content (acknowledged_in q f c) o (due_of b c)) (near_field b q f)) (sym none)
+        (subst (λ g. Met n g b k.text (taken_in n i q packet f content c k) (near_events n g b q f content (acknowledged_in q f c) None (due_of b c)) (near_field b q f)) (sym same)
         (near_meets n i b q packet f content c k there (subst (λ g. AllKeep g b k.connections None) same all) (side_track b c k ∙ none)))
     by_number false e = inl (far_waits n m i b q packet f content c k e (number_tells m c.number e) all)

@@ -11,7 +11,7 @@ use Rattle.xns_calls.specs.Events.{AreWithinReach, Event, IsAmong, acknowledged,
 use Rattle.xns_calls.specs.Exchange.{behind_last, first_track}
 use Rattle.xns_calls.specs.Queue.{last_number}
 use Rattle.xns_calls.specs.Reading.{Told}
-use Rattle.xns_calls.specs.Whole.{AreOf, IsWhole, SaysConversation, flow_text, of_courier}
+use Rattle.xns_calls.specs.Whole.{AreOf, IsWhole, SaysConversation, flow_heard, flow_text, of_courier, with_end}
 use Rattle.xns_calls.specs.declared.early.Early.{Early}
 use Rattle.xns_calls.specs.declared.heading.Heading.{Heading}
 use Rattle.xns_calls.specs.declared.track.Track.{Track}
@@ -66,7 +66,7 @@ end_bound items events t first w = by_last (last_number u.track.early) refl
 -- what is said of a flow whose end comes is its conversation
 pub whole_end_said : (runs : SignsRunOn) (law : OneItemMore) → ((fed : List Item) → conversation fed ≡ said (opening []) (written fed)) → ((fed : List Item) → ending fed ≡ run (opening []) (written fed))
     → (items : List Item) (events : List Event) (field : ℕ) (t : Told) (h : Heading) → field < 64 → t.track ≡ first_track field → IsWhole items events
-    → SaysConversation (of_courier items) (flow_text (events ++ acknowledged_event h (behind_last (Some (after_events events t).track))) t)
+    → SaysConversation (of_courier items) (flow_heard (with_end h events t) t) (flow_text (with_end h events t) t)
 whole_end_said runs law messages ends items events field t h small at w =
     let u = after_events events t in
     let acks = acknowledged_event h (behind_last (Some u.track)) in

@@ -1,5 +1,5 @@
 -- A flow of a whole input: what happens to it, line by line, and the parts that the text is made of.
-use Rattle.std.specs.Prelude.{◌≡◌, ℕ, ◌+◌, ◌==◌, not, Bool, true, false, if◌then◌else◌, List, [], ◌∷◌, ◌++◌, slice_get}
+use Rattle.std.specs.Prelude.{◌≡◌, ℕ, ◌+◌, ◌==◌, ◌≤◌, not, Bool, true, false, if◌then◌else◌, List, [], ◌∷◌, ◌++◌, length, slice_get}
 use Rattle.std.specs.Prelude.{Option, Some, None, Result, Ok, Err}
 use Rattle.std.specs.List.{flat_map}
 use Rattle.hex.specs.Hex.{decode_of}
@@ -30,7 +30,7 @@ use Rattle.xns_calls.specs.Over.{side_in}
 use Rattle.xns_calls.specs.Telling.{message_line}
 use Rattle.xns_calls.specs.Texts.{flow_line, missing_line, refused_line, repeats_line}
 use Rattle.xns_calls.specs.TimeTexts.{time_text}
-use Rattle.xns_calls.specs.Whole.{SaysConversation, of_courier}
+use Rattle.xns_calls.specs.Whole.{SaysConversation, ToldHeard, of_courier}
 use Rattle.xns_calls.specs.declared.connection.Connection.{Connection}
 use Rattle.xns_dump.specs.declared.flows.flow.Flow.{Flow}
 use Rattle.xns_calls.specs.declared.heading.Heading.{Heading}
@@ -206,8 +206,15 @@ text_in p (bad_header n fault) = []
 abbrev pub texts_in : FlowName → List Part → List ℕ
 texts_in p parts = flat_map (text_in p) parts
 
--- the text is made of parts, of which those of the flow say that it begins, and then the conversation of its items
-pub record TellsConversation (p : FlowName) (items : List Item) (text : List ℕ) : Type 0 where
+-- each of what is heard is heard at a line of the input, up to the last one, in the order of the lines
+abbrev pub AreAtLines : Programs → FlowName → ℕ → ℕ → List ToldHeard → Type 0
+AreAtLines programs p first last [] = Unit {0}
+AreAtLines programs p first last (x ∷ more) =
+    (n : ℕ) × (first ≤ n) × (n ≤ last) × (x.0 ≡ heading_at (line_origin programs n) p.connection p.is_behind) × AreAtLines programs p n last more
+
+-- the text is made of parts, of which those of the flow say that it begins, and then the conversation of its items, each message at a line of
+-- the input, under the flow's name
+pub record TellsConversation (programs : Programs) (p : FlowName) (items : List Item) (lines : List (List ℕ)) (text : List ℕ) : Type 0 where
   pub parts : List Part
   pub all : text ≡ parts_text parts
   pub heading : Heading
@@ -215,4 +222,6 @@ pub record TellsConversation (p : FlowName) (items : List Item) (text : List ℕ
   pub header : Header
   pub said : List ℕ
   pub own : texts_in p parts ≡ flow_line heading packet header ++ said
-  pub conversation : SaysConversation (of_courier items) said
+  pub told : List ToldHeard
+  pub at : AreAtLines programs p 1 (length lines) told
+  pub conversation : SaysConversation (of_courier items) told said

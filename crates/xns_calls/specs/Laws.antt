@@ -20,7 +20,7 @@ use Rattle.xns_calls.specs.Capture.{Known, after_sequenced, flow_behind, place_o
 use Rattle.xns_calls.specs.Events.{AreWithinReach, Event, IsAmong, acknowledged_event, after_event, after_events, after_whole_event}
 use Rattle.xns_calls.specs.Events.{after_whole_events, captured, captured_in, own_events, with_captured}
 use Rattle.xns_calls.specs.Files.{calls_capture_text, has_file_refusal}
-use Rattle.xns_calls.specs.Exchange.{Scene, after_packet, after_told, behind_last, first_track, of_other, other_reached, seen_from_other}
+use Rattle.xns_calls.specs.Exchange.{Scene, after_packet, after_told, first_track, of_other, other_reached, seen_from_other}
 use Rattle.xns_calls.specs.Exchange.{take_number, told_of}
 use Rattle.xns_calls.specs.Input.{FlowName, TellsConversation, events_in, first_field}
 use Rattle.xns_calls.specs.Keys.{IsFlow, connection_key, key_cmp}
@@ -30,7 +30,7 @@ use Rattle.xns_calls.specs.Naming.{Programs}
 use Rattle.xns_calls.specs.Numbers.{near}
 use Rattle.xns_calls.specs.Reading.{Told}
 use Rattle.xns_calls.specs.Repeats.{has_row, repeats_of, tells_next}
-use Rattle.xns_calls.specs.Whole.{IsWhole, SaysConversation, flow_text, of_courier}
+use Rattle.xns_calls.specs.Whole.{IsWhole, SaysConversation, flow_heard, flow_text, of_courier, with_end}
 use Rattle.xns_calls.specs.declared.carried.Carried.{Carried}
 use Rattle.xns_calls.specs.declared.connection.Connection.{Connection}
 use Rattle.xns_calls.specs.declared.due.Due.{Due}
@@ -125,15 +125,14 @@ pub record MissingItemsAreBeforeCapturedOnes : Type 0 where
 abbrev pub WholeFlowsSayTheirConversation : Type 0
 WholeFlowsSayTheirConversation = (items : List Item) (events : List Event) (field : ℕ) (t : Told) (h : Heading) → field < most_pending
     → t.track ≡ first_track field → IsWhole items events
-    → SaysConversation (of_courier items)
-    (flow_text (events ++ acknowledged_event h (behind_last (Some (after_events events t).track))) t)
+    → SaysConversation (of_courier items) (flow_heard (with_end h events t) t) (flow_text (with_end h events t) t)
 
 -- of an input with whatever lines and flows: where each item of a flow stands in it so, its text tells of that flow that it begins and
 -- then its conversation, and nothing else up to the first fault but that repeats came in a row
 abbrev pub InputsTellTheirConversations : Type 0
 InputsTellTheirConversations = (programs : Programs) (input : List ℕ) (p : FlowName) (items : List Item) (field : ℕ)
     → first_field programs p (lines_of input) ≡ Some field → field < most_pending → IsWhole items (events_in programs p (lines_of input))
-    → TellsConversation p items (calls_text programs input)
+    → TellsConversation programs p items (lines_of input) (calls_text programs input)
 
 -- a packet to a known identifier changes no connection but that of its flow
 abbrev pub OtherConnectionsStay : Type 0

@@ -109,8 +109,9 @@ pub fn missing_items_are_before_captured_ones()
 {}
 
 /// Of a flow from item 0 on whose items are captured, all of them, in whatever order within 63 numbers and before what acknowledges
-/// them takes effect, the lines of the messages of its conversation are printed, in order, up to the first fault. Without a fault
-/// nothing else is printed of it, but the line with which it begins.
+/// them takes effect, the lines of the messages of its conversation are printed, in order, up to the first fault. Each is at the line or frame
+/// of the event with which its last item is read, and tells of the calls that have no answer then. Without a fault nothing else is printed of
+/// it, but the line with which it begins.
 pub fn whole_flows_say_their_conversation()
     ensures { WholeFlowsSayTheirConversation }
 {
@@ -122,7 +123,8 @@ pub fn whole_flows_say_their_conversation()
 /// A whole flow's conversation is in the text of a whole input, whatever other lines and flows it has. The text is made of parts, each of one flow
 /// or of a line that was refused. Those of such a flow say that it begins, and then the messages of its conversation, in
 /// order, up to the first fault. Without a fault nothing else is said of it but that 64 repeats came in a row, so no item is called missing.
-/// The law leaves open with which number, call and names a message's line speaks of it: those are in the text, which `calls` gives exactly.
+/// Each message is at a line of the input, the messages in the order of these lines, and under the flow's name. The law leaves open which line
+/// of the input that is, and of which call and with which names a message's line tells: those are in the text, which `calls` gives exactly.
 pub fn inputs_tell_their_conversations()
     ensures { InputsTellTheirConversations }
 {
