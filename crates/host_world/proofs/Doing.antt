@@ -21,16 +21,17 @@ use Rattle.host_world.specs.Dialogue.{Dialogue, held, calls, answers, asks}
 use Rattle.host_world.specs.Dialogue.{calling, answering, asking}
 use Rattle.host_world.proofs.Deeds.{makes, gives}
 use Rattle.host_world.proofs.Stepping.{acts, gives as gives_packet, not_served, steps}
-use Rattle.host_world.proofs.Shown.{Nearly, Passes, Shows, by_itself, first_said, nearly, nearly_by, not_true, settled, some_not, stays}
+use Rattle.host_world.proofs.Happens.{closed_between}
+use Rattle.host_world.proofs.Shown.{Alone, Nearly, Passes, Shows, by_itself, first, nearly, nearly_by, not_true, settled, some_not, unmoved}
 
 -- ---- the program closes a connection
 
-pub after_close : AConnectionKeepsItsEnd → (now : ℕ) (d : Dialogue) (g h : Guest) → Shows d g → GuestStep now deeds.asked g h → Passes (asks ∷ []) (held d) (Some (Some h))
+pub after_close : AConnectionKeepsItsEnd → (now : ℕ) (d : Dialogue) (g h : Guest) → Shows d g → GuestStep now deeds.asked g h → Passes (asks ∷ closed_between g h) (held d) (Some (Some h))
 after_close ends now d g h s step =
     let e : Dialogue = record d { asked = true } in
     let c = steps now deeds.asked g.connection h.connection s.state g.connection.conversation.side true s.stands step.step refl refl refl in
-    first_said (held d) (held e) asks [] (Some (Some h)) (asking d) refl
-    (settled e h (nearly_by d g h true true s (ends.steps now deeds.asked g.connection h.connection step.step).opener (ap (λ (k : Guest). k.heard_of) step.same) (ap (λ (k : Guest). k.opening_untold) step.same) c (λ z. refl)))
+    first (held d) (held e) asks (closed_between g h) (Some (Some h)) (asking d)
+    (settled e g h s.closed (nearly_by d g h true true s (ends.steps now deeds.asked g.connection h.connection step.step).opener (ap (λ (k : Guest). k.heard_of) step.same) (ap (λ (k : Guest). k.opening_untold) step.same) c (λ z. refl)))
 
 -- ---- the program makes a call, or answers one
 
@@ -50,7 +51,7 @@ unclosed c reads (Some why) is = let drained = c.fits.deaf (λ none. absurd (cc)
 untold : (d : Dialogue) (g : Guest) → Shows d g → d.closed ≡ None → d.told ≡ true → ⊥
 untold d g s none z = some_not d.closed (s.over z).0 none
 
-pub after_call : AConnectionKeepsItsEnd → (now : ℕ) (d : Dialogue) (g h : Guest) (c : RawCall) → Shows d g → GuestStep now (deeds.made c) g h → Passes (calls c ∷ []) (held d) (Some (Some h))
+pub after_call : AConnectionKeepsItsEnd → (now : ℕ) (d : Dialogue) (g h : Guest) (c : RawCall) → Shows d g → GuestStep now (deeds.made c) g h → Passes (calls c ∷ closed_between g h) (held d) (Some (Some h))
 after_call ends now d g h c s step =
     let t = g.connection.conversation in
     let may = unfaulted (drains t.side t.closing || t.closing.wanted) (side_call_fault t.side c) step.step.may in
@@ -62,11 +63,11 @@ after_call ends now d g h c s step =
     let near : Nearly e h
     = nearly d e g h (side_called t.side c) t.closing.wanted s ch (ends.steps now (deeds.made c) g.connection h.connection step.step).opener refl refl refl k.has s.asked
     (λ z. absurd (untold d g s none z)) (λ z theirs. let our = k.is_ours in absurd (cc)) (λ z. s.newly (sym (ap (λ (x : Guest). x.opening_untold) step.same) ∙ z)) in
-    first_said (held d) (held e) (calls c) [] (Some (Some h))
-    (calling d c k.is_ours k.even (not_true d.asked (λ z. let wanted = s.asked z in let unwanted = both.1 in cc)) none) refl (settled e h near)
+    first (held d) (held e) (calls c) (closed_between g h) (Some (Some h))
+    (calling d c k.is_ours k.even (not_true d.asked (λ z. let wanted = s.asked z in let unwanted = both.1 in cc)) none) (settled e g h s.closed near)
 
 pub after_answer : AConnectionKeepsItsEnd → (now : ℕ) (d : Dialogue) (g h : Guest) (kind : Answer) (words : List ℕ) → Shows d g → GuestStep now (deeds.gave kind words) g h
-    → Passes (answers kind words ∷ []) (held d) (Some (Some h))
+    → Passes (answers kind words ∷ closed_between g h) (held d) (Some (Some h))
 after_answer ends now d g h kind words s step =
     let t = g.connection.conversation in
     let may = unfaulted (drains t.side t.closing) (side_answer_fault t.side kind words) step.step.may in
@@ -78,25 +79,25 @@ after_answer ends now d g h kind words s step =
     = nearly d e g h (side_answered t.side kind words) t.closing.wanted s ch (ends.steps now (deeds.gave kind words) g.connection h.connection step.step).opener refl refl refl k.has s.asked
     (λ z. absurd (untold d g s none z)) (λ z. s.unheard (sym (ap (λ (x : Guest). x.heard_of) step.same) ∙ z))
     (λ z. let ours : d.ours ≡ true = (s.newly (sym (ap (λ (x : Guest). x.opening_untold) step.same) ∙ z)).0 in let theirs = k.is_theirs in absurd (cc)) in
-    first_said (held d) (held e) (answers kind words) [] (Some (Some h)) (answering d k.call kind words k.is_theirs k.is_open_call none) refl (settled e h near)
+    first (held d) (held e) (answers kind words) (closed_between g h) (Some (Some h)) (answering d k.call kind words k.is_theirs k.is_open_call none) (settled e g h s.closed near)
 
 -- ---- by itself, in each way
 
-pub hearing : AConnectionKeepsItsEnd → (now : ℕ) (bytes : List ℕ) (confirming : Bool) (d : Dialogue) (g h : Guest) → Shows d g → GuestHears now bytes confirming g h → Passes [] (held d) (Some (Some h))
+pub hearing : AConnectionKeepsItsEnd → (now : ℕ) (bytes : List ℕ) (confirming : Bool) (d : Dialogue) (g h : Guest) → Shows d g → GuestHears now bytes confirming g h → Alone d g h
 hearing ends now bytes confirming d g h s (hears step) =
-    by_itself d g h s (ends.steps now (deeds.heard bytes) g.connection h.connection step.step).opener (ap (λ (k : Guest). k.heard_of) step.same) (ap (λ (k : Guest). k.opening_untold) step.same)
+    by_itself d g h s (ends.steps now (deeds.heard bytes) g.connection h.connection step.step) (ap (λ (k : Guest). k.heard_of) step.same) (ap (λ (k : Guest). k.opening_untold) step.same)
     (steps now (deeds.heard bytes) g.connection h.connection s.state g.connection.conversation.side g.connection.conversation.closing.wanted s.stands step.step refl refl refl)
-hearing ends now bytes confirming d g h s (lost stores) = stays (held d) (Some (Some g)) s
+hearing ends now bytes confirming d g h s (lost stores) = unmoved d g g s refl
 
-pub unserving : AConnectionKeepsItsEnd → (now error : ℕ) (d : Dialogue) (g h : Guest) → Shows d g → GuestUnserved now error g h → Passes [] (held d) (Some (Some h))
+pub unserving : AConnectionKeepsItsEnd → (now error : ℕ) (d : Dialogue) (g h : Guest) → Shows d g → GuestUnserved now error g h → Alone d g h
 unserving ends now error d g h s u =
-    by_itself d g h s (ends.refused error now g.connection h.connection u.parts).opener (ap (λ (k : Guest). k.heard_of) u.same) (ap (λ (k : Guest). k.opening_untold) u.same)
+    by_itself d g h s (ends.refused error now g.connection h.connection u.parts) (ap (λ (k : Guest). k.heard_of) u.same) (ap (λ (k : Guest). k.opening_untold) u.same)
     (not_served now error g.connection h.connection s.state s.stands u.parts)
 
-pub acting : AConnectionKeepsItsEnd → (now : ℕ) (d : Dialogue) (g h : Guest) → Shows d g → GuestActs now g h → Passes [] (held d) (Some (Some h))
+pub acting : AConnectionKeepsItsEnd → (now : ℕ) (d : Dialogue) (g h : Guest) → Shows d g → GuestActs now g h → Alone d g h
 acting ends now d g h s a =
-    by_itself d g h s (ends.acts now g.connection h.connection a.parts).opener (ap (λ (k : Guest). k.heard_of) a.same) (ap (λ (k : Guest). k.opening_untold) a.same) (acts now g.connection h.connection s.state s.stands a.parts)
+    by_itself d g h s (ends.acts now g.connection h.connection a.parts) (ap (λ (k : Guest). k.heard_of) a.same) (ap (λ (k : Guest). k.opening_untold) a.same) (acts now g.connection h.connection s.state s.stands a.parts)
 
-pub giving_out : AConnectionKeepsItsEnd → (now : ℕ) (result : Result (Option Outgoing) HostFault) (d : Dialogue) (g h : Guest) → Shows d g → GuestGives now result g h → Passes [] (held d) (Some (Some h))
+pub giving_out : AConnectionKeepsItsEnd → (now : ℕ) (result : Result (Option Outgoing) HostFault) (d : Dialogue) (g h : Guest) → Shows d g → GuestGives now result g h → Alone d g h
 giving_out ends now result d g h s a =
-    by_itself d g h s (ends.gives now a.answer g.connection h.connection a.gave).opener (ap (λ (k : Guest). k.heard_of) a.same) (ap (λ (k : Guest). k.opening_untold) a.same) (gives_packet now a.answer g.connection h.connection s.state s.stands a.gave)
+    by_itself d g h s (ends.gives now a.answer g.connection h.connection a.gave) (ap (λ (k : Guest). k.heard_of) a.same) (ap (λ (k : Guest). k.opening_untold) a.same) (gives_packet now a.answer g.connection h.connection s.state s.stands a.gave)

@@ -1,10 +1,9 @@
 -- A host goes on with the meetings of its connections at each call.
-use Rattle.std.proofs.Common.{◌≡◌, ◌≢◌, ◌∙◌, ◌⊎◌, inl, inr, ap, refl, sym, subst, ℕ, Bool, true, false, List, [], ◌∷◌, Option, Some, None, Result, Ok, Err, get_or}
+use Rattle.std.proofs.Common.{◌≡◌, ◌≢◌, ◌∙◌, ◌⊎◌, inl, inr, ap, refl, sym, subst, ℕ, Bool, true, false, List, [], ◌∷◌, Option, Some, None, Result, Ok, Err}
 use Rattle.std.specs.Prelude.{◌==◌, cond, if◌then◌else◌, slice_get, slice_set}
-use Rattle.std.specs.Option.{is_none, is_some}
+use Rattle.std.specs.Option.{is_some}
 use Rattle.std.proofs.lemmas.Bool.{eq-eqb}
-use Rattle.std.proofs.lemmas.List.Quantifiers.{position-Some}
-use Rattle.std.proofs.lemmas.Option.{get_or_from_slice_get, slice_get_within}
+use Rattle.std.proofs.lemmas.Option.{slice_get_within}
 use Rattle.courier_messages.specs.declared.message.Message.{Message}
 use Rattle.xns_idp.specs.declared.address.Address.{Address}
 use Rattle.courier_messages.specs.declared.message.Message.TheVariants as messages
@@ -32,9 +31,8 @@ use Rattle.xns_host.specs.declared.host_fault.HostFault.{HostFault}
 use Rattle.xns_host.specs.declared.host_fault.HostFault.TheVariants.{NoMemory}
 use Rattle.xns_host.specs.declared.outgoing.Outgoing.{Outgoing}
 use Rattle.xns_host.specs.Strays.{StrayQueue}
-use Rattle.xns_host.specs.Identifiers.{Ids, IsNext, is_free}
+use Rattle.xns_host.specs.Identifiers.{IsNext}
 use Rattle.xns_host.specs.Knowing.{id_of}
-use Rattle.xns_host.specs.Register.{owner_in}
 use Rattle.xns_host.specs.Registered.{IsAllRegistered}
 use Rattle.xns_host.specs.declared.register.Register.{Register}
 use Rattle.xns_agenda.specs.Clock.{time_at}
@@ -48,7 +46,7 @@ use Rattle.host_world.specs.Seen.{number_of}
 use Rattle.host_world.proofs.Guests.{announced, answers, calls, closes, hands, hears_it, not_served, tells}
 use Rattle.host_world.proofs.Numbers.{at_place, beside, may_be_told, same_or_other, since_stranger, since_told}
 use Rattle.host_world.proofs.Reporting.{event_number, later_is, newly_event, why_by}
-use Rattle.host_world.proofs.Untold.{handed_told, heard_id, unserved_told}
+use Rattle.host_world.proofs.Untold.{another_id, handed_told, heard_id, unserved_told}
 use Rattle.host_world.proofs.Following.{Led, led, left, Goes, Still, TellsOn, gives_on, tells_on, at_once, same_goes, still, still_then, then_does, EachStill, each_then, still_if, turns_still, all_act, no_packet, gives_none, in_vain, follows, followed, did_same, did_other, one_guest, not_equal}
 
 -- ---- at one number, and at the others
@@ -196,26 +194,11 @@ may_go_away gs (of_stranger k t f full none there since first) g e =
     let x = since_stranger (is_some (opener_of f.connection)) f.confirmed f.heard_of (is_some f.connection.closed) (has_news f.connection) t f.connection.wait.heard_at since in
     subst (MayBeForgotten false) (one_guest f g (sym there ∙ e)) (inr (inr (x.0, x.1)))
 
-free_owner : (o : Option ℕ) → is_none o ≡ true → o ≡ None
-free_owner None e = refl
-free_owner (Some n) e = absurd (cc)
-
--- nobody had the identifier that comes next
-next_owner : (ids : Ids) (id : ℕ) → IsNext ids id → owner_in ids id ≡ None
-next_owner ids id next =
-    let found = position-Some (is_free ids.owners) ids.ahead next.place id next.first in
-    let at : get_or ids.ahead next.place id ≡ id = get_or_from_slice_get ids.ahead next.place id id next.there in
-    free_owner (owner_in ids id) (ap (λ (i : ℕ). is_free ids.owners i) (sym at) ∙ found.1)
-
 -- a connection of another identifier is in the place then: the next one, which none that was there has
 gives_way : (may : Meeting → Side → Type 0) (register : Register) (gs : List (Option Guest)) {n : ℕ} (place : Option (Option Guest)) (h : Guest) → IsAllRegistered register gs
     → IsPlace gs n → place ≡ Some (Some h) → IsNext register.identifiers (id_of h) → IsFollowed may no_more [] false (slice_get gs n) place
 gives_way may register gs {n = n} place h all is there next g e a b programs m side meets here z =
-    following.forgotten g (at_once g a b programs m side meets here) (may_go_away gs is g e) (inr (h, there, other)) where
-      other : id_of h ≢ id_of g
-      other same =
-          let none : None ≡ Some n = sym (next_owner register.identifiers (id_of h) next) ∙ ap (owner_in register.identifiers) same ∙ (all.each n g e).own in
-          absurd (cc)
+    following.forgotten g (at_once g a b programs m side meets here) (may_go_away gs is g e) (inr (h, there, another_id register gs h all next n g e))
 
 pub taken_beside : (p : Places) (n k : ℕ) (g : Guest) → k ≢ n → slice_get (taken_by (vacated p n) n g).guests k ≡ slice_get p.guests k
 taken_beside p n k g other = beside (vacated p n).guests n k (Some g) other ∙ beside p.guests n k None other

@@ -1,7 +1,7 @@
 -- A host goes on with the meetings of its connections, place by place and call by call.
 use Rattle.std.proofs.Common.{◌≡◌, ◌≢◌, ◌∙◌, ◌⊎◌, inl, inr, ap, refl, sym, subst, ℕ, Bool, true, false, List, [], ◌++◌, append-nil, Option, Some, None, Result, Ok}
 use Rattle.std.specs.Prelude.{◌==◌, cond, slice_get, slice_set}
-use Rattle.std.proofs.lemmas.Bool.{eqb-true, eq-eqb}
+use Rattle.std.proofs.lemmas.Bool.{eq-eqb}
 use Rattle.std.proofs.lemmas.Option.{slice_get_within}
 use Rattle.courier_sessions.specs.declared.program.Program.{Program}
 use Rattle.item_world.specs.declared.side.Side.{Side}
@@ -24,6 +24,7 @@ use Rattle.host_world.specs.Meets.{Meets}
 use Rattle.host_world.specs.Pairing.{no_more}
 use Rattle.host_world.specs.declared.station.Station.{Station}
 use Rattle.host_world.proofs.Guests.{acts, gives}
+pub use Rattle.host_world.proofs.Happens.{not_equal}
 use Rattle.host_world.proofs.Led.{kept_then}
 use Rattle.host_world.proofs.Numbers.{at_place, beside, may_be_told, same_or_other}
 use Rattle.host_world.proofs.Paired.{stays_so}
@@ -227,10 +228,6 @@ followed may x y s g e a b programs m side meets here z = follows (s.goes g e a 
 
 pub did_same : (number k : ℕ) (did : Deeds → Deeds) → k ≡ number → did_at number did k ≡ did
 did_same number k did e = ap (λ (b : Bool). cond b did no_more) (eq-eqb k number e)
-
-pub not_equal : (a b : ℕ) (c : Bool) → (a == b) ≡ c → a ≢ b → c ≡ false
-not_equal a b true e other = absurd (other (eqb-true a b e))
-not_equal a b false e other = refl
 
 pub did_other : (number k : ℕ) (did : Deeds → Deeds) → k ≢ number → did_at number did k ≡ no_more
 did_other number k did other = ap (λ (b : Bool). cond b did no_more) (not_equal k number (k == number) refl other)

@@ -2,10 +2,12 @@ mod Dialogues
 mod Sides
 mod Stepping
 mod Deeds
+mod Happens
 mod Shown
 mod Doing
 mod Reporting
 mod Numbers
+mod Calming
 mod Hosts
 mod Telling
 mod Gives

@@ -1,20 +1,22 @@
 -- What a program sees of one connection, and how a connection that changed by itself is seen.
 use Rattle.std.proofs.Common.{◌≡◌, ◌≢◌, ◌∙◌, ap, refl, sym, subst, ℕ, Bool, true, false, List, [], ◌∷◌, Option, Some, None}
-use Rattle.std.specs.Prelude.{cond}
-use Rattle.std.specs.List.{filter}
 use Rattle.std.specs.Option.{is_some, is_none}
 use Rattle.xns_spp.specs.Held.{StandsFor}
 use Rattle.xns_spp.specs.State.{State}
-use Rattle.xns_connection.specs.Ends.{opener_of}
+use Rattle.xns_connection.specs.Ends.{KeepsEnd, opener_of}
 use Rattle.xns_connection.specs.Story.{waiting_message}
 use Rattle.xns_host.specs.Went.{GuestTagged}
 use Rattle.xns_host.specs.declared.guest.Guest.{Guest}
+use Rattle.xns_connection.specs.declared.connection.Connection.{Connection}
 use Rattle.xns_connection.specs.declared.side.Side.{Side}
 use Rattle.xns_connection.specs.declared.why.Why.{Why}
 use Rattle.host_world.specs.Dialogue.{Dialogue, IsUntold, View, free, held, Happening, closes}
-use Rattle.host_world.specs.Dialogue.{Move, closing, Course, is_said}
+use Rattle.host_world.specs.Dialogue.{Move, closing, Course}
+use Rattle.host_world.specs.Seen.{closed_since}
+use Rattle.host_world.proofs.Happens.{Continues, closed_between, closed_same}
 use Rattle.host_world.proofs.Sides.{Has}
 use Rattle.host_world.proofs.Stepping.{Changes}
+use Rattle.host_world.proofs.Untold.{kept_id}
 
 -- ---- what is seen of a connection
 
@@ -40,41 +42,24 @@ ShowsIn (held d) None = ⊥
 ShowsIn (held d) (Some None) = ⊥
 ShowsIn (held d) (Some (Some g)) = Shows d g
 
--- steps lead from this view to one that the place shows, and this is said in them
-pub record Passes (said : List Happening) (v : View) (place : Option (Option Guest)) : Type 0 where
+-- these steps lead from this view to one that the place shows
+pub record Passes (events : List Happening) (v : View) (place : Option (Option Guest)) : Type 0 where
   pub view : View
   pub shows : ShowsIn view place
-  pub events : List Happening
   pub course : Course v events view
-  pub is : filter is_said events ≡ said
 
 pub stays : (v : View) (place : Option (Option Guest)) → ShowsIn v place → Passes [] v place
 unfolding Course
-stays v place shows = record { view = v; shows = shows; events = []; course = refl; is = refl }
+stays v place shows = record { view = v; shows = shows; course = refl }
 
-kept : (b : Bool) (x : Happening) (xs : List Happening) → is_said x ≡ b → filter is_said (x ∷ xs) ≡ cond b (x ∷ filter is_said xs) (filter is_said xs)
-kept b x xs e = ap (λ (c : Bool). cond c (x ∷ filter is_said xs) (filter is_said xs)) e
-
--- one step more, first, that is said, or is not
-pub first_said : (v u : View) (x : Happening) (said : List Happening) (place : Option (Option Guest)) → Move v x u → is_said x ≡ true → Passes said u place → Passes (x ∷ said) v place
+-- one step more, first
+pub first : (v u : View) (x : Happening) (events : List Happening) (place : Option (Option Guest)) → Move v x u → Passes events u place → Passes (x ∷ events) v place
 unfolding Course
-first_said v u x said place move e p = record {
-  view = p.view;
-  shows = p.shows;
-  events = x ∷ p.events;
-  course = (u, move, p.course);
-  is = kept true x p.events e ∙ ap (λ (xs : List Happening). x ∷ xs) p.is;
-}
+first v u x events place move p = record { view = p.view; shows = p.shows; course = (u, move, p.course) }
 
-pub first_unseen : (v u : View) (x : Happening) (said : List Happening) (place : Option (Option Guest)) → Move v x u → is_said x ≡ false → Passes said u place → Passes said v place
-unfolding Course
-first_unseen v u x said place move e p = record {
-  view = p.view;
-  shows = p.shows;
-  events = x ∷ p.events;
-  course = (u, move, p.course);
-  is = kept false x p.events e ∙ p.is;
-}
+-- a connection that is closed as it was
+pub as_closed : (d : Dialogue) (g h : Guest) → Shows d h → h.connection.closed ≡ g.connection.closed → Passes (closed_between g h) (held d) (Some (Some h))
+as_closed d g h s same = subst (λ (xs : List Happening). Passes xs (held d) (Some (Some h))) (sym (closed_same g h same)) (stays (held d) (Some (Some h)) s)
 
 -- ---- a connection that may have been closed besides
 
@@ -86,15 +71,15 @@ pub record Nearly (d : Dialogue) (g : Guest) : Type 0 where
 shown_so : (d : Dialogue) (g : Guest) → Nearly d g → (o : Option Why) → g.connection.closed ≡ o → Shows (record d { closed = o }) g
 shown_so d g n o is = subst (λ (p : Option Why). Shows (record d { closed = p }) g) is n.shows
 
-settled_by : (d : Dialogue) (g : Guest) → Nearly d g → (o p : Option Why) → d.closed ≡ o → g.connection.closed ≡ p → Passes [] (held d) (Some (Some g))
+settled_by : (d : Dialogue) (g : Guest) → Nearly d g → (o p : Option Why) → d.closed ≡ o → g.connection.closed ≡ p → Passes (closed_since o p) (held d) (Some (Some g))
 settled_by d g n (Some why) p was is = stays (held d) (Some (Some g)) (shown_so d g n d.closed (n.stays (λ none. let some = was in absurd (cc))))
 settled_by d g n None None was is = stays (held d) (Some (Some g)) (shown_so d g n d.closed (is ∙ sym was))
 settled_by d g n None (Some why) was is =
     let e : Dialogue = record d { closed = Some why } in
-    first_unseen (held d) (held e) (closes why) [] (Some (Some g)) (closing d why was) refl (stays (held e) (Some (Some g)) (shown_so d g n (Some why) is))
+    first (held d) (held e) (closes why) [] (Some (Some g)) (closing d why was) (stays (held e) (Some (Some g)) (shown_so d g n (Some why) is))
 
-pub settled : (d : Dialogue) (g : Guest) → Nearly d g → Passes [] (held d) (Some (Some g))
-settled d g n = settled_by d g n d.closed g.connection.closed refl refl
+pub settled : (d : Dialogue) (g h : Guest) → g.connection.closed ≡ d.closed → Nearly d h → Passes (closed_between g h) (held d) (Some (Some h))
+settled d g h was n = settled_by d h n g.connection.closed h.connection.closed (sym was) refl
 
 -- ---- by itself
 
@@ -137,9 +122,29 @@ nearly_by d g h asked wanted s opener heard opening c noted =
     (λ z. let o = s.over z in ap waiting_message (c.drained (g.connection.fits.deaf (λ none. some_not d.closed o.0 (sym s.closed ∙ none)))) ∙ o.1)
     (λ z. s.unheard (sym heard ∙ z)) (λ z. s.newly (sym opening ∙ z))
 
-pub by_itself : (d : Dialogue) (g h : Guest) → Shows d g → opener_of h.connection ≡ opener_of g.connection → h.heard_of ≡ g.heard_of → h.opening_untold ≡ g.opening_untold
-    → Changes g.connection.conversation.side g.connection.conversation.closing.wanted g.connection h.connection → Passes [] (held d) (Some (Some h))
-by_itself d g h s opener heard opening c = settled d h (nearly_by d g h d.asked g.connection.conversation.closing.wanted s opener heard opening c s.asked)
+-- the one connection became the other by itself, and a view of the one is led to a view of the other
+pub record Alone (d : Dialogue) (g h : Guest) : Type 0 where
+  pub continues : Continues g h
+  pub passes : Passes (closed_between g h) (held d) (Some (Some h))
+
+pub by_itself : (d : Dialogue) (g h : Guest) → Shows d g → KeepsEnd g.connection h.connection → h.heard_of ≡ g.heard_of → h.opening_untold ≡ g.opening_untold
+    → Changes g.connection.conversation.side g.connection.conversation.closing.wanted g.connection h.connection → Alone d g h
+by_itself d g h s keeps heard opening c = record {
+  continues = record { id = kept_id g h keeps; opener = keeps.opener; told = c.told; closed = c.stays };
+  passes = settled d g h s.closed (nearly_by d g h d.asked g.connection.conversation.closing.wanted s keeps.opener heard opening c s.asked);
+}
+
+-- a connection of which all that concerns its close is as it was
+pub unmoved : (d : Dialogue) (g h : Guest) → Shows d h → h.connection ≡ g.connection → Alone d g h
+unmoved d g h s same = record {
+  continues = record {
+    id = ap (λ (c : Connection). c.conversation.endpoint.ends.id) same;
+    opener = ap opener_of same;
+    told = ap (λ (c : Connection). c.told) same;
+    closed = λ z. ap (λ (c : Connection). c.closed) same;
+  };
+  passes = as_closed d g h s (ap (λ (c : Connection). c.closed) same);
+}
 
 pub not_true : (b : Bool) → (b ≡ true → ⊥) → b ≡ false
 not_true true never = absurd (never refl)
@@ -163,5 +168,6 @@ shown_as tag opened untold d g s newly = record {
   newly = newly;
 }
 
-pub tagging : (tag : ℕ) (d : Dialogue) (g h : Guest) → Shows d g → GuestTagged tag g h → Passes [] (held d) (Some (Some h))
-tagging tag d g h s is = stays (held d) (Some (Some h)) (subst (Shows d) (sym is) (shown_as tag d.opened g.opening_untold d g s s.newly))
+pub tagging : (tag : ℕ) (d : Dialogue) (g h : Guest) → Shows d g → GuestTagged tag g h → Alone d g h
+tagging tag d g h s is =
+    unmoved d g h (subst (Shows d) (sym is) (shown_as tag d.opened g.opening_untold d g s s.newly)) (ap (λ (k : Guest). k.connection) is)

@@ -1,7 +1,7 @@
 -- What a program sees of a host, number by number, whatever functions of the host it calls.
-use Rattle.std.specs.Prelude.{◌≡◌, ℕ, ◌==◌, Bool, List, [], ◌∷◌, ◌++◌, if◌then◌else◌, Option, Some, None, Result, Ok, Err}
-use Rattle.std.specs.List.{filter}
-use Rattle.std.specs.Option.{is_none}
+use Rattle.std.specs.Prelude.{◌≡◌, ℕ, ◌==◌, Bool, List, [], ◌∷◌, ◌++◌, if◌then◌else◌, Option, Some, None, Result, Ok, Err, slice_get}
+use Rattle.std.specs.List.{filter, list_any}
+use Rattle.std.specs.Option.{is_none, is_some}
 use Rattle.courier_messages.specs.RawCalls.{RawCall}
 use Rattle.courier_sessions.specs.declared.answer.Answer.{Answer}
 use Rattle.courier_sessions.specs.declared.program.Program.{Program}
@@ -9,6 +9,8 @@ use Rattle.xns_idp.specs.declared.address.Address.{Address}
 use Rattle.xns_connection.specs.Deeds as deeds
 use Rattle.xns_connection.specs.Deeds.{Deed}
 use Rattle.xns_connection.specs.Ends.{opener_of}
+use Rattle.xns_connection.specs.declared.why.Why.{Why}
+use Rattle.xns_host.specs.Knowing.{id_of}
 use Rattle.xns_host.specs.Standing.{IsNewHost}
 use Rattle.xns_host.specs.Turn.{Abandons, ConnectsTo, GivesOut, MovesTo, ServesAt, Tags, TakesIn, TellsNext, Turn}
 use Rattle.xns_host.specs.declared.event.Event.{Event}
@@ -18,7 +20,7 @@ use Rattle.xns_host.specs.declared.host.Host.{Host}
 use Rattle.xns_host.specs.declared.host_fault.HostFault.{HostFault}
 use Rattle.xns_host.specs.declared.outgoing.Outgoing.{Outgoing}
 use Rattle.xns_host.specs.declared.settings.Settings.{Settings}
-use Rattle.host_world.specs.Dialogue.{Course, Dialogue, Happening, View, abandons, announces, answers, asks, calls, connects, free, hands, held, is_said, tells}
+use Rattle.host_world.specs.Dialogue.{Course, Dialogue, Happening, View, abandons, announces, answers, asks, calls, closes, connects, free, goes, hands, held, is_going, is_said, opens, tells}
 
 -- ---- the functions of a host
 
@@ -41,36 +43,74 @@ news_of (events.Call number tag program version procedure m) = hands m
 news_of (events.Answer number tag answer m) = hands m
 news_of (events.Closed number tag why) = tells why
 
--- a function by which nothing is said: one that is refused, one that has nothing to tell, and those that take packets in, give them out, serve,
--- or set a network or a tag
-pub data Quiet (h j : Host) : Type 0 where
-  is_refused : (now number : ℕ) (deed : Deed) (fault : HostFault) → Turn now number deed (Err fault) h j → Quiet h j
-  abandons_none : (number : ℕ) (fault : HostFault) → Abandons number (Err fault) h j → Quiet h j
-  finds_no_room : (now way socket : ℕ) (peer : Address) (fault : HostFault) → ConnectsTo now way socket peer (Err fault) h j → Quiet h j
-  tells_nothing : TellsNext None h j → Quiet h j
-  takes_in : (now way : ℕ) (bytes : List ℕ) (result : Bool) → TakesIn now way bytes result h j → Quiet h j
-  gives_out : (now : ℕ) (result : Result (Option Outgoing) HostFault) → GivesOut now result h j → Quiet h j
-  serves : (socket : ℕ) (programs : List Program) (result : Result (Unit {0}) HostFault) → ServesAt socket programs result h j → Quiet h j
-  moves : (network : ℕ) → MovesTo network h j → Quiet h j
-  tags : (number tag : ℕ) (result : Result (Unit {0}) HostFault) → Tags number tag result h j → Quiet h j
+-- this is said at this number, and at the others nothing
+abbrev pub said_at : (number : ℕ) → Happening → (k : ℕ) → List Happening
+said_at number x k = if k == number then x ∷ [] else []
 
--- what was said at each number, with one happening more at this number
-abbrev pub said_at : (said : ℕ → List Happening) (number : ℕ) → Happening → (k : ℕ) → List Happening
-said_at said number x k = if k == number then said k ++ x ∷ [] else said k
+abbrev pub said_nothing : (k : ℕ) → List Happening
+said_nothing k = []
 
--- functions of a host, called in any order, led from a new host to this one, and this was said meanwhile at each number
-pub data HasLived : Host → (ℕ → List Happening) → Type 0 where
+-- a function of a host, and what is said by it at each number. Nothing is said by one that is refused, by one that has nothing to tell, and by
+-- those that take packets in, give them out, serve, or set a network or a tag.
+pub data Says (h j : Host) : (ℕ → List Happening) → Type 0 where
+  has_connected : (now way socket : ℕ) (peer : Address) (number : ℕ) → ConnectsTo now way socket peer (Ok number) h j
+      → Says h j (said_at number connects)
+  has_said : (now number : ℕ) (deed : Deed) (x : Happening) → IsSaid deed x → Turn now number deed (Ok tt) h j → Says h j (said_at number x)
+  has_abandoned : (number : ℕ) → Abandons number (Ok tt) h j → Says h j (said_at number abandons)
+  was_told : (event : Event) → TellsNext (Some event) h j → Says h j (said_at (number_of event) (news_of event))
+  is_refused : (now number : ℕ) (deed : Deed) (fault : HostFault) → Turn now number deed (Err fault) h j → Says h j said_nothing
+  abandons_none : (number : ℕ) (fault : HostFault) → Abandons number (Err fault) h j → Says h j said_nothing
+  finds_no_room : (now way socket : ℕ) (peer : Address) (fault : HostFault) → ConnectsTo now way socket peer (Err fault) h j
+      → Says h j said_nothing
+  tells_nothing : TellsNext None h j → Says h j said_nothing
+  takes_in : (now way : ℕ) (bytes : List ℕ) (result : Bool) → TakesIn now way bytes result h j → Says h j said_nothing
+  gives_out : (now : ℕ) (result : Result (Option Outgoing) HostFault) → GivesOut now result h j → Says h j said_nothing
+  serves : (socket : ℕ) (programs : List Program) (result : Result (Unit {0}) HostFault) → ServesAt socket programs result h j
+      → Says h j said_nothing
+  moves : (network : ℕ) → MovesTo network h j → Says h j said_nothing
+  tags : (number tag : ℕ) (result : Result (Unit {0}) HostFault) → Tags number tag result h j → Says h j said_nothing
+
+-- ---- what happens at a number
+
+-- the connection in a place, if there is one
+abbrev pub guest_in : Option (Option Guest) → Option Guest
+guest_in None = None
+guest_in (Some place) = place
+
+-- a connection that was closed for the one reason, or not at all, is closed for the other now
+abbrev pub closed_since : (was is : Option Why) → List Happening
+closed_since None None = []
+closed_since None (Some why) = closes why ∷ []
+closed_since (Some first) is = []
+
+-- a connection came to a number: a peer opened it, or nothing is unseen of that; and it may be closed already
+abbrev pub arriving : Guest → List Happening
+arriving g = (if is_some (opener_of g.connection) then opens ∷ [] else []) ++ closed_since None g.connection.closed
+
+-- a connection left a number: the number became free, unseen unless the program abandoned the connection, as was said then
+abbrev pub leaving : (said : List Happening) → List Happening
+leaving said = if list_any is_going said then [] else goes ∷ []
+
+-- what happened at a number by a function by which this was said there, and before which the one connection, if any, had the number, and
+-- behind which the other; a connection of another identifier is another one
+abbrev pub between : (said : List Happening) → (old new : Option Guest) → List Happening
+between said None None = said
+between said None (Some h) = said ++ arriving h
+between said (Some g) None = said ++ leaving said
+between said (Some g) (Some h) =
+    if id_of h == id_of g then said ++ closed_since g.connection.closed h.connection.closed else goes ∷ (said ++ arriving h)
+
+-- the same, by the place with the number
+abbrev pub happens : (said : List Happening) → (old new : Option (Option Guest)) → List Happening
+happens said old new = between said (guest_in old) (guest_in new)
+
+-- functions of a host, called in any order, led from a new host to this one. Meanwhile this was said at each number, and this happened there:
+-- what the places of the host show before and behind each function, and what was said by it.
+pub data HasLived : Host → (said happened : ℕ → List Happening) → Type 0 where
   begins : {h : Host} (network : ℕ) (host : List ℕ) (settings : Settings) (secret : List ℕ) → IsNewHost network host settings secret h
-      → HasLived h (λ k. [])
-  has_connected : {h j : Host} {said : ℕ → List Happening} → HasLived h said → (now way socket : ℕ) (peer : Address) (number : ℕ)
-      → ConnectsTo now way socket peer (Ok number) h j → HasLived j (said_at said number connects)
-  has_said : {h j : Host} {said : ℕ → List Happening} → HasLived h said → (now number : ℕ) (deed : Deed) (x : Happening) → IsSaid deed x
-      → Turn now number deed (Ok tt) h j → HasLived j (said_at said number x)
-  has_abandoned : {h j : Host} {said : ℕ → List Happening} → HasLived h said → (number : ℕ) → Abandons number (Ok tt) h j
-      → HasLived j (said_at said number abandons)
-  was_told : {h j : Host} {said : ℕ → List Happening} → HasLived h said → (event : Event) → TellsNext (Some event) h j
-      → HasLived j (said_at said (number_of event) (news_of event))
-  goes_on : {h j : Host} {said : ℕ → List Happening} → HasLived h said → Quiet h j → HasLived j said
+      → HasLived h (λ k. []) (λ k. [])
+  goes_on : {h j : Host} {said happened more : ℕ → List Happening} → HasLived h said happened → Says h j more
+      → HasLived j (λ k. said k ++ more k) (λ k. happened k ++ happens (more k) (slice_get h.guests.items k) (slice_get j.guests.items k))
 
 -- ---- what the program sees
 
@@ -89,10 +129,9 @@ IsSeen (held d) None = ⊥
 IsSeen (held d) (Some None) = ⊥
 IsSeen (held d) (Some (Some g)) = IsSeenAs d g
 
--- the number has a history from where it was free to where it is now, in which this was said
-pub record NumberHasHistory (place : Option (Option Guest)) (said : List Happening) : Type 0 where
+-- what happened leads from the free number to what the number is now, and this was said in it
+pub record NumberHasHistory (place : Option (Option Guest)) (said happened : List Happening) : Type 0 where
   pub view : View
   pub seen : IsSeen view place
-  pub happened : List Happening
   pub course : Course free happened view
   pub is : filter is_said happened ≡ said

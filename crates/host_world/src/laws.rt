@@ -194,11 +194,17 @@ pub fn a_number_keeps_its_order()
         → Course v (xs ++ g ∷ (x ∷ ys)) w → is_going g ≡ true → IsOpening x }
 {}
 
-/// Each number of a host has a history, whatever calls are made of the host from a new one on, in whatever order: what the program said and
-/// was told at the number is what is said in that history, which leads from the free number to what the number is now. So what
+/// Each number of a host has a history, whatever calls are made of the host from a new one on, in whatever order. What happened at the number
+/// leads from the free number to what the number is now, and what the program said and was told there is what is said in it. So what
 /// [`a_number_keeps_its_order`] says of histories holds of what a program sees.
+///
+/// What the program does not see is the host's own, read off the place with the number before and behind each function. A peer opened a
+/// connection where one is in the place that was not there before and that a peer opened. A connection was closed where the one in the place
+/// is closed and was not before. The number became free where the connection that was in the place is not there any longer, and the program
+/// did not abandon it by this function.
 pub fn each_number_of_a_host_has_a_history()
-    ensures { (h : Host) (said : ℕ → List Happening) → HasLived h said → (k : ℕ) → NumberHasHistory (slice_get h.guests.items k) (said k) }
+    ensures { (h : Host) (said happened : ℕ → List Happening) → HasLived h said happened → (k : ℕ)
+        → NumberHasHistory (slice_get h.guests.items k) (said k) (happened k) }
 {
     xns_connection::laws::a_connection_keeps_its_end();
 }
