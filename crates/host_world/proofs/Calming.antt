@@ -1,5 +1,5 @@
 -- What happens at each number where no connection comes: what is due is done, and packets go out.
-use Rattle.std.proofs.Common.{◌≡◌, ◌≢◌, ◌∙◌, ◌⊎◌, inl, inr, ap, sym, subst, ℕ, Bool, true, false, List, [], Option, Some, None, Result, Ok, Err, refl}
+use Rattle.std.proofs.Common.{◌≡◌, ◌∙◌, ap, sym, subst, ℕ, Bool, true, false, List, [], Option, Some, None, Result, Ok, Err, refl}
 use Rattle.std.specs.Prelude.{slice_get, slice_set}
 use Rattle.std.specs.Option.{is_some}
 use Rattle.std.proofs.lemmas.Option.{slice_get_within}
@@ -16,7 +16,7 @@ use Rattle.host_world.specs.Dialogue.{Dialogue, Happening, View, free, held}
 use Rattle.host_world.specs.Seen.{guest_in, happens}
 use Rattle.host_world.proofs.Doing.{acting, giving_out}
 use Rattle.host_world.proofs.Happens.{Calm, IsClosedWhereTold, between_same, calm_here, calm_join, calm_then}
-use Rattle.host_world.proofs.Numbers.{Leads, at_place, beside, goes_from, may_be_told, passes_then, same_or_other, still_there}
+use Rattle.host_world.proofs.Numbers.{Leads, at_each_place, at_place, goes_from, may_be_told, passes_then, still_there}
 use Rattle.host_world.proofs.Shown.{Alone, Passes, Shows, ShowsIn}
 
 -- ---- one place
@@ -80,13 +80,7 @@ pub then_calm : (a b c : List (Option Guest)) → AllCalm a b → AllCalm b c �
 then_calm a b c p q k = both_calm (slice_get a k) (slice_get b k) (slice_get c k) (p k) (q k)
 
 set_calm : (gs : List (Option Guest)) (number : ℕ) (old new : Option Guest) → slice_get gs number ≡ Some old → CalmAt (Some old) (Some new) → AllCalm gs (slice_set gs number new)
-set_calm gs number old new is one k = by (same_or_other k number) where
-  by : (k ≡ number) ⊎ (k ≢ number) → CalmAt (slice_get gs k) (slice_get (slice_set gs number new) k)
-  by (inl same) =
-      subst (λ (n : ℕ). CalmAt (slice_get gs n) (slice_get (slice_set gs number new) n)) (sym same)
-      (subst (λ (o : Option (Option Guest)). CalmAt o (slice_get (slice_set gs number new) number)) (sym is)
-      (subst (CalmAt (Some old)) (sym (at_place gs number new (slice_get_within gs number old is))) one))
-  by (inr other) = subst (CalmAt (slice_get gs k)) (sym (beside gs number k new other)) (calm_there (slice_get gs k))
+set_calm gs number old new is one = at_each_place CalmAt calm_there gs number old new is one
 
 pub turned : (P : Guest → Guest → Type 0) (number : ℕ) (p r : Places) → ((d : Dialogue) (g h : Guest) → Shows d g → P g h → Alone d g h) → Turns P number p r → AllCalm p.guests r.guests
 turned P number p r each t =

@@ -26,7 +26,7 @@ use Rattle.host_world.specs.declared.station.Station.{Station}
 use Rattle.host_world.proofs.Guests.{acts, gives}
 pub use Rattle.host_world.proofs.Happens.{not_equal}
 use Rattle.host_world.proofs.Led.{kept_then}
-use Rattle.host_world.proofs.Numbers.{at_place, beside, may_be_told, same_or_other}
+use Rattle.host_world.proofs.Numbers.{at_each_place, at_place, may_be_told}
 use Rattle.host_world.proofs.Paired.{stays_so}
 use Rattle.host_world.proofs.Untold.{acted_told, given_told}
 
@@ -133,13 +133,7 @@ pub still_if : (old new : List (Option Guest)) → new ≡ old → EachStill old
 still_if old new same = subst (EachStill old) (sym same) (all_still old)
 
 pub set_still : (gs : List (Option Guest)) (number : ℕ) (old new : Option Guest) → slice_get gs number ≡ Some old → Still (Some old) (Some new) → EachStill gs (slice_set gs number new)
-set_still gs number old new is one k = by (same_or_other k number) where
-  by : (k ≡ number) ⊎ (k ≢ number) → Still (slice_get gs k) (slice_get (slice_set gs number new) k)
-  by (inl same) =
-      subst (λ (n : ℕ). Still (slice_get gs n) (slice_get (slice_set gs number new) n)) (sym same)
-      (subst (λ (o : Option (Option Guest)). Still o (slice_get (slice_set gs number new) number)) (sym is)
-      (subst (Still (Some old)) (sym (at_place gs number new (slice_get_within gs number old is))) one))
-  by (inr other) = subst (Still (slice_get gs k)) (sym (beside gs number k new other)) (still (slice_get gs k))
+set_still gs number old new is one = at_each_place Still still gs number old new is one
 
 -- the one connection leads on to the other, and the program was told no more of it
 pub record GoesOn (g h : Guest) (gave : List (List ℕ)) : Type 0 where

@@ -33,6 +33,19 @@ use Rattle.host_world.proofs.Reporting.{Reports, event_number, tells_it}
 use Rattle.host_world.proofs.Shown.{Alone, Passes, Shows, ShowsIn, first, stays}
 use Rattle.host_world.proofs.Sides.{Has}
 
+-- ---- a place that changed
+
+-- where a place changed in some way, and what stays changes in that way too, each place did
+pub at_each_place : (P : (old new : Option (Option Guest)) → Type 0) → ((place : Option (Option Guest)) → P place place) → (gs : List (Option Guest)) (number : ℕ) (old new : Option Guest)
+    → slice_get gs number ≡ Some old → P (Some old) (Some new) → (k : ℕ) → P (slice_get gs k) (slice_get (slice_set gs number new) k)
+at_each_place P stays gs number old new is one k = by (same_or_other k number) where
+  by : (k ≡ number) ⊎ (k ≢ number) → P (slice_get gs k) (slice_get (slice_set gs number new) k)
+  by (inl same) =
+      subst (λ (n : ℕ). P (slice_get gs n) (slice_get (slice_set gs number new) n)) (sym same)
+      (subst (λ (o : Option (Option Guest)). P o (slice_get (slice_set gs number new) number)) (sym is)
+      (subst (P (Some old)) (sym (at_place gs number new (slice_get_within gs number old is))) one))
+  by (inr other) = subst (P (slice_get gs k)) (sym (beside gs number k new other)) (stays (slice_get gs k))
+
 -- ---- one behind the other
 
 pub passes_then : (xs ys : List Happening) (v : View) (a b : Option (Option Guest)) → Passes xs v a → ((w : View) → ShowsIn w a → Passes ys w b) → Passes (xs ++ ys) v b

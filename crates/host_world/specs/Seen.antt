@@ -77,22 +77,22 @@ abbrev pub guest_in : Option (Option Guest) → Option Guest
 guest_in None = None
 guest_in (Some place) = place
 
--- a connection that was closed for the one reason, or not at all, is closed for the other now
+-- a connection that was not closed is closed now
 abbrev pub closed_since : (was is : Option Why) → List Happening
 closed_since None None = []
 closed_since None (Some why) = closes why ∷ []
 closed_since (Some first) is = []
 
--- a connection came to a number: a peer opened it, or nothing is unseen of that; and it may be closed already
+-- a connection came to a number, unseen where a peer opened it; and it may be closed already
 abbrev pub arriving : Guest → List Happening
 arriving g = (if is_some (opener_of g.connection) then opens ∷ [] else []) ++ closed_since None g.connection.closed
 
--- a connection left a number: the number became free, unseen unless the program abandoned the connection, as was said then
+-- a connection left a number, which became free, unseen unless that was said: the program abandoned the connection
 abbrev pub leaving : (said : List Happening) → List Happening
 leaving said = if list_any is_going said then [] else goes ∷ []
 
--- what happened at a number by a function by which this was said there, and before which the one connection, if any, had the number, and
--- behind which the other; a connection of another identifier is another one
+-- what happened at a number by one function: this was said there, and the one connection, if any, had the number before, and the other
+-- behind it. A connection with another identifier of ours is another one.
 abbrev pub between : (said : List Happening) → (old new : Option Guest) → List Happening
 between said None None = said
 between said None (Some h) = said ++ arriving h
@@ -105,7 +105,7 @@ abbrev pub happens : (said : List Happening) → (old new : Option (Option Guest
 happens said old new = between said (guest_in old) (guest_in new)
 
 -- functions of a host, called in any order, led from a new host to this one. Meanwhile this was said at each number, and this happened there:
--- what the places of the host show before and behind each function, and what was said by it.
+-- what happened by one function, then by the next, as what was said and the places before and behind it show.
 pub data HasLived : Host → (said happened : ℕ → List Happening) → Type 0 where
   begins : {h : Host} (network : ℕ) (host : List ℕ) (settings : Settings) (secret : List ℕ) → IsNewHost network host settings secret h
       → HasLived h (λ k. []) (λ k. [])

@@ -73,7 +73,8 @@ pub fn a_given_packet_may_come_while_it_lives()
     xns_connection::laws::two_programs_agree();
 }
 
-/// What a host does at a connection of a meeting is one step of the meeting, or two. The host puts out a call (`calls`) or an answer
+/// What a host does at a connection of a meeting leads on to a meeting that has the connection as it is then; no clause counts the steps
+/// between the two. The host puts out a call (`calls`) or an answer
 /// (`answers`), closes, hands a message (`hands`), tells why the connection is closed (`tells`) or that it is open (`announces`), does what is
 /// due (`acts`), hears an Error packet about a packet of the connection (`not_served`), gives a packet or none (`gives`), and takes in bytes
 /// that may come (`hears`).
