@@ -86,6 +86,7 @@ stands before size b x reads such is =
       taken = x.1;
       reads = reads;
       such = such;
+      at = refl;
       within = omega (arith, is, fits);
       body = behind b x before size reads is;
     }

@@ -1,13 +1,35 @@
 -- Both sides of a packet exchange (XSIS 028112, Packet Exchange Protocol). Of one that asks C holds whom it asks, and under which
 -- identifier.
-use Rattle.std.specs.Prelude.{◌≡◌, ◌≢◌, ◌⊎◌, ◌≤◌, ℕ, List, [], length, Ok}
+use Rattle.std.specs.Prelude.{◌≡◌, ◌≢◌, ◌⊎◌, ◌<◌, ◌≤◌, ℕ, ◌+◌, List, [], length}
 use Rattle.xns_idp.specs.Packet.{PacketModel, broadcast}
-use Rattle.xns_idp.specs.Reading.{long_at, packet_of, word_at}
+use Rattle.xns_idp.specs.Reading.{long_at, made_even, word_at}
 use Rattle.xns_idp.specs.declared.address.Address.{Address}
-use Rattle.xns_small.specs.Exchange.{RequesterModel, IsResponse, asking_packet}
-use Rattle.xns_c.specs.Views.{StandsIn}
+use Rattle.xns_small.specs.Exchange.{RequesterModel, IsResponse, asking_packet, exchange_spelling}
+use Rattle.xns_c.specs.Buffers.{IsUnwritten, WritesUpTo, WritesWhereRoom}
+use Rattle.xns_c.specs.Results.{nothing, bad_argument, too_long}
+use Rattle.xns_c.specs.Views.{HasPacket, StandsIn}
+
+-- the most bytes of data that an exchange carries
+abbrev pub most_exchanged : ℕ
+most_exchanged = 540
+
+-- a packet with this many bytes of them has 36 and those, made even
+abbrev pub exchange_size : ℕ → ℕ
+exchange_size count = made_even (36 + count)
+
+-- the data of a packet of an exchange are written: 6 bytes and its own
+abbrev pub WritesExchange : (id client : ℕ) → (bytes old new : List ℕ) → (had told result : ℕ) → Type 0
+WritesExchange id client bytes old new had told result =
+    WritesUpTo most_exchanged bytes (exchange_spelling (record { id = id; client = client; body = bytes })) (6 + length bytes) old new had told result
 
 -- ---- the side that asks
+
+-- the request to one host is written. Nothing is written where its data are too many, and else nothing where it is to every host
+pub record WritesRequest (own target : Address) (id client : ℕ) (bytes old new : List ℕ) (had told result : ℕ) : Type 0 where
+  pub long : most_exchanged < length bytes → (result ≡ too_long) × IsUnwritten old new had told
+  pub everyone : length bytes ≤ most_exchanged → target.host ≡ broadcast → (result ≡ bad_argument) × IsUnwritten old new had told
+  pub written : length bytes ≤ most_exchanged → target.host ≢ broadcast →
+      WritesWhereRoom (asking_packet own target id client bytes) (exchange_size (length bytes)) old new had told result
 
 -- who asks this address under this identifier; by which packet says nothing of what the response is
 abbrev pub asker : Address → ℕ → RequesterModel
@@ -28,12 +50,17 @@ pub record IsAsked (own : Address) (p : PacketModel) : Type 0 where
   pub from : p.source.host ≢ broadcast
 
 -- the bytes are such a packet
-pub record IsAskedBy (own : Address) (bytes : List ℕ) : Type 0 where
-  pub packet : PacketModel
-  pub taken : ℕ
-  pub reads : packet_of bytes ≡ Ok (packet, taken)
-  pub asked : IsAsked own packet
+abbrev pub IsAskedBy : Address → List ℕ → Type 0
+IsAskedBy own = HasPacket (IsAsked own)
 
 -- a response goes to where the request came from, with the request's identifier and client type
 abbrev pub answering_packet : Address → PacketModel → List ℕ → List ℕ
 answering_packet own request bytes = asking_packet own request.source (long_at request.body 0) (word_at request.body 4) bytes
+
+-- the response to such a packet is written. Nothing is written where its data are too many, and else nothing where the bytes are another
+pub record WritesResponse (own : Address) (request bytes old new : List ℕ) (had told result : ℕ) : Type 0 where
+  pub long : most_exchanged < length bytes → (result ≡ too_long) × IsUnwritten old new had told
+  pub written : length bytes ≤ most_exchanged → (r : IsAskedBy own request) →
+      WritesWhereRoom (answering_packet own r.packet bytes) (exchange_size (length bytes)) old new had told result
+  pub only : length bytes ≤ most_exchanged → result ≢ nothing → IsAskedBy own request
+  pub nothing : result ≡ nothing → IsUnwritten old new had told

@@ -23,12 +23,20 @@ packet_with p body = record {
 abbrev pub packet_in : XnsPacket → List ℕ → PacketModel
 packet_in p bytes = packet_with p (slice_range bytes p.body_at (p.body_at + p.body_length))
 
+-- the bytes begin with such a packet
+pub record HasPacket (IsSuch : PacketModel → Type 0) (bytes : List ℕ) : Type 0 where
+  pub packet : PacketModel
+  pub taken : ℕ
+  pub reads : packet_of bytes ≡ Ok (packet, taken)
+  pub such : IsSuch packet
+
 -- the bytes are such a packet, and its own data, behind so many bytes of its body, stand at a place within them
 pub record StandsIn (IsSuch : PacketModel → Type 0) (before : ℕ) (bytes : List ℕ) (place size : ℕ) : Type 0 where
   pub packet : PacketModel
   pub taken : ℕ
   pub reads : packet_of bytes ≡ Ok (packet, taken)
   pub such : IsSuch packet
+  pub at : place ≡ 30 + before
   pub within : place + size ≤ length bytes
   pub body : slice_range bytes place (place + size) ≡ drop before packet.body
 

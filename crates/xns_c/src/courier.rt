@@ -1,14 +1,7 @@
 //! Courier's messages.
 
-ghost use Rattle.std.specs.Prelude.{◌≡◌, ◌≢◌, ◌<◌, ◌≤◌, length, Ok, Err, Some, None};
-ghost use Rattle.courier_messages.specs.Message.{most_bytes, message_bytes, message_of};
-ghost use Rattle.courier_messages.specs.declared.fault.MessageFault.{MessageFault};
-ghost use Rattle.courier_messages.specs.declared.message.Message.{Message};
-ghost use Rattle.courier_messages.specs.Head.{words_in};
-ghost use Rattle.xns_c.specs.Heads.{head_given, message_given};
-ghost use Rattle.xns_c.specs.Faults.{message_fault_number};
-ghost use Rattle.xns_c.specs.Given.{IsPut};
-ghost use Rattle.xns_c.specs.Results.{ok, bad_argument, no_memory, short_buffer, too_long};
+ghost use Rattle.xns_c.specs.Heads.{message_given};
+ghost use Rattle.xns_c.specs.Messages.{ReadsMessage, WritesMessage};
 
 use crate::faults::message_fault_number;
 use crate::front::put_front;
@@ -30,15 +23,7 @@ pub extern "C" fn xns_message_read(
     words: &mut [u16],
     count: &mut usize,
 ) -> u32
-    ensures read { (m : Message) → message_of bytes.now ≡ Ok m → result ≡ ok →
-        (message.new ≡ head_given m) × IsPut (words_in m) words.old words.new count.new }
-    ensures short { (m : Message) → message_of bytes.now ≡ Ok m → length words.old < length (words_in m) → result ≢ no_memory
-        → (result ≡ short_buffer) × (count.new ≡ length (words_in m)) }
-    ensures memory { (m : Message) → message_of bytes.now ≡ Ok m → length (words_in m) ≤ length words.old → result ≢ ok
-        → result ≡ no_memory }
-    ensures fault { (f : MessageFault) → message_of bytes.now ≡ Err f → result ≡ message_fault_number f }
-    ensures unchanged { result ≢ ok → (message.new ≡ message.old) × (words.new ≡ words.old) }
-    ensures count { result ≢ ok → result ≢ short_buffer → count.new ≡ count.old }
+    ensures { ReadsMessage bytes.now message.old message.new words.old words.new count.old count.new result }
 {
     let found = match read_message(alloc, bytes) {
         Ok(found) => found,
@@ -65,19 +50,7 @@ pub extern "C" fn xns_message_write(
     buffer: &mut [u8],
     written: &mut usize,
 ) -> u32
-    ensures written { (m : Message) → message_given message.now words.now ≡ Some m → result ≡ ok →
-        (length (message_bytes m) ≤ most_bytes) × IsPut (message_bytes m) buffer.old buffer.new written.new }
-    ensures long { (m : Message) → message_given message.now words.now ≡ Some m → most_bytes < length (message_bytes m)
-        → result ≡ too_long }
-    ensures short { (m : Message) → message_given message.now words.now ≡ Some m → length (message_bytes m) ≤ most_bytes
-        → length buffer.old < length (message_bytes m) →
-        (result ≡ short_buffer) × (written.new ≡ length (message_bytes m)) }
-    ensures memory { (m : Message) → message_given message.now words.now ≡ Some m → length (message_bytes m) ≤ most_bytes
-        → length (message_bytes m) ≤ length buffer.old →
-        result ≢ ok → result ≡ no_memory }
-    ensures bad { message_given message.now words.now ≡ None → result ≡ bad_argument }
-    ensures unchanged { result ≢ ok → buffer.new ≡ buffer.old }
-    ensures untold { result ≢ ok → result ≢ short_buffer → written.new ≡ written.old }
+    ensures { WritesMessage (message_given message.now words.now) buffer.old buffer.new written.old written.new result }
 {
     let Some(head) = head_in(message) else {
         return BAD_ARGUMENT;

@@ -1,12 +1,11 @@
 //! The side that asks by Echo (XSIS 028112, Echo Protocol).
 
-ghost use Rattle.std.specs.Prelude.{◌≡◌, ◌≢◌, ◌<◌, ◌≤◌, ◌+◌, ℕ, drop, length, true, MatchOption, Ok};
+ghost use Rattle.std.specs.Prelude.{◌≡◌, ◌≢◌, ◌+◌, ℕ, drop, length, true, MatchOption, Ok};
 ghost use Rattle.xns_idp.specs.Packet.{PacketModel, packet_model};
-ghost use Rattle.xns_idp.specs.Reading.{made_even, packet_of};
+ghost use Rattle.xns_idp.specs.Reading.{packet_of};
 ghost use Rattle.xns_small.specs.Echo.{echo_of};
-ghost use Rattle.xns_c.specs.Echo.{IsEchoed, IsEchoedIn, echo_request};
-ghost use Rattle.xns_c.specs.Given.{IsPut};
-ghost use Rattle.xns_c.specs.Results.{ok, nothing, no_memory, short_buffer, too_long};
+ghost use Rattle.xns_c.specs.Echo.{WritesEchoRequest, IsEchoed, IsEchoedIn};
+ghost use Rattle.xns_c.specs.Results.{ok, nothing};
 ghost use Rattle.xns_c.specs.Structs.{address_in};
 
 use crate::address::XnsAddress;
@@ -36,14 +35,7 @@ pub extern "C" fn xns_echo_request(
     buffer: &mut [u8],
     written: &mut usize,
 ) -> u32
-    ensures written { result ≡ ok → IsPut (echo_request (address_in own.now)
-        (address_in target.now) bytes.now) buffer.old buffer.new written.new }
-    ensures long { 544 < length bytes.now → result ≡ too_long }
-    ensures short { length bytes.now ≤ 544 → length buffer.old < made_even (32 + length bytes.now) → (result ≡ short_buffer)
-        × (written.new ≡ made_even (32 + length bytes.now)) }
-    ensures memory { length bytes.now ≤ 544 → made_even (32 + length bytes.now) ≤ length buffer.old → result ≢ ok → result ≡ no_memory }
-    ensures unchanged { result ≢ ok → buffer.new ≡ buffer.old }
-    ensures untold { result ≢ ok → result ≢ short_buffer → written.new ≡ written.old }
+    ensures { WritesEchoRequest (address_in own.now) (address_in target.now) bytes.now buffer.old buffer.new written.old written.new result }
 {
     if bytes.len() > MOST_ECHOED {
         return TOO_LONG;

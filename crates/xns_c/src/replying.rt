@@ -1,11 +1,9 @@
 //! The side of a packet exchange that answers (XSIS 028112, Packet Exchange Protocol).
 
-ghost use Rattle.std.specs.Prelude.{◌≡◌, ◌≢◌, ◌<◌, ◌≤◌, ◌+◌, ℕ, length, MatchOption, Ok};
-ghost use Rattle.xns_idp.specs.Packet.{PacketModel, packet_model};
-ghost use Rattle.xns_idp.specs.Reading.{long_at, made_even, packet_of, word_at};
-ghost use Rattle.xns_c.specs.Exchange.{IsAsked, IsAskedBy, answering_packet};
-ghost use Rattle.xns_c.specs.Given.{IsPut};
-ghost use Rattle.xns_c.specs.Results.{ok, nothing, no_memory, short_buffer, too_long};
+ghost use Rattle.std.specs.Prelude.{◌≡◌, MatchOption};
+ghost use Rattle.xns_idp.specs.Packet.{packet_model};
+ghost use Rattle.xns_idp.specs.Reading.{long_at, word_at};
+ghost use Rattle.xns_c.specs.Exchange.{IsAsked, WritesResponse};
 ghost use Rattle.xns_c.specs.Structs.{address_in};
 
 use crate::address::XnsAddress;
@@ -50,17 +48,7 @@ pub extern "C" fn xns_exchange_reply(
     buffer: &mut [u8],
     written: &mut usize,
 ) -> u32
-    ensures written { (x : PacketModel × ℕ) → packet_of request.now ≡ Ok x → result ≡ ok
-        → IsPut (answering_packet (address_in own.now) x.0 bytes.now) buffer.old buffer.new written.new }
-    ensures long { 540 < length bytes.now → result ≡ too_long }
-    ensures answered { (x : PacketModel × ℕ) → packet_of request.now ≡ Ok x → IsAsked (address_in own.now) x.0 → result ≢ nothing }
-    ensures nothing { length bytes.now ≤ 540 → result ≢ nothing → IsAskedBy (address_in own.now) request.now }
-    ensures short { length bytes.now ≤ 540 → result ≢ nothing → length buffer.old < made_even (36 + length bytes.now) →
-        (result ≡ short_buffer) × (written.new ≡ made_even (36 + length bytes.now)) }
-    ensures memory { length bytes.now ≤ 540 → result ≢ nothing → made_even (36 + length bytes.now) ≤ length buffer.old → result ≢ ok
-        → result ≡ no_memory }
-    ensures unchanged { result ≢ ok → buffer.new ≡ buffer.old }
-    ensures untold { result ≢ ok → result ≢ short_buffer → written.new ≡ written.old }
+    ensures { WritesResponse (address_in own.now) request.now bytes.now buffer.old buffer.new written.old written.new result }
 {
     if bytes.len() > MOST_EXCHANGED {
         return TOO_LONG;

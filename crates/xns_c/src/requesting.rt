@@ -1,12 +1,11 @@
 //! The asking side of a packet exchange.
 
-ghost use Rattle.std.specs.Prelude.{◌≡◌, ◌≢◌, ◌<◌, ◌≤◌, ◌+◌, ℕ, length, MatchOption, Ok};
-ghost use Rattle.xns_idp.specs.Packet.{PacketModel, broadcast, packet_model};
-ghost use Rattle.xns_idp.specs.Reading.{made_even, packet_of};
-ghost use Rattle.xns_small.specs.Exchange.{IsResponse, asking_packet};
-ghost use Rattle.xns_c.specs.Exchange.{IsResponseIn, asker};
-ghost use Rattle.xns_c.specs.Given.{IsPut};
-ghost use Rattle.xns_c.specs.Results.{ok, nothing, no_memory, short_buffer, bad_argument, too_long};
+ghost use Rattle.std.specs.Prelude.{◌≡◌, ◌≢◌, ◌+◌, ℕ, length, MatchOption, Ok};
+ghost use Rattle.xns_idp.specs.Packet.{PacketModel, packet_model};
+ghost use Rattle.xns_idp.specs.Reading.{packet_of};
+ghost use Rattle.xns_small.specs.Exchange.{IsResponse};
+ghost use Rattle.xns_c.specs.Exchange.{IsResponseIn, WritesRequest, asker};
+ghost use Rattle.xns_c.specs.Results.{ok, nothing};
 ghost use Rattle.xns_c.specs.Structs.{address_in};
 
 use crate::address::XnsAddress;
@@ -33,16 +32,7 @@ pub extern "C" fn xns_exchange_request(
     buffer: &mut [u8],
     written: &mut usize,
 ) -> u32
-    ensures written { result ≡ ok → IsPut (asking_packet (address_in own.now)
-        (address_in target.now) id client bytes.now) buffer.old buffer.new written.new }
-    ensures long { 540 < length bytes.now → result ≡ too_long }
-    ensures everyone { length bytes.now ≤ 540 → target.now.host ≡ broadcast → result ≡ bad_argument }
-    ensures short { length bytes.now ≤ 540 → target.now.host ≢ broadcast → length buffer.old < made_even (36 + length bytes.now) →
-        (result ≡ short_buffer) × (written.new ≡ made_even (36 + length bytes.now)) }
-    ensures memory { length bytes.now ≤ 540 → target.now.host ≢ broadcast → made_even (36 + length bytes.now) ≤ length buffer.old
-        → result ≢ ok → result ≡ no_memory }
-    ensures unchanged { result ≢ ok → buffer.new ≡ buffer.old }
-    ensures untold { result ≢ ok → result ≢ short_buffer → written.new ≡ written.old }
+    ensures { WritesRequest (address_in own.now) (address_in target.now) id client bytes.now buffer.old buffer.new written.old written.new result }
 {
     if bytes.len() > MOST_EXCHANGED {
         return TOO_LONG;

@@ -5,8 +5,9 @@ ghost use Rattle.xns_idp.specs.Packet.{most_data};
 ghost use Rattle.xns_idp.specs.Reading.{made_even};
 ghost use Rattle.xns_small.specs.Exchange.{asking_packet};
 ghost use Rattle.xns_small.specs.Sending.{sent_packet};
+ghost use Rattle.xns_c.specs.Buffers.{WritesWhereRoom};
+ghost use Rattle.xns_c.specs.Exchange.{most_exchanged, exchange_size};
 ghost use Rattle.xns_c.specs.Given.{IsPut};
-ghost use Rattle.xns_c.specs.Results.{ok, no_memory, short_buffer};
 
 use crate::results::{NO_MEMORY, OK, SHORT_BUFFER};
 use std::alloc::Global;
@@ -64,14 +65,9 @@ pub fn put_exchange(
     buffer: &mut [u8],
     written: &mut usize,
 ) -> u32
-    requires { length exchange.now.body.now ≤ 540 }
-    ensures written { result ≡ ok → IsPut
-        (asking_packet source target exchange.now.id exchange.now.client exchange.now.body.now) buffer.old buffer.new written.new }
-    ensures short { length buffer.old < made_even (36 + length exchange.now.body.now) → (result ≡ short_buffer)
-        × (written.new ≡ made_even (36 + length exchange.now.body.now)) }
-    ensures memory { made_even (36 + length exchange.now.body.now) ≤ length buffer.old → result ≢ ok → result ≡ no_memory }
-    ensures unchanged { result ≢ ok → buffer.new ≡ buffer.old }
-    ensures untold { result ≢ ok → result ≢ short_buffer → written.new ≡ written.old }
+    requires { length exchange.now.body.now ≤ most_exchanged }
+    ensures { WritesWhereRoom (asking_packet source target exchange.now.id exchange.now.client exchange.now.body.now)
+        (exchange_size (length exchange.now.body.now)) buffer.old buffer.new written.old written.new result }
 {
     let needed = packet_size(BEFORE_EXCHANGED + exchange.body.len());
     if buffer.len() < needed {

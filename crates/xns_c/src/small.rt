@@ -1,14 +1,12 @@
 //! Echo, Error and Packet Exchange.
 
-ghost use Rattle.std.specs.Prelude.{◌≡◌, ◌≢◌, ◌+◌, ◌<◌, ◌≤◌, ℕ, drop, length, Ok};
-ghost use Rattle.xns_idp.specs.Packet.{PacketModel};
-ghost use Rattle.xns_idp.specs.Reading.{packet_of};
-ghost use Rattle.xns_small.specs.Echo.{IsAnswered, echo_reply};
-ghost use Rattle.xns_small.specs.ErrorReport.{MayBeComplainedOf, complaint, error_of};
-ghost use Rattle.xns_small.specs.Exchange.{exchange_of, exchange_spelling};
-ghost use Rattle.xns_c.specs.Echo.{IsRequestTo};
-ghost use Rattle.xns_c.specs.Given.{IsPut};
-ghost use Rattle.xns_c.specs.Results.{ok, no_memory, nothing, short, short_buffer, too_long};
+ghost use Rattle.std.specs.Prelude.{◌≡◌, ◌≢◌, ◌<◌, ◌≤◌, drop, length, Ok};
+ghost use Rattle.xns_small.specs.ErrorReport.{error_of};
+ghost use Rattle.xns_small.specs.Exchange.{exchange_of};
+ghost use Rattle.xns_c.specs.Complaints.{WritesComplaint};
+ghost use Rattle.xns_c.specs.Echo.{WritesEchoReply};
+ghost use Rattle.xns_c.specs.Exchange.{WritesExchange};
+ghost use Rattle.xns_c.specs.Results.{ok, short};
 ghost use Rattle.xns_c.specs.Structs.{address_in};
 
 use crate::address::XnsAddress;
@@ -30,16 +28,7 @@ pub extern "C" fn xns_echo_reply(
     buffer: &mut [u8],
     written: &mut usize,
 ) -> u32
-    ensures answered { (x : PacketModel × ℕ) → packet_of bytes.now ≡ Ok x → IsAnswered (address_in own.now) x.0 → result ≢ nothing }
-    ensures written { (x : PacketModel × ℕ) → packet_of bytes.now ≡ Ok x → result ≡ ok →
-        IsAnswered (address_in own.now) x.0 × IsPut (echo_reply (address_in own.now) x.0) buffer.old buffer.new written.new }
-    ensures short { (x : PacketModel × ℕ) → packet_of bytes.now ≡ Ok x → result ≡ short_buffer →
-        IsAnswered (address_in own.now) x.0 × (length buffer.old < length (echo_reply (address_in own.now) x.0))
-        × (written.new ≡ length (echo_reply (address_in own.now) x.0)) }
-    ensures memory { result ≢ ok → result ≢ nothing → result ≢ short_buffer → result ≡ no_memory }
-    ensures nothing { result ≢ nothing → IsRequestTo (address_in own.now) bytes.now }
-    ensures unchanged { result ≢ ok → buffer.new ≡ buffer.old }
-    ensures untold { result ≢ ok → result ≢ short_buffer → written.new ≡ written.old }
+    ensures { WritesEchoReply (address_in own.now) bytes.now buffer.old buffer.new written.old written.new result }
 {
     let Ok((packet, _)) = decode(bytes) else {
         return NOTHING;
@@ -65,15 +54,7 @@ pub extern "C" fn xns_complain(
     buffer: &mut [u8],
     written: &mut usize,
 ) -> u32
-    ensures complained { MayBeComplainedOf offending.now → result ≢ nothing }
-    ensures written { result ≡ ok → IsPut
-        (complaint (address_in own.now) number parameter offending.now) buffer.old buffer.new written.new }
-    ensures short { result ≡ short_buffer → (length buffer.old < length (complaint (address_in own.now) number parameter offending.now))
-        × (written.new ≡ length (complaint (address_in own.now) number parameter offending.now)) }
-    ensures memory { result ≢ ok → result ≢ nothing → result ≢ short_buffer → result ≡ no_memory }
-    ensures nothing { result ≢ nothing → MayBeComplainedOf offending.now }
-    ensures unchanged { result ≢ ok → buffer.new ≡ buffer.old }
-    ensures untold { result ≢ ok → result ≢ short_buffer → written.new ≡ written.old }
+    ensures { WritesComplaint (address_in own.now) number parameter offending.now buffer.old buffer.new written.old written.new result }
 {
     match complain(alloc, own.address(), number, parameter, offending) {
         Ok(Some(bytes)) => put_front(bytes.as_slice(), buffer, written),
@@ -135,14 +116,7 @@ pub extern "C" fn xns_exchange_write(
     buffer: &mut [u8],
     written: &mut usize,
 ) -> u32
-    ensures written { result ≡ ok → IsPut (exchange_spelling
-        (record { id = id; client = client; body = bytes.now })) buffer.old buffer.new written.new }
-    ensures long { 540 < length bytes.now → result ≡ too_long }
-    ensures short { length bytes.now ≤ 540 → length buffer.old < 6 + length bytes.now → (result ≡ short_buffer)
-        × (written.new ≡ 6 + length bytes.now) }
-    ensures memory { length bytes.now ≤ 540 → 6 + length bytes.now ≤ length buffer.old → result ≢ ok → result ≡ no_memory }
-    ensures unchanged { result ≢ ok → buffer.new ≡ buffer.old }
-    ensures untold { result ≢ ok → result ≢ short_buffer → written.new ≡ written.old }
+    ensures { WritesExchange id client bytes.now buffer.old buffer.new written.old written.new result }
 {
     if bytes.len() > 540 {
         return TOO_LONG;
