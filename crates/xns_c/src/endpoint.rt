@@ -139,8 +139,8 @@ pub extern "C" fn xns_endpoint_clear(alloc: Global, handle: &mut XnsEndpoint)
 
 /// Accepts an item, whose bytes are copied. `attention` and `last` are 0 for no.
 ///
-/// `NO_ENDPOINT`; `TOO_LONG` for more than 534 bytes, which are not looked at; `NO_MEMORY` where memory is refused; else 0, or why the item
-/// is refused. The endpoint is as it was, but after 0.
+/// `NO_ENDPOINT`; `TOO_LONG` for more than 534 bytes, which are not looked at; `NO_MEMORY` where memory is refused for them; else 0, or why
+/// the item is refused. The endpoint is as it was, but after 0.
 #[unsafe(no_mangle)]
 pub extern "C" fn xns_endpoint_send(
     alloc: Global,
@@ -158,7 +158,7 @@ pub extern "C" fn xns_endpoint_send(
     ensures none { line_of handle.old ≡ None → (result ≡ no_endpoint) × (line_of handle.new ≡ None) }
     ensures long { line_of handle.old ≢ None → most_body < length body.now → (result ≡ too_long)
         × (line_of handle.new ≡ line_of handle.old) }
-    ensures memory { result ≡ no_memory → line_of handle.new ≡ line_of handle.old }
+    ensures memory { result ≡ no_memory → (0 < length body.now) × (line_of handle.new ≡ line_of handle.old) }
 {
     let Some(mut connection) = handle.take(alloc) else {
         return NO_ENDPOINT;
