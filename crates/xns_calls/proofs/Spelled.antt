@@ -1,14 +1,22 @@
 -- Lines that spell packets say what the packets say.
-use Rattle.std.proofs.Common.{◌≡◌, ◌∙◌, ap, ap₂, ℕ, zero, suc, ◌+◌, arith, refl, List, [], ◌∷◌, ◌++◌, length, Ok}
+use Rattle.std.proofs.Common.{◌≡◌, ◌∙◌, ap, ap₂, sym, inl, inr, ◌⊎◌, ℕ, zero, suc, ◌+◌, ◌==◌, arith, cond, refl, true, List, [], ◌∷◌, ◌++◌, length, Result, Ok, Err}
+use Rattle.std.proofs.lemmas.Bool.{false≢true, not-true}
 use Rattle.hex.specs.Hex.{decode_of}
+use Rattle.hex.specs.declared.error.FromHexError.{FromHexError}
+use Rattle.xns_idp.specs.Packet.{PacketModel}
+use Rattle.xns_idp.specs.Reading.{packet_of}
+use Rattle.xns_idp.specs.declared.fault.IdpFault.{IdpFault}
+use Rattle.xns_spp.specs.Header.{header_of}
 use Rattle.xns_captures.specs.Captures.{NumberedPacket}
-use Rattle.xns_dump.specs.Dump.Capture.{SpellFrom}
 use Rattle.xns_dump.specs.Dump.Line.{digits_of}
+use Rattle.xns_dump.specs.Spelled.{SpellFrom}
 use Rattle.xns_calls.specs.Naming.{Programs}
-use Rattle.xns_calls.specs.Calls.{end_count, has_refused, known_from, known_of, known_with_end, line_taken, nothing_known, text_from, text_with_end, after_line}
+use Rattle.xns_calls.specs.Calls.{end_count, has_refused, known_from, known_of, known_with_end, line_taken, nothing_known, text_from, text_with_end, after_body, after_bytes, after_digits, after_found, after_header, after_line}
 use Rattle.xns_calls.specs.Capture.{Known, after_end}
 use Rattle.xns_calls.specs.Files.{known_behind, last_after, last_frame, packet_end_count, packet_taken, packets_known, packets_known_with_end, packets_refused, packets_text_with_end, text_behind}
+use Rattle.xns_calls.specs.Laws.{IsSilent, are_of_other_type, is_of_other_type}
 use Rattle.xns_calls.specs.Origins.{line_origin}
+use Rattle.xns_calls.specs.declared.origin.Origin.{Origin}
 use Rattle.xns_calls.specs.declared.times.Times.TheVariants.{Hidden}
 
 module _ (programs : Programs) where
@@ -17,31 +25,59 @@ module _ (programs : Programs) where
   unfolding after_line
   taken_same n line packet k number e = rw (number, e) refl
 
-  known_same : (n : ℕ) (k : Known) (lines : List (List ℕ)) (packets : List NumberedPacket) → SpellFrom n lines packets → known_behind programs Hidden k packets ≡ known_from programs n k lines
+  -- a line that spells a packet of another type changes nothing
+  found_silent : (n : Origin) (r : Result (PacketModel × ℕ) IdpFault) (k : Known) → is_of_other_type r ≡ true → after_found n r k ≡ k
+  unfolding after_body
+  found_silent n (Ok found) k e = ap (λ b. cond b (after_header n found.0 (header_of found.0.body) k) k) (not-true (found.0.kind == 5) e)
+  found_silent n (Err fault) k e = absurd (false≢true e)
+
+  digits_silent : (n : ℕ) (r : Result (List ℕ) FromHexError) (k : Known) → are_of_other_type r ≡ true → after_digits programs n r k ≡ k
+  unfolding after_bytes
+  digits_silent n (Ok bytes) k e = found_silent (line_origin programs n) (packet_of bytes) k e
+  digits_silent n (Err error) k e = absurd (false≢true e)
+
+  taken_silent : (n : ℕ) (line : List ℕ) (k : Known) → IsSilent line → line_taken programs n line k ≡ record k { text = [] }
+  unfolding after_line
+  taken_silent n line k e = digits_silent n (decode_of (digits_of line)) (record k { text = [] }) e
+
+  known_same : (n : ℕ) (k : Known) (lines : List (List ℕ)) (packets : List NumberedPacket) → SpellFrom IsSilent n lines packets
+      → known_behind programs Hidden k packets ≡ known_from programs n k lines
   known_same n k [] [] h = refl
   known_same n k [] (packet ∷ packets) h = absurd h
   known_same n k (line ∷ lines) [] h = absurd h
-  known_same n k (line ∷ lines) (packet ∷ packets) h =
-      ap (λ known. known_behind programs Hidden known packets) (taken_same n line packet k h.0 h.1) ∙ known_same (n + 1) (line_taken programs n line k) lines packets h.2
+  known_same n k (line ∷ lines) (packet ∷ packets) (inl h) =
+      ap (λ known. known_behind programs Hidden known packets) (taken_same n line packet k h.0.0 h.0.1)
+      ∙ known_same (n + 1) (line_taken programs n line k) lines packets h.1
+  known_same n k (line ∷ lines) (packet ∷ packets) (inr h) =
+      known_same (n + 1) (record k { text = [] }) lines (packet ∷ packets) h.1
+      ∙ ap (λ known. known_from programs (n + 1) known lines) (sym (taken_silent n line k h.0))
 
-  text_same : (n : ℕ) (k : Known) (lines : List (List ℕ)) (packets : List NumberedPacket) → SpellFrom n lines packets → text_behind programs Hidden k packets ≡ text_from programs n k lines
+  text_same : (n : ℕ) (k : Known) (lines : List (List ℕ)) (packets : List NumberedPacket) → SpellFrom IsSilent n lines packets
+      → text_behind programs Hidden k packets ≡ text_from programs n k lines
   text_same n k [] [] h = refl
   text_same n k [] (packet ∷ packets) h = absurd h
   text_same n k (line ∷ lines) [] h = absurd h
-  text_same n k (line ∷ lines) (packet ∷ packets) h =
-      ap (λ (known : Known). known.text ++ text_behind programs Hidden known packets) (taken_same n line packet k h.0 h.1)
-      ∙ ap (λ rest. (line_taken programs n line k).text ++ rest) (text_same (n + 1) (line_taken programs n line k) lines packets h.2)
+  text_same n k (line ∷ lines) (packet ∷ packets) (inl h) =
+      ap (λ (known : Known). known.text ++ text_behind programs Hidden known packets) (taken_same n line packet k h.0.0 h.0.1)
+      ∙ ap (λ rest. (line_taken programs n line k).text ++ rest) (text_same (n + 1) (line_taken programs n line k) lines packets h.1)
+  text_same n k (line ∷ lines) (packet ∷ packets) (inr h) =
+      text_same (n + 1) (record k { text = [] }) lines (packet ∷ packets) h.1
+      ∙ ap (λ (known : Known). known.text ++ text_from programs (n + 1) known lines) (sym (taken_silent n line k h.0))
 
   -- the last packet has the number of the last line
-  last_same : (n : ℕ) (lines : List (List ℕ)) (packets : List NumberedPacket) → SpellFrom (n + 1) lines packets → last_after programs Hidden (line_origin programs n) packets ≡ line_origin programs (n + length lines)
+  last_same : (n : ℕ) (lines : List (List ℕ)) (packets : List NumberedPacket) → SpellFrom IsSilent (n + 1) lines packets
+      → last_after programs Hidden (line_origin programs n) packets ≡ line_origin programs (n + length lines)
   last_same n [] [] h = ap (line_origin programs) (let e : n ≡ n + 0 = omega arith in e)
   last_same n [] (packet ∷ packets) h = absurd h
   last_same n (line ∷ lines) [] h = absurd h
-  last_same n (line ∷ lines) (packet ∷ packets) h =
-      ap (λ m. last_after programs Hidden (line_origin programs m) packets) h.0 ∙ last_same (n + 1) lines packets h.2
+  last_same n (line ∷ lines) (packet ∷ packets) (inl h) =
+      ap (λ m. last_after programs Hidden (line_origin programs m) packets) h.0.0 ∙ last_same (n + 1) lines packets h.1
+      ∙ ap (line_origin programs) (let e : (n + 1) + length lines ≡ n + length (line ∷ lines) = omega arith in e)
+  last_same n (line ∷ lines) (packet ∷ packets) (inr h) =
+      last_same (n + 1) lines (packet ∷ packets) h.1
       ∙ ap (line_origin programs) (let e : (n + 1) + length lines ≡ n + length (line ∷ lines) = omega arith in e)
 
-  module _ (lines : List (List ℕ)) (packets : List NumberedPacket) (h : SpellFrom 1 lines packets) where
+  module _ (lines : List (List ℕ)) (packets : List NumberedPacket) (h : SpellFrom IsSilent 1 lines packets) where
     known_all : packets_known programs Hidden packets ≡ known_of programs lines
     known_all = known_same 1 nothing_known lines packets h
 

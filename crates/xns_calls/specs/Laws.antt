@@ -1,7 +1,11 @@
 -- What the laws say: of what is heard, and of items that had not come.
-use Rattle.std.specs.Prelude.{◌≡◌, ◌≢◌, ℕ, ◌+◌, ◌%◌, ◌≤◌, ◌<◌, ◌⊎◌, Bool, List, Option, [], ◌∷◌, ◌++◌, ◌&&◌, ◌||◌, not, false, length, map, option_map, slice_get, IfOk, codes, None, Some}
+use Rattle.std.specs.Prelude.{◌≡◌, ◌≢◌, ℕ, ◌+◌, ◌%◌, ◌≤◌, ◌<◌, ◌==◌, ◌⊎◌, Bool, List, Option, Result, Ok, Err, [], ◌∷◌, ◌++◌, ◌&&◌, ◌||◌, not, true, false, length, map, option_map, slice_get, IfOk, codes, None, Some}
 use Rattle.std.specs.Ordering.{is_eq}
+use Rattle.hex.specs.Hex.{decode_of}
+use Rattle.hex.specs.declared.error.FromHexError.{FromHexError}
 use Rattle.xns_idp.specs.Packet.{PacketModel}
+use Rattle.xns_idp.specs.Reading.{packet_of}
+use Rattle.xns_idp.specs.declared.fault.IdpFault.{IdpFault}
 use Rattle.xns_spp.specs.Ends.{most_pending}
 use Rattle.xns_spp.specs.Nearest.{field_round, half_round}
 use Rattle.xns_spp.specs.Numbers.{most_items}
@@ -9,9 +13,9 @@ use Rattle.xns_spp.specs.declared.item.Item.{Item}
 use Rattle.xns_spp.specs.declared.header.Header.{Header}
 use Rattle.courier_messages.specs.Conversation.{conversation, ending, opening}
 use Rattle.courier_messages.specs.declared.message.Message.{Message}
-use Rattle.xns_dump.specs.Dump.Capture.{SpellsPackets}
-use Rattle.xns_dump.specs.Dump.Line.{has_word}
+use Rattle.xns_dump.specs.Dump.Line.{digits_of, has_word}
 use Rattle.xns_dump.specs.Flows.{flow_of, is_flow}
+use Rattle.xns_dump.specs.Spelled.{SpellsPackets}
 use Rattle.xns_dump.specs.declared.flows.flow.Flow.{Flow}
 use Rattle.xns_lines.specs.Lines.{lines_of}
 use Rattle.xns_calls.specs.Acknowledged.{ago, effective, kept_behind, most_waited, nearer}
@@ -168,9 +172,22 @@ abbrev pub OneKeyServesBothDirections : Type 0
 OneKeyServesBothDirections = (a b : Flow) → IsFlow a → IsFlow b
     → is_eq (key_cmp (connection_key a) (connection_key b)) ≡ (is_flow a b || is_flow a (flow_behind b))
 
--- a capture says what lines say that spell its packets, where no times are wanted
+-- a packet of another type than 5
+abbrev pub is_of_other_type : Result (PacketModel × ℕ) IdpFault → Bool
+is_of_other_type (Ok found) = not (found.0.kind == 5)
+is_of_other_type (Err fault) = false
+
+abbrev pub are_of_other_type : Result (List ℕ) FromHexError → Bool
+are_of_other_type (Ok bytes) = is_of_other_type (packet_of bytes)
+are_of_other_type (Err error) = false
+
+-- the line spells such a packet, of which nothing is said
+abbrev pub IsSilent : List ℕ → Type 0
+IsSilent line = are_of_other_type (decode_of (digits_of line)) ≡ true
+
+-- a capture says what lines say that spell its packets, among others that say nothing, where no times are wanted
 pub record CapturesSayWhatLinesSay : Type 0 where
-  pub text : (programs : Programs) (input file : List ℕ) → SpellsPackets input file
+  pub text : (programs : Programs) (input file : List ℕ) → SpellsPackets IsSilent input file
       → calls_capture_text programs Hidden file ≡ calls_text programs input
-  pub refused : (programs : Programs) (input file : List ℕ) → SpellsPackets input file
+  pub refused : (programs : Programs) (input file : List ℕ) → SpellsPackets IsSilent input file
       → has_file_refusal programs Hidden file ≡ has_refusal programs input

@@ -162,7 +162,8 @@ pub fn one_key_serves_both_directions()
 }
 
 /// Of a capture `calls` says what it says of lines of hex that spell the packets of the capture, each packet in the line of
-/// its frame's number.
+/// its frame's number. The lines of other numbers spell packets of another type than 5, of which nothing is printed, and
+/// the last line spells the last packet.
 pub fn captures_say_what_lines_say()
     ensures { CapturesSayWhatLinesSay }
 {}

@@ -6,9 +6,10 @@ use Rattle.hex.specs.declared.error.FromHexError.{FromHexError}
 use Rattle.xns_idp.specs.declared.address.Address.{Address}
 use Rattle.xns_idp.specs.declared.fault.IdpFault.{IdpFault}
 use Rattle.xns_spp.specs.declared.spp_fault.SppFault.{SppFault}
+use Rattle.xns_lines.specs.Lines.{lines_of}
 use Rattle.xns_lines.specs.Text.{hex_word, words_text}
 use Rattle.xns_dump.specs.Dump.{dump_text, has_refused_line}
-use Rattle.xns_dump.specs.Dump.Capture.{SpellsPackets, dump_capture_text, has_refused_packet}
+use Rattle.xns_dump.specs.Dump.Capture.{dump_capture_text, has_refused_packet}
 use Rattle.xns_dump.specs.Dump.Line.{has_word, hex_refusal, is_refused, text_of_line}
 use Rattle.xns_dump.specs.Flows.{DataPacket, is_flow}
 use Rattle.xns_dump.specs.Flows.Numbers.{flow_cmp}
@@ -17,6 +18,7 @@ use Rattle.xns_dump.specs.Layers.Courier.{callee_text}
 use Rattle.xns_dump.specs.Layers.Packets.{idp_refusal}
 use Rattle.xns_dump.specs.Layers.Sequenced.{header_refusal}
 use Rattle.xns_dump.specs.Layers.Text.{address_text}
+use Rattle.xns_dump.specs.Spelled.{AreHex, IsNoHex, SpellsPackets, has_refused_hex, hex_text}
 use Rattle.xns_dump.specs.declared.flows.flow.Flow.{Flow}
 use Rattle.xns_dump.specs.declared.flows.place.Place.{Place}
 
@@ -64,7 +66,9 @@ abbrev pub PlacesAreOrderedByNumbers : Type 0
 PlacesAreOrderedByNumbers = (a b : Place) → IsPlace a → IsPlace b
     → ordering_then (nat_cmp (host_and_socket a) (host_and_socket b)) (nat_cmp a.identifier b.identifier) ≡ place_cmp a b
 
--- a capture says what lines say that spell its packets
+-- a capture says what lines of hex say that spell its packets, among others that are no hex; where each line is hex, that is what the input says
 pub record CapturesSayWhatLinesSay : Type 0 where
-  pub text : (input file : List ℕ) → SpellsPackets input file → dump_capture_text file ≡ dump_text input
-  pub refused : (input file : List ℕ) → SpellsPackets input file → has_refused_packet file ≡ has_refused_line input
+  pub text : (input file : List ℕ) → SpellsPackets IsNoHex input file → dump_capture_text file ≡ hex_text input
+  pub refused : (input file : List ℕ) → SpellsPackets IsNoHex input file → has_refused_packet file ≡ has_refused_hex input
+  pub all_text : (input : List ℕ) → AreHex (lines_of input) → hex_text input ≡ dump_text input
+  pub all_refused : (input : List ℕ) → AreHex (lines_of input) → has_refused_hex input ≡ has_refused_line input

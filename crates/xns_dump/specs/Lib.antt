@@ -2,3 +2,4 @@ pub mod Dump
 pub mod Flows
 pub mod Laws
 pub mod Layers
+pub mod Spelled

@@ -30,7 +30,8 @@ pub fn places_are_ordered_by_numbers()
 {}
 
 /// Of a capture `dump` says what it says of lines of hex that spell the packets of the capture, each packet in the line of
-/// its frame's number.
+/// its frame's number. The lines of other numbers are no hex, so that each prints one line, with its number, why it is
+/// refused: without these lines the texts are the same.
 pub fn captures_say_what_lines_say()
     ensures { CapturesSayWhatLinesSay }
 {}

@@ -1,14 +1,12 @@
 -- What `dump` prints of a capture: what the packets in its frames say, each with the number of its frame.
-use Rattle.std.specs.Prelude.{◌≡◌, ℕ, ◌+◌, Bool, List, [], ◌∷◌, ◌++◌, Option, Ok}
+use Rattle.std.specs.Prelude.{ℕ, Bool, List, [], ◌∷◌, ◌++◌, Option}
 use Rattle.std.specs.List.{flat_map, list_any}
 use Rattle.std.specs.Option.{option_to_list}
-use Rattle.hex.specs.Hex.{decode_of}
 use Rattle.xns_captures.specs.Captures.{NumberedPacket, packets_of}
 use Rattle.xns_captures.specs.Printing as printing
 use Rattle.xns_captures.specs.declared.file_fault.FileFault.{FileFault}
-use Rattle.xns_dump.specs.Dump.Line.{digits_of, is_said_refused, said_by_bytes, said_item, said_text}
+use Rattle.xns_dump.specs.Dump.Line.{is_said_refused, said_by_bytes, said_item, said_text}
 use Rattle.xns_dump.specs.Flows.{DataPacket, item_number}
-use Rattle.xns_lines.specs.Lines.{lines_of}
 
 -- the data packets that bytes spell, which is at most one
 abbrev pub items_of_packet : NumberedPacket → List DataPacket
@@ -47,17 +45,6 @@ dump_capture_text file = packets_text (packets_of file)
 
 abbrev pub has_refused_packet : List ℕ → Bool
 has_refused_packet file = list_any is_packet_refused (packets_of file)
-
--- each of these lines, of which the first has number n, spells the packet of its number, and there are no other packets
-abbrev pub SpellFrom : ℕ → List (List ℕ) → List NumberedPacket → Type 0
-SpellFrom n [] [] = Unit {0}
-SpellFrom n (line ∷ lines) (packet ∷ packets) =
-    (packet.0.number ≡ n) × (decode_of (digits_of line) ≡ Ok packet.1) × SpellFrom (n + 1) lines packets
-SpellFrom n _ _ = ⊥
-
--- the input has a line of hex for each packet of the file, in the line of its frame's number
-abbrev pub SpellsPackets : List ℕ → List ℕ → Type 0
-SpellsPackets input file = SpellFrom 1 (lines_of input) (packets_of file)
 
 -- after a fault the text of the packets before it is written
 abbrev pub CaptureStopsIn : FileFault → List ℕ → Option (List ℕ) → Option (List ℕ) → Type 0
