@@ -12,15 +12,15 @@ use Rattle.xns_lines.specs.Lines.{lines_of}
 abbrev pub Spells : ℕ → List ℕ → NumberedPacket → Type 0
 Spells n line packet = (packet.0.number ≡ n) × (decode_of (digits_of line) ≡ Ok packet.1)
 
--- each of these lines, of which the first has number n, spells the packet of its number, or is an other line; the last one spells the last
--- packet
+-- each of these lines, of which the first has number n, spells the packet of its number, or is one of the others; the last line spells the
+-- last packet
 abbrev pub SpellFrom : (List ℕ → Type 0) → ℕ → List (List ℕ) → List NumberedPacket → Type 0
 SpellFrom IsOther n [] [] = Unit {0}
 SpellFrom IsOther n (line ∷ lines) (packet ∷ packets) =
     (Spells n line packet × SpellFrom IsOther (n + 1) lines packets) ⊎ (IsOther line × SpellFrom IsOther (n + 1) lines (packet ∷ packets))
 SpellFrom IsOther n _ _ = ⊥
 
--- the input spells each packet of the file in the line of its frame's number, and its lines of other numbers are other lines
+-- the input spells each packet of the file in the line of its frame's number, and the lines of other numbers are such others
 abbrev pub SpellsPackets : (List ℕ → Type 0) → List ℕ → List ℕ → Type 0
 SpellsPackets IsOther input file = SpellFrom IsOther 1 (lines_of input) (packets_of file)
 
