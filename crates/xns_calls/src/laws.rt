@@ -73,8 +73,8 @@ pub fn few_items_are_kept()
 
 /// What a packet acknowledges of the flow behind is waited for up to the 64th packet of its connection after it, and no longer. No packet
 /// takes a flow back. So an item that comes next of its flow is read with the 64th packet of its connection after its own at the latest,
-/// whatever packets come. The packets of a connection of an input are those that its lines bring, from the one with which it began, each with
-/// its header, its content and its line. An item behind a gap may be kept longer.
+/// whatever packets come. In an input the packets of a connection are those that the lines bring of it, from the packet on with which the
+/// connection began, each with its header, its content and its line. An item behind a gap may be kept longer.
 pub fn next_items_are_not_held_longer()
     ensures { NextItemsAreNotHeldLonger }
 {}
