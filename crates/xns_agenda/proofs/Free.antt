@@ -55,10 +55,13 @@ new_room most = record {
   free = lined_size most most;
 }
 
+pub for_most : (a : Plan) (most : ℕ) → a ≡ new_agenda most → IsFor a most
+for_most a most is = subst (λ (p : Plan). IsFor p most) (sym is) (new_room most)
+
 pub room_of : (a : Plan) (most : ℕ) → a ≡ new_agenda most → IsFor a (length a.dues)
 room_of a most is =
     let size : length a.dues ≡ most = ap (λ (p : Plan). length p.dues) is ∙ length-none most in
-    subst (λ (n : ℕ). IsFor a n) (sym size) (subst (λ (p : Plan). IsFor p most) (sym is) (new_room most))
+    subst (λ (n : ℕ). IsFor a n) (sym size) (for_most a most is)
 
 nothing_at : (most k : ℕ) → k < most → slice_get (none most) k ≡ Some None
 nothing_at most k less = slice_get-get_or (none most) k None (let size = length-none most in omega (arith, size, less)) ∙ ap Some (get_or-replicate most k None None less)
@@ -77,3 +80,6 @@ nobody_yet most k less = record {
   event = idle_at most k less;
   free = has_lined most most k (omega arith) less;
 }
+
+pub nobody_in : (a : Plan) (most k : ℕ) → a ≡ new_agenda most → k < most → HasNobody a k
+nobody_in a most k is less = subst (λ (p : Plan). HasNobody p k) (sym is) (nobody_yet most k less)

@@ -1,7 +1,7 @@
 //! What is to be done next, of all connections.
 
 ghost use Rattle.std.specs.Prelude.{◌≡◌, ◌<◌, ℕ, length, true, false, IfOk, IfSome, Some, None, slice_get};
-ghost use Rattle.xns_agenda.specs.Agenda.{GetsNumber, GivesWay, HasNoNumber, IsFor, IsWake, asked_at, new_agenda, noted, released};
+ghost use Rattle.xns_agenda.specs.Agenda.{GetsNumber, GivesWay, HasNobody, HasNoNumber, IsFor, IsWake, asked_at, new_agenda, noted, released};
 ghost use Rattle.xns_agenda.specs.Times.{HasEarliest, HasNoneBy, IsFirstBy};
 ghost use Rattle.xns_agenda.specs.Turns.{HasNoTurn, IsFirst, has_turn, lined_up, with_turn};
 
@@ -140,7 +140,9 @@ fn wake(packets: &Turns, events: &Turns, dues: &Times, short: Option<u64>) -> Op
 impl Agenda {
     /// No connections, with room for so many. The lowest number is given first. The only error is want of memory.
     pub fn new(alloc: Global, most: usize) -> Result<Agenda, AllocError>
-        ensures { IfOk result (λ a. a ≡ new_agenda most) }
+        ensures made { IfOk result (λ a. a ≡ new_agenda most) }
+        ensures room { IfOk result (λ a. IsFor a most) }
+        ensures nobody { IfOk result (λ a. (k : ℕ) → k < most → HasNobody a k) }
     {
         let free = all_free(alloc, most)?;
         Ok(Agenda {
