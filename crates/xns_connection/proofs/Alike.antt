@@ -14,7 +14,7 @@ use Rattle.xns_connection.specs.declared.conversation.Conversation.{Conversation
 use Rattle.xns_connection.specs.declared.owed.Owed.{Owed}
 use Rattle.xns_connection.specs.declared.side.Side.{Side}
 use Rattle.xns_connection.specs.declared.why.Why.{Why}
-use Rattle.xns_connection.proofs.Keeping.{not_starved}
+use Rattle.xns_connection.proofs.Outcomes.{not_starved}
 use Rattle.xns_connection.proofs.Once.{moves_once}
 
 -- the conversation at a scene

@@ -222,6 +222,14 @@ done_drains (gave kind words) x =
 done_drains took x = same_reads x.side (side_taken x.side) x.closing (taken_stops x.side) (taken_calls x.side)
 done_drains (heard bytes) x = refl
 
+pub done_sent : (deed : Deed) (x : Scene) → (done deed x).closing.end_sent ≡ x.closing.end_sent
+done_sent nothing x = refl
+done_sent asked x = refl
+done_sent (made call) x = refl
+done_sent (gave kind words) x = refl
+done_sent took x = refl
+done_sent (heard bytes) x = refl
+
 pub done_wanted : (deed : Deed) (x : Scene) → (done deed x).closing.wanted ≡ wanted_by deed x.closing.wanted
 done_wanted nothing x = refl
 done_wanted asked x = refl

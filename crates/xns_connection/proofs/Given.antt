@@ -141,6 +141,22 @@ none_left : (x : Giving) (o : Option (List ℕ)) → (else_newer o x).0 ≡ None
 none_left x None none = newer_left (flush_answer x.state) x
 none_left x (Some p) none = absurd (cc)
 
+newer_empty : (ps : Packets) (x : Giving) → (newer_of ps x).0 ≡ None → (newer_of ps x).1.packets ≡ []
+newer_empty [] x none = refl
+newer_empty (p ∷ ps) x none = absurd (cc)
+
+none_empty : (x : Giving) (o : Option (List ℕ)) → (else_newer o x).0 ≡ None → (else_newer o x).1.packets ≡ []
+none_empty x None none = newer_empty (flush_answer x.state) (flushed x) none
+none_empty x (Some p) none = absurd (cc)
+
+empty_unless : (dead : Bool) (x : Giving) → dead ≡ false → (next_unless dead x).0 ≡ None → (next_unless dead x).1.packets ≡ []
+empty_unless true x alive none = absurd (cc)
+empty_unless false x alive none = none_empty (older x).1 (older x).0 none
+
+kept_unless : (dead : Bool) (x : Giving) → dead ≡ true → (next_unless dead x).1.packets ≡ x.packets
+kept_unless true x is = refl
+kept_unless false x is = absurd (cc)
+
 -- nothing is owed
 abbrev OwesNothing : Owed → Type 0
 OwesNothing o = (o.again ≡ false) × (o.asks ≡ false) × (o.word ≡ false) × (o.fresh ≡ o.moving)
@@ -251,6 +267,19 @@ module _ (law : AStepKeepsItsPromises) (stay : OtherStepsAcceptAndHandUpNothing)
       let k = gave_made None gave s stands in
       (k.0, k.1, k.2, left_unless dead (from s) alive (sym (gave s stands).0)))
 
+  empty : (r : Result (Option (List ℕ)) AllocError) → IfOk r (λ p. Gave p) → dead ≡ false → r ≡ Ok None → new.conversation.packets.items ≡ []
+  empty (Err e) gave alive none = absurd (cc)
+  empty (Ok (Some p)) gave alive none = absurd (cc)
+  empty (Ok None) gave alive none = ∥∥₁_elim mid.stands (Prim.hlevel props) (λ x.
+      let g = gave x.0 x.1 in
+      g.1.packets ∙ empty_unless dead (from x.0) alive (sym g.0))
+
+  keeps : (r : Result (Option (List ℕ)) AllocError) → IfOk r (λ p. Gave p) → dead ≡ true → r ≡ Ok None
+      → new.conversation.packets.items ≡ mid.conversation.packets.items
+  keeps (Err e) gave is none = absurd (cc)
+  keeps (Ok (Some p)) gave is none = absurd (cc)
+  keeps (Ok None) gave is none = ∥∥₁_elim mid.stands (Prim.hlevel props) (λ x. (gave x.0 x.1).1.packets ∙ kept_unless dead (from x.0) is)
+
   owes : (r : Result (Option (List ℕ)) AllocError) → IfOk r (λ p. Gave p) → r ≡ Ok None → OwesNothing new.owed
   owes (Err e) gave none = absurd (cc)
   owes (Ok (Some p)) gave none = absurd (cc)
@@ -271,6 +300,8 @@ module _ (law : AStepKeepsItsPromises) (stay : OtherStepsAcceptAndHandUpNothing)
         gives = moves_and_gives new.conversation r first.0 first.1 all;
         given_none = moves_and_none new.conversation r first.0 first.1 none;
         rested = λ alive is. rested_then first.0 (rested r beside gave (ap is_dead (sym closed) ∙ alive) is);
+        emptied = λ alive is. empty r gave (ap is_dead (sym closed) ∙ alive) is;
+        kept = λ dead is. keeps r gave (ap is_dead (sym closed) ∙ dead) is ∙ ap (λ c. c.items) first.1;
         none = λ is. owes r gave is;
       }
 

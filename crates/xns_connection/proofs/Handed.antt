@@ -84,6 +84,9 @@ module _ (outcome : CallerHands) (call : ServerHands) (next : TheNextItemIsHande
   unmoved : (s : State) → StandsFor t.endpoint s → IsStill old.owed.moving u s
   unmoved s stands = is_still old.owed.moving u s (calm s stands)
 
+  free_before : (s : State) → StandsFor t.endpoint s → drains t.side t.closing ≡ false
+  free_before s stands = sym (done_drains took (scene t s)) ∙ (unmoved s stands).free
+
   there : {s : State} → StandsFor new.conversation.endpoint s → StandsFor t.endpoint s
   there {s} stands = subst (λ (e : Held). StandsFor e s) end stands
 
@@ -103,8 +106,7 @@ module _ (outcome : CallerHands) (call : ServerHands) (next : TheNextItemIsHande
   calmly_kept = record {
     story = λ h tells. let v = went h tells in (v.0, subst (λ (c : Conversation). Tells c v.0) (sym same) v.1, v.2);
     wanted = ap (λ (c : Conversation). c.closing.wanted) same;
-    still = λ free. ∥∥₁_elim old.stands (Prim.hlevel props) (λ x.
-        sym (done_drains took (scene t x.0)) ∙ (unmoved x.0 x.1).free);
+    still = λ free. ∥∥₁_elim old.stands (Prim.hlevel props) (λ x. free_before x.0 x.1);
     calm = λ quiet free. record {
       on = λ h tells.
           let v = went h tells in
@@ -121,7 +123,9 @@ module _ (outcome : CallerHands) (call : ServerHands) (next : TheNextItemIsHande
     replied = λ quiet kept owes s stands.
         let free = ap (λ (c : Conversation). drains c.side c.closing) same ∙ (unmoved s (there stands)).free in
         absurd (let never = owes_reply_drains new.conversation.closing.reply_wanted (not new.conversation.closing.reply_sent) _ _ free owes in cc);
+    ended = λ unsent sent. absurd (let never = ap (λ (c : Conversation). c.closing.end_sent) same ∙ unsent in cc);
     closes = closes_calm base
+        (∥∥₁_elim old.stands (Prim.hlevel props) (λ x. free_before x.0 x.1))
         (∥∥₁_elim old.stands (Prim.hlevel props) (λ x. ap (λ (c : Conversation). drains c.side c.closing) same ∙ (unmoved x.0 x.1).free))
         (∥∥₁_elim old.stands (Prim.hlevel props) (λ x. ap (λ (p : Parts). p.owed.moving) is ∙ (unmoved x.0 x.1).idle))
         (ap (λ (p : Parts). p.closed) is);

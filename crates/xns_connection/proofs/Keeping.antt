@@ -1,11 +1,11 @@
 -- A step keeps its promises.
-use Rattle.std.proofs.Common.{[], ◌≡◌, ◌≢◌, ◌∙◌, ap, sym, refl, subst, ℕ, ◌<◌, Bool, true, false, ◌||◌, Option, Some, None, Result, Ok, Err, IfErr, arith}
+use Rattle.std.proofs.Common.{◌≡◌, ◌≢◌, ◌∙◌, ap, sym, refl, subst, ℕ, ◌<◌, Bool, true, false, ◌||◌, Option, Some, None, Result, Ok, Err, IfErr, arith}
 use Rattle.std.specs.Prelude.{◌&&◌, ◌==◌, ◌-◌, nat_lt, is_ok}
 use Rattle.std.proofs.Math.Logic.{∥∥₁_elim}
 use Rattle.std.proofs.Props.{props}
 use Rattle.std.proofs.lemmas.Bool.{lt-ltb}
 use Rattle.courier_sessions.specs.declared.feed_refusal.FeedRefusal.{FeedRefusal}
-use Rattle.courier_sessions.specs.declared.feed_refusal.FeedRefusal.TheVariants.{Stopped, Busy, TooLong, Attention, Fault, NoMemory}
+use Rattle.courier_sessions.specs.declared.feed_refusal.FeedRefusal.TheVariants.{NoMemory}
 use Rattle.xns_spp.specs.Acceptance.{send_fault_at}
 use Rattle.xns_spp.specs.Held.{Held, StandsFor, held}
 use Rattle.xns_spp.specs.Laws.{ItemsAreAcceptedOrChangeNothing}
@@ -13,24 +13,26 @@ use Rattle.xns_spp.specs.Sending.{refused, send_answer, waiting_count}
 use Rattle.xns_spp.specs.State.{State}
 use Rattle.xns_spp.specs.Telling.{unacknowledged_count}
 use Rattle.xns_spp.specs.declared.item.Item.{Item}
-use Rattle.xns_connection.specs.Closing.{closing_item, closing_items, drains, end_reply_stream, end_stream}
+use Rattle.xns_connection.specs.Closed.{drains_by, is_closed_now}
+use Rattle.xns_connection.specs.Closing.{closing_item, drains, end_reply_stream, end_stream}
 use Rattle.xns_connection.specs.Connecting.{why_after}
-use Rattle.xns_connection.specs.Deeds.{Deed, Moved, closed_moved, done, is_starved, owed_by, shut, told_by, wait_by, wanted_by}
+use Rattle.xns_connection.specs.Deeds.{Deed, Moved, closed_moved, done, is_refused, is_starved, owed_by, shut, told_by, wait_by, wanted_by}
 use Rattle.xns_connection.specs.Moving.{IsAt, Scene, may_end, may_reply, scene}
 use Rattle.xns_connection.specs.Step.{AStepKeepsItsPromises, Promises, Step}
-use Rattle.xns_connection.specs.Story.{GoesOn, IsListed, IsMoved, Runs, Story}
-use Rattle.xns_connection.specs.Telling.{GoesUntil, IsUnrefused, Tells, is_over, owes_end, owes_reply}
+use Rattle.xns_connection.specs.Story.{GoesOn, IsListed, IsMoved, Runs, Story, is_called}
+use Rattle.xns_connection.specs.Telling.{GoesUntil, HasLastWord, Tells, is_over, owes_end, owes_reply}
 use Rattle.xns_connection.specs.declared.closing.Closing.{Closing}
 use Rattle.xns_connection.specs.declared.connection.Connection.{Connection}
 use Rattle.xns_connection.specs.declared.conversation.Conversation.{Conversation}
 use Rattle.xns_connection.specs.declared.side.Side.{Side}
 use Rattle.xns_connection.specs.declared.why.Why.{Why}
 use Rattle.xns_connection.proofs.Closes.{deaf_or_not}
-use Rattle.xns_connection.proofs.Doing.{Underneath, did, done_drains, done_waits, done_wanted, told_state}
+use Rattle.xns_connection.proofs.Doing.{Underneath, did, done_drains, done_sent, done_waits, done_wanted, told_state}
 use Rattle.xns_connection.proofs.Fills.{Below, at_end}
 use Rattle.xns_connection.proofs.Says.{Follows, deaf_follows, follows_not, tells_by}
+use Rattle.xns_connection.proofs.Saying.{deaf_drained}
 use Rattle.xns_connection.proofs.Scenes.{scene_at}
-use Rattle.xns_connection.proofs.Outcomes.{How, how}
+use Rattle.xns_connection.proofs.Outcomes.{How, how, not_starved, starved}
 use Rattle.xns_connection.proofs.Settled.{HasSettled, IsSettled, Refusal, goes_follow, has_settled, is_settled}
 use Rattle.xns_connection.proofs.Tellings.{undrained}
 use Rattle.xns_connection.proofs.Waits.{same_waiting}
@@ -60,6 +62,33 @@ shut_state (Some w) closed to = refl
 shut_state None None to = refl
 shut_state None (Some w) to = refl
 
+shut_sent : (was closed : Option Why) (to : Scene) → (shut was closed to).closing.end_sent ≡ to.closing.end_sent
+shut_sent (Some w) closed to = refl
+shut_sent None None to = refl
+shut_sent None (Some w) to = refl
+
+shut_last : (was closed : Option Why) (to : Scene) → HasLastWord to.side to.closing → HasLastWord (shut was closed to).side (shut was closed to).closing
+shut_last (Some w) closed to last = last
+shut_last None None to last = last
+shut_last None (Some w) to last = record { wanted = last.wanted; answered = last.answered; out = last.out }
+
+-- whether what comes is looked at for the closing exchange alone, as `drains_by` says it of a conversation
+abbrev Reads : (before refused closed_now : Bool) → Scene → Type 0
+Reads before refused closed_now y =
+    drains y.side y.closing ≡ (before || (refused || (closed_now || (y.closing.end_sent && is_called y.side))))
+
+closed_reads : (before refused rest : Bool) → true ≡ (before || (refused || (true || rest)))
+closed_reads true refused rest = refl
+closed_reads false true rest = refl
+closed_reads false false rest = refl
+
+shut_reads : (was closed : Option Why) (to : Scene) (before refused : Bool)
+    → drains to.side to.closing ≡ (before || (refused || (to.closing.end_sent && is_called to.side)))
+    → Reads before refused (is_closed_now was closed) (shut was closed to)
+shut_reads (Some w) closed to before refused is = is
+shut_reads None None to before refused is = is
+shut_reads None (Some w) to before refused is = deaf_drained to ∙ closed_reads before refused (to.closing.end_sent && is_called to.side)
+
 why_then : (was closed : Option Why) (moved : Result (Unit {0}) FeedRefusal) (to : Scene) (s : State) (c : Closing) → was ≡ None
     → closed ≡ closed_moved was moved to → unacknowledged_count s ≡ unacknowledged_count to.state → c ≡ (shut was closed to).closing
     → closed ≡ why_after c (is_over c s) moved
@@ -71,26 +100,6 @@ why_then None closed moved to s c none is count same = is ∙ by closed same whe
   by : (o : Option Why) → c ≡ (shut None o to).closing → why_after to.closing (is_over to.closing to.state) moved ≡ why_after c (is_over c s) moved
   by None same = over to.closing ∙ ap (λ (d : Closing). why_after d (is_over d s) moved) (sym same)
   by (Some w) same = over to.closing ∙ sym (deaf_or_not to.closing true s moved) ∙ ap (λ (d : Closing). why_after d (is_over d s) moved) (sym same)
-
--- ---- memory
-
-pub not_starved : (r : Result (Unit {0}) FeedRefusal) → is_starved r ≡ false → r ≢ Err NoMemory
-not_starved (Ok u) e = λ z. cc
-not_starved (Err NoMemory) e = absurd (cc)
-not_starved (Err Stopped) e = λ z. cc
-not_starved (Err Busy) e = λ z. cc
-not_starved (Err TooLong) e = λ z. cc
-not_starved (Err Attention) e = λ z. cc
-not_starved (Err (Fault f)) e = λ z. cc
-
-starved : (r : Result (Unit {0}) FeedRefusal) → is_starved r ≡ true → r ≡ Err NoMemory
-starved (Ok u) e = absurd (cc)
-starved (Err NoMemory) e = refl
-starved (Err Stopped) e = absurd (cc)
-starved (Err Busy) e = absurd (cc)
-starved (Err TooLong) e = absurd (cc)
-starved (Err Attention) e = absurd (cc)
-starved (Err (Fault f)) e = absurd (cc)
 
 -- ---- a story
 
@@ -230,14 +239,22 @@ module _ (below : Below) (under : Underneath) (law : ItemsAreAcceptedOrChangeNot
   until (Ok u) each = tt
   until (Err e) each = until_by e each
 
-  reads : (h : Story) (tells : Tells t h) → IsUnrefused step.moved → new.closed ≡ old.closed → drains t.side t.closing ≡ false
-      → closing_items new.conversation.closing ≡ [] → drains new.conversation.side new.conversation.closing ≡ false
-  reads h tells fine kept free none =
+  reads : (h : Story) → Tells t h → drains new.conversation.side new.conversation.closing
+      ≡ drains_by (drains t.side t.closing) step.moved (is_closed_now old.closed new.closed) new.conversation
+  reads h tells =
       let m = moves h.state tells.stands in
-      let same = shut_same old.closed new.closed m.to kept in
-      let nothing : closing_items m.to.closing ≡ [] = ap (λ (y : Scene). closing_items y.closing) (sym same) ∙ ap closing_items (sym m.at.closing) ∙ none in
-      sym (same_drain h.state tells.stands) ∙ ap (λ (y : Scene). drains y.side y.closing) same
-      ∙ (story h tells).reads fine (done_drains deed (scene t h.state) ∙ free) nothing
+      subst (λ (b : Bool). drains new.conversation.side new.conversation.closing ≡ drains_by b step.moved (is_closed_now old.closed new.closed) new.conversation)
+      (done_drains deed (scene t h.state))
+      (subst (λ (y : Scene). Reads (drains (first h.state).side (first h.state).closing) (is_refused step.moved) (is_closed_now old.closed new.closed) y) (sym (scene_at m.at))
+      (shut_reads old.closed new.closed m.to _ _ (story h tells).reads))
+
+  ended : (s : State) → StandsFor t.endpoint s → t.closing.end_sent ≡ false → new.conversation.closing.end_sent ≡ true
+      → HasLastWord new.conversation.side new.conversation.closing
+  ended s stands unsent sent =
+      let m = moves s stands in
+      let there : m.to.closing.end_sent ≡ true = sym (shut_sent old.closed new.closed m.to) ∙ ap (λ (c : Closing). c.end_sent) (sym m.at.closing) ∙ sent in
+      subst (λ (y : Scene). HasLastWord y.side y.closing) (sym (scene_at m.at))
+      (shut_last old.closed new.closed m.to ((settles s stands).ended (done_sent deed (scene t s) ∙ unsent) there))
 
   room : (s v : State) → StandsFor t.endpoint s → StandsFor new.conversation.endpoint v → waiting_count v < waiting_count s → new.owed.word ≡ true
   room s v stands there less =
@@ -272,11 +289,12 @@ module _ (below : Below) (under : Underneath) (law : ItemsAreAcceptedOrChangeNot
     calm = λ still free. record { on = calm still free };
     read = λ still kept h tells yes. read still kept h tells yes;
     said = λ still owes v there. ∥∥₁_elim old.stands (Prim.hlevel props) (λ x. said x.0 x.1 still owes v there);
+    ended = λ unsent sent. ∥∥₁_elim old.stands (Prim.hlevel props) (λ x. ended x.0 x.1 unsent sent);
     replied = λ still kept owes v there. ∥∥₁_elim old.stands (Prim.hlevel props) (λ x. replied x.0 x.1 still kept owes v there);
     closes = record {
       moved = step.moved;
       refused = until step.moved (λ h tells. (story h tells).until);
-      reads = λ fine kept h tells free none. reads h tells fine kept free none;
+      reads = reads;
       why = λ none v there. ∥∥₁_elim old.stands (Prim.hlevel props) (λ x. why x.0 x.1 none v there);
       short = λ yes. starved step.moved (sym (∥∥₁_elim old.stands (Prim.hlevel props) (λ x. starves x.0 x.1)) ∙ yes);
       noted = λ is. ∥∥₁_elim old.stands (Prim.hlevel props) (λ x. starves x.0 x.1) ∙ ap is_starved is;

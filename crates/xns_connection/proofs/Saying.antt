@@ -1,30 +1,27 @@
 -- What the closing exchange puts out, and what all of it does to what a scene says of a story.
-use Rattle.std.proofs.Common.{◌≡◌, ◌∙◌, ap, sym, refl, subst, ℕ, zero, suc, ◌≤◌, ◌-◌, List, [], ◌∷◌, ◌++◌, append-nil, append_assoc, take, drop, length, Bool, true, false, Option, Some, None, Result, Ok, Err, arith}
+use Rattle.std.proofs.Common.{◌≡◌, ◌∙◌, ap, sym, refl, subst, ℕ, zero, suc, List, [], ◌∷◌, ◌++◌, append-nil, append_assoc, take, Bool, true, false, Option, Some, None, Result, Ok, Err}
 use Rattle.std.specs.Prelude.{◌&&◌, ◌||◌, if◌then◌else◌, is_ok, not}
 use Rattle.courier_sessions.specs.Answering.{has_items}
 use Rattle.courier_sessions.specs.Pumping.{Side as PumpSide, caller_side, feeding, feeds, moving}
 use Rattle.courier_sessions.specs.Talk.{Talk}
 use Rattle.courier_sessions.specs.declared.feed_refusal.FeedRefusal.{FeedRefusal}
 use Rattle.courier_sessions.specs.declared.feed_refusal.FeedRefusal.TheVariants.{Stopped, Busy, TooLong, Attention, Fault, NoMemory}
-use Rattle.xns_spp.specs.Fronts.{begins_then}
 use Rattle.xns_spp.specs.Growth.{Begins}
 use Rattle.xns_spp.specs.Laws.{TheNextItemIsHandedUp, ItemsAreAcceptedOrChangeNothing}
 use Rattle.xns_spp.specs.Sending.{send_answer, after_send, take_answer, after_take, waiting_count}
 use Rattle.xns_spp.specs.State.{State}
 use Rattle.xns_spp.specs.declared.item.Item.{Item}
-use Rattle.xns_connection.specs.Closing.{drains, closing_items, closing_item, put_if, end_stream, end_reply_stream, noted, Knows}
-use Rattle.xns_connection.specs.Moving.{Scene, scene, IsAt, noting, taken_many, drained_out, may_end, may_reply, ended, replied, closed_up, deafened}
-use Rattle.xns_connection.specs.Story.{Story, SideHas, IsMoved, Runs, start, sends, takes, is_called, is_stopped, out_of, owes_answer}
-use Rattle.xns_connection.specs.Telling.{EndsLast, Tells}
+use Rattle.xns_connection.specs.Closing.{drains, closing_items, closing_item, put_if, end_stream, end_reply_stream}
+use Rattle.xns_connection.specs.Moving.{Scene, taken_many, drained_out, may_end, may_reply, ended, replied, closed_up, deafened}
+use Rattle.xns_connection.specs.Story.{Story, IsMoved, start, sends, is_called, is_stopped, out_of, owes_answer}
+use Rattle.xns_connection.specs.Telling.{EndsLast, HasLastWord}
 use Rattle.xns_connection.specs.declared.closing.Closing.{Closing}
-use Rattle.xns_connection.specs.declared.conversation.Conversation.{Conversation}
 use Rattle.xns_connection.specs.declared.side.Side.{Side}
 use Rattle.xns_connection.specs.declared.side.Side.TheVariants.{Calls, Answers}
-use Rattle.xns_connection.proofs.Leading.{runs_on}
-use Rattle.xns_connection.proofs.Tellings.{has_at, after_taken, knows_taken, knows_still, KnowsToo, beside, reads_on, same_closing, same_drains, same_last, deafened as deafens}
+use Rattle.xns_connection.proofs.Tellings.{knows_still, KnowsToo, reads_on}
 use Rattle.xns_connection.proofs.Still.{no_items}
-use Rattle.xns_connection.proofs.Waits.{one_fewer, stays_true}
-use Rattle.xns_connection.proofs.Says.{Closes, ClosesSo, DrainsOut, Follows, Says, closes_not, closes_so, closes_then, drains_out, follows_then, noting_drains, so_then}
+use Rattle.xns_connection.proofs.Waits.{stays_true}
+use Rattle.xns_connection.proofs.Says.{Closes, ClosesSo, Says, closes_not, closes_so, closes_then, drains_out, follows_then, noting_drains, so_then}
 
 -- ---- an item is put out
 
@@ -51,18 +48,19 @@ record MayEnd (x : Scene) : Type 0 where
   wanted : x.closing.wanted ≡ true
   free : drains x.side x.closing ≡ false
   unsent : x.closing.end_sent ≡ false
+  answered : owes_answer x.side ≡ false
   out : has_items (out_of x.side) ≡ false
 
 why_end : (x : Scene) → may_end x ≡ true → MayEnd x
-why_end x may = by x.closing.wanted (drains x.side x.closing) x.closing.end_sent (owes_answer x.side) (has_items (out_of x.side)) refl refl refl refl may where
-  by : (a b c d e : Bool) → x.closing.wanted ≡ a → drains x.side x.closing ≡ b → x.closing.end_sent ≡ c → has_items (out_of x.side) ≡ e
+why_end x may = by x.closing.wanted (drains x.side x.closing) x.closing.end_sent (owes_answer x.side) (has_items (out_of x.side)) refl refl refl refl refl may where
+  by : (a b c d e : Bool) → x.closing.wanted ≡ a → drains x.side x.closing ≡ b → x.closing.end_sent ≡ c → owes_answer x.side ≡ d → has_items (out_of x.side) ≡ e
       → (a && (not b && (not c && (not d && not e)))) ≡ true → MayEnd x
-  by false b c d e p q r s z = absurd (cc)
-  by true true c d e p q r s z = absurd (cc)
-  by true false true d e p q r s z = absurd (cc)
-  by true false false true e p q r s z = absurd (cc)
-  by true false false false true p q r s z = absurd (cc)
-  by true false false false false p q r s z = record { wanted = p; free = q; unsent = r; out = s }
+  by false b c d e p q r s t z = absurd (cc)
+  by true true c d e p q r s t z = absurd (cc)
+  by true false true d e p q r s t z = absurd (cc)
+  by true false false true e p q r s t z = absurd (cc)
+  by true false false false true p q r s t z = absurd (cc)
+  by true false false false false p q r s t z = record { wanted = p; free = q; unsent = r; answered = s; out = t }
 
 -- an item that is put out lets none move where nothing of the side is out
 none_fed : {S : Type 0} (r : Result S FeedRefusal) (v w : State) → feeding r v ≡ None → feeding r w ≡ None
@@ -121,10 +119,41 @@ end_follows law x may ok =
       deaf = refl;
     }
 
+drains_self : (a b c : Bool) → (a || (b || c)) ≡ ((a || (b || c)) || b)
+drains_self true b c = refl
+drains_self false true c = refl
+drains_self false false true = refl
+drains_self false false false = refl
+
+or_none : (b : Bool) → (b || false) ≡ b
+or_none true = refl
+or_none false = refl
+
+-- behind End what comes is looked at for the closing exchange alone where the side is called
+end_drains : (x : Scene) → MayEnd x
+    → drains x.side (record x.closing { end_sent = true }) ≡ (drains x.side x.closing || (true && is_called x.side))
+end_drains x why =
+    let r = reads_on x.side x.closing why.free in
+    ap (λ (b : Bool). b || (is_called x.side || (x.closing.reply_sent || x.closing.deaf))) r.going
+    ∙ ap (λ (b : Bool). is_called x.side || (b || x.closing.deaf)) r.reply ∙ ap (λ (b : Bool). is_called x.side || b) r.heard ∙ or_none (is_called x.side)
+    ∙ sym (ap (λ (b : Bool). b || is_called x.side) why.free)
+
+-- whether what comes is looked at for the closing exchange alone: as before, or End is put out at a side that is called
+abbrev pub drains_behind : Scene → Scene → Bool
+drains_behind x y = drains x.side x.closing || (y.closing.end_sent && is_called y.side)
+
 -- End was put out, if it was
 record PutsEnd (x y : Scene) : Type 0 where
   closes : ClosesSo x y
   said : may_end y ≡ true → is_ok (send_answer y.state (closing_item end_stream)) ≡ false
+  reads : drains y.side y.closing ≡ drains_behind x y
+  due : x.closing.end_sent ≡ false → y.closing.end_sent ≡ true → HasLastWord y.side y.closing
+
+still_reads : (x : Scene) → drains x.side x.closing ≡ drains_behind x x
+still_reads x = drains_self (is_stopped x.side) (x.closing.end_sent && is_called x.side) (x.closing.reply_sent || x.closing.deaf)
+
+not_due : (x : Scene) → x.closing.end_sent ≡ false → x.closing.end_sent ≡ true → HasLastWord x.side x.closing
+not_due x unsent sent = absurd (cc)
 
 ends_by : ItemsAreAcceptedOrChangeNothing → (x : Scene) (m o : Bool) → may_end x ≡ m → is_ok (send_answer x.state (closing_item end_stream)) ≡ o
     → PutsEnd x (if m && o then record x { closing = record x.closing { end_sent = true }; state = after_send x.state (closing_item end_stream) } else x)
@@ -134,9 +163,13 @@ ends_by law x true true may ok = record {
       let y : Scene = record x { closing = record x.closing { end_sent = true }; state = after_send x.state (closing_item end_stream) } in
       let twice = (why_end y again).unsent in
       absurd (cc);
+  reads = end_drains x (why_end x may);
+  due = λ unsent sent. let why = why_end x may in record { wanted = why.wanted; answered = why.answered; out = no_items (out_of x.side) why.out };
 }
-ends_by law x true false may ok = record { closes = closes_so (closes_not x); said = λ again. ok }
-ends_by law x false o may ok = record { closes = closes_so (closes_not x); said = λ again. absurd (cc) }
+ends_by law x true false may ok =
+    record { closes = closes_so (closes_not x); said = λ again. ok; reads = still_reads x; due = not_due x }
+ends_by law x false o may ok =
+    record { closes = closes_so (closes_not x); said = λ again. absurd (cc); reads = still_reads x; due = not_due x }
 
 ends : ItemsAreAcceptedOrChangeNothing → (x : Scene) → PutsEnd x (ended x)
 ends law x = ends_by law x (may_end x) (is_ok (send_answer x.state (closing_item end_stream))) refl refl
@@ -177,6 +210,7 @@ reply_follows law x may ok =
         still = λ z. absurd (let never = (reads_on x.side (record x.closing { reply_sent = true }) z).reply in cc);
       };
       deaf = refl;
+      end = refl;
     }
 
 replies_by : ItemsAreAcceptedOrChangeNothing → (x : Scene) (m o : Bool) → may_reply x ≡ m → is_ok (send_answer x.state (closing_item end_reply_stream)) ≡ o
@@ -222,6 +256,15 @@ pub record IsSaid (y : Scene) : Type 0 where
 pub record ClosesUp (x y : Scene) : Type 0 where
   pub closes : ClosesSo x y
   pub said : IsSaid y
+  pub reads : drains y.side y.closing ≡ drains_behind x y
+  pub due : x.closing.end_sent ≡ false → y.closing.end_sent ≡ true → HasLastWord y.side y.closing
+
+same_last_word : {x y : Scene} → Closes x y → HasLastWord x.side x.closing → HasLastWord y.side y.closing
+same_last_word {x} {y} p w = record {
+  wanted = p.follows.wanted ∙ w.wanted;
+  answered = ap owes_answer p.follows.side ∙ w.answered;
+  out = ap out_of p.follows.side ∙ w.out;
+}
 
 pub closes_up : TheNextItemIsHandedUp → ItemsAreAcceptedOrChangeNothing → (x : Scene) → ClosesUp x (closed_up x)
 closes_up next law x =
@@ -231,10 +274,11 @@ closes_up next law x =
     let p = ends law x in
     let q = drains_out next a in
     let r = replies law b in
+    let behind = closes_then q.closes r.closes in
     let same : waiting_count y.state ≡ waiting_count b.state =
     sent_same law b (may_reply b) (is_ok (send_answer b.state (closing_item end_reply_stream))) (record b.closing { reply_sent = true }) (closing_item end_reply_stream) refl in
     record {
-      closes = so_then p.closes (closes_so (closes_then q.closes r.closes));
+      closes = so_then p.closes (closes_so behind);
       said = record {
         read = λ yes. same ∙ q.none (sym q.drain ∙ sym (reply_drains b _ _ refl) ∙ yes);
         end = λ may.
@@ -242,6 +286,10 @@ closes_up next law x =
             ap (λ (w : Scene). is_ok (send_answer w.state (closing_item end_stream))) is ∙ p.said (sym (ap may_end is) ∙ may);
         reply = r.said;
       };
+      reads = reply_drains b _ _ refl ∙ q.drain ∙ p.reads
+          ∙ sym (ap (λ (e : Bool). drains x.side x.closing || (e && is_called y.side)) behind.end
+          ∙ ap (λ (z : Side). drains x.side x.closing || (a.closing.end_sent && is_called z)) behind.follows.side);
+      due = λ unsent sent. same_last_word behind (p.due unsent (sym behind.end ∙ sent));
     }
 
 -- ---- one that reads no more does so for good

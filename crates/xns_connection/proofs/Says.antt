@@ -1,29 +1,22 @@
 -- What a scene says of a story, and what the closing exchange does to that.
-use Rattle.std.proofs.Common.{◌≡◌, ◌∙◌, ap, sym, refl, subst, ℕ, zero, suc, ◌≤◌, ◌-◌, List, [], ◌∷◌, ◌++◌, append-nil, append_assoc, take, drop, length, Bool, true, false, Option, Some, None, Result, Ok, Err, arith}
-use Rattle.std.specs.Prelude.{◌&&◌, ◌||◌, if◌then◌else◌, is_ok, not}
-use Rattle.courier_sessions.specs.Answering.{has_items}
-use Rattle.courier_sessions.specs.Pumping.{Side as PumpSide, caller_side, feeding, feeds, moving}
-use Rattle.courier_sessions.specs.Talk.{Talk}
-use Rattle.courier_sessions.specs.declared.feed_refusal.FeedRefusal.{FeedRefusal}
-use Rattle.courier_sessions.specs.declared.feed_refusal.FeedRefusal.TheVariants.{Stopped, Busy, TooLong, Attention, Fault, NoMemory}
+use Rattle.std.proofs.Common.{◌≡◌, ◌∙◌, ap, sym, refl, subst, ℕ, zero, suc, ◌≤◌, ◌-◌, List, ◌++◌, take, drop, length, Bool, true, false, Option, Some, None, arith}
+use Rattle.std.specs.Prelude.{◌&&◌, if◌then◌else◌}
 use Rattle.xns_spp.specs.Fronts.{begins_then}
 use Rattle.xns_spp.specs.Growth.{Begins}
-use Rattle.xns_spp.specs.Laws.{TheNextItemIsHandedUp, ItemsAreAcceptedOrChangeNothing}
-use Rattle.xns_spp.specs.Sending.{send_answer, after_send, take_answer, after_take, waiting_count}
+use Rattle.xns_spp.specs.Laws.{TheNextItemIsHandedUp}
+use Rattle.xns_spp.specs.Sending.{take_answer, after_take, waiting_count}
 use Rattle.xns_spp.specs.State.{State}
 use Rattle.xns_spp.specs.declared.item.Item.{Item}
-use Rattle.xns_connection.specs.Closing.{drains, closing_items, closing_item, put_if, end_stream, end_reply_stream, noted, Knows}
-use Rattle.xns_connection.specs.Moving.{Scene, scene, IsAt, noting, taken_many, drained_out, may_end, may_reply, ended, replied, closed_up, deafened}
-use Rattle.xns_connection.specs.Story.{Story, SideHas, IsMoved, Runs, start, sends, takes, is_called, is_stopped, out_of, owes_answer}
+use Rattle.xns_connection.specs.Closing.{drains, closing_items, noted, Knows}
+use Rattle.xns_connection.specs.Moving.{Scene, scene, IsAt, noting, taken_many, drained_out, deafened}
+use Rattle.xns_connection.specs.Story.{Story, SideHas, IsMoved, Runs, start, takes, is_called, is_stopped}
 use Rattle.xns_connection.specs.Telling.{EndsLast, Tells}
 use Rattle.xns_connection.specs.declared.closing.Closing.{Closing}
 use Rattle.xns_connection.specs.declared.conversation.Conversation.{Conversation}
 use Rattle.xns_connection.specs.declared.side.Side.{Side}
-use Rattle.xns_connection.specs.declared.side.Side.TheVariants.{Calls, Answers}
 use Rattle.xns_connection.proofs.Leading.{runs_on}
-use Rattle.xns_connection.proofs.Tellings.{has_at, after_taken, knows_taken, knows_still, KnowsToo, beside, reads_on, same_closing, same_drains, same_last, deafened as deafens}
-use Rattle.xns_connection.proofs.Still.{no_items}
-use Rattle.xns_connection.proofs.Waits.{one_fewer, stays_true}
+use Rattle.xns_connection.proofs.Tellings.{has_at, after_taken, knows_taken, beside, same_closing, same_drains, same_last, deafened as deafens}
+use Rattle.xns_connection.proofs.Waits.{one_fewer}
 
 -- a story, but for the history of its end, is one of this scene
 pub record Says (x : Scene) (h : Story) : Type 0 where
@@ -157,6 +150,10 @@ noting_deaf : (x : Scene) (o : Option Item) → (noting o x).closing.deaf ≡ x.
 noting_deaf x None = refl
 noting_deaf x (Some item) = (beside x.closing (noted x.closing item.stream) item.stream refl).deaf
 
+noting_end : (x : Scene) (o : Option Item) → (noting o x).closing.end_sent ≡ x.closing.end_sent
+noting_end x None = refl
+noting_end x (Some item) = (beside x.closing (noted x.closing item.stream) item.stream refl).end
+
 noting_fewer : TheNextItemIsHandedUp → (x : Scene) (o : Option Item) → take_answer x.state ≡ o
     → waiting_count (noting o x).state ≤ waiting_count x.state - 1
 noting_fewer next x None is =
@@ -169,11 +166,12 @@ record Takes (n : ℕ) (x y : Scene) : Type 0 where
   follows : Follows x y
   drain : drains y.side y.closing ≡ true
   deaf : y.closing.deaf ≡ x.closing.deaf
+  end : y.closing.end_sent ≡ x.closing.end_sent
   fewer : waiting_count y.state ≤ waiting_count x.state - n
 
 many_taken : TheNextItemIsHandedUp → (n : ℕ) (x : Scene) → drains x.side x.closing ≡ true → Takes n x (taken_many n x)
 unfolding taken_many
-many_taken next zero x drain = record { follows = follows_not x; drain = drain; deaf = refl; fewer = omega arith }
+many_taken next zero x drain = record { follows = follows_not x; drain = drain; deaf = refl; end = refl; fewer = omega arith }
 many_taken next (suc n) x drain =
     let p = many_taken next n x drain in
     let y : Scene = taken_many n x in
@@ -184,6 +182,7 @@ many_taken next (suc n) x drain =
       follows = follows_then p.follows (noted_follows next y o refl p.drain);
       drain = noting_drains y o ∙ p.drain;
       deaf = noting_deaf y o ∙ p.deaf;
+      end = noting_end y o ∙ p.end;
       fewer = omega (arith, one, few);
     }
 
@@ -191,12 +190,13 @@ many_taken next (suc n) x drain =
 pub record Closes (x y : Scene) : Type 0 where
   pub follows : Follows x y
   pub deaf : y.closing.deaf ≡ x.closing.deaf
+  pub end : y.closing.end_sent ≡ x.closing.end_sent
 
 pub closes_not : (x : Scene) → Closes x x
-closes_not x = record { follows = follows_not x; deaf = refl }
+closes_not x = record { follows = follows_not x; deaf = refl; end = refl }
 
 pub closes_then : {x y z : Scene} → Closes x y → Closes y z → Closes x z
-closes_then p q = record { follows = follows_then p.follows q.follows; deaf = q.deaf ∙ p.deaf }
+closes_then p q = record { follows = follows_then p.follows q.follows; deaf = q.deaf ∙ p.deaf; end = q.end ∙ p.end }
 
 -- as `ClosesThen`, where the second scene may read on behind End
 pub record ClosesSo (x y : Scene) : Type 0 where
@@ -219,7 +219,7 @@ drains_by : TheNextItemIsHandedUp → (x : Scene) (b : Bool) → drains x.side x
 drains_by next x true is =
     let p = many_taken next (waiting_count x.state) x is in
     let few = p.fewer in
-    record { closes = record { follows = p.follows; deaf = p.deaf }; drain = p.drain ∙ sym is; none = λ z. omega (arith, few) }
+    record { closes = record { follows = p.follows; deaf = p.deaf; end = p.end }; drain = p.drain ∙ sym is; none = λ z. omega (arith, few) }
 drains_by next x false is = record { closes = closes_not x; drain = refl; none = λ z. absurd (cc) }
 
 pub drains_out : TheNextItemIsHandedUp → (x : Scene) → DrainsOut x (drained_out x)

@@ -8,19 +8,20 @@ use Rattle.xns_spp.specs.Laws.{ItemsAreAcceptedOrChangeNothing}
 use Rattle.xns_spp.specs.State.{State, IsState}
 use Rattle.xns_spp.specs.declared.item.Item.{Item}
 use Rattle.xns_connection.specs.Closing.{closing_item, closing_items, drains, end_reply_stream, end_stream, put_if, Knows}
-use Rattle.xns_connection.specs.Moving.{IsAt, Scene, Settles, Moves, drains_only, converses, Pumps, Rejects, rejects, Rounds, once, again, Converses, calms, starves, refuses, refuses_on, closed_up, deafened, settled_by}
+use Rattle.xns_connection.specs.Deeds.{is_refused}
+use Rattle.xns_connection.specs.Moving.{IsAt, Scene, Settles, Moves, drains_only, converses, Pumps, Rejects, rejects, Rounds, once, again, Converses, calms, starves, refuses, refuses_on, closed_up, deafened}
 use Rattle.xns_connection.specs.Story.{Story, GoesOn, IsMoved, IsListed, IsHeld, Runs, is_called, is_stopped, out_of}
-use Rattle.xns_connection.specs.Telling.{EndsLast, IsUnrefused}
+use Rattle.xns_connection.specs.Telling.{EndsLast, HasLastWord}
 use Rattle.xns_connection.specs.declared.closing.Closing.{Closing}
 use Rattle.xns_connection.specs.declared.conversation.Conversation.{Conversation}
 use Rattle.xns_connection.specs.declared.side.Side.{Side}
 use Rattle.xns_connection.specs.declared.side.Side.TheVariants.{Calls, Answers}
 use Rattle.xns_connection.proofs.Fills.{Behind, Below, Fills, HasConversed, Until, at_end, has_conversed}
 use Rattle.xns_connection.proofs.Leading.{goes_on, same_messages, stays}
-use Rattle.xns_connection.proofs.Outcomes.{How, bad, good, how, short}
-use Rattle.xns_connection.proofs.Saying.{IsSaid, closed_drained, closes_up, deaf_drained}
+use Rattle.xns_connection.proofs.Outcomes.{How, bad, good, how, refused_for, short, unrefused}
+use Rattle.xns_connection.proofs.Saying.{IsSaid, closed_drained, closes_up, deaf_drained, drains_behind}
 use Rattle.xns_connection.proofs.Says.{EndsSo, Says, deaf_follows, ends_so, ends_then}
-use Rattle.xns_connection.proofs.Tellings.{ReadsOn, reads_by, reads_on, unsaid, on_ok, if_err, deafened as deafens}
+use Rattle.xns_connection.proofs.Tellings.{ReadsOn, reads_by, reads_on, on_ok, if_err, deafened as deafens}
 
 -- ---- the side of a scene
 
@@ -124,12 +125,12 @@ record HasMoved (x : Scene) (r : Result (Unit {0}) FeedRefusal) (y : Scene) (h :
   goes : GoesOn (at_end x.state h) (at_end y.state story)
   calm : OnOk r (drains y.side y.closing ≡ false → IsMoved y.side y.state × IsListed y.side)
   until : IfErr r (λ e. Refusal x h e)
-  reads : IsUnrefused r → drains x.side x.closing ≡ false → drains y.side y.closing ≡ false
+  reads : is_refused r ≡ false → drains x.side x.closing ≡ false → drains y.side y.closing ≡ false
 
 still_reads : (x : Scene) (h : Story) (next : Side) (v : State) (r : Result (Unit {0}) FeedRefusal) → is_called next ≡ is_called x.side
-    → drains x.side x.closing ≡ false → HasConversed (closing_items x.closing) x.state v r next h → IsUnrefused r → drains next x.closing ≡ false
+    → drains x.side x.closing ≡ false → HasConversed (closing_items x.closing) x.state v r next h → is_refused r ≡ false → drains next x.closing ≡ false
 still_reads x h next v (Ok u) called free k fine = reads_by x.side next x.closing called free k.calm.0
-still_reads x h next v (Err e) called free k fine = reads_by x.side next x.closing called free (k.short (fine (λ z. cc)))
+still_reads x h next v (Err e) called free k fine = reads_by x.side next x.closing called free (k.short (ap Err (unrefused e fine)))
 
 has_moved : Below → {x y : Scene} {r : Result (Unit {0}) FeedRefusal} (h : Story) → Says x h → Moves x r y → HasMoved x r y h
 has_moved below {x} {y} {r} h s (drains_only drain) = record {
@@ -172,18 +173,28 @@ pub record HasSettled (x : Scene) (r : Result (Unit {0}) FeedRefusal) (to : Scen
   pub goes : GoesOn (at_end x.state h) (at_end to.state story)
   pub calm : r ≢ Err NoMemory → drains to.side to.closing ≡ false → IsMoved to.side to.state × IsListed to.side
   pub until : IfErr r (λ e. Refusal x h e)
-  pub reads : IsUnrefused r → drains x.side x.closing ≡ false → closing_items to.closing ≡ [] → drains to.side to.closing ≡ false
+  pub reads : drains to.side to.closing ≡ (drains x.side x.closing || (is_refused r || (to.closing.end_sent && is_called to.side)))
 
 pub goes_follow : {v w : State} (s : State) (h m : Story) → Runs v w → GoesOn (at_end s h) (at_end v m) → GoesOn (at_end s h) (at_end w m)
 goes_follow {v} {w} s h m runs g = goes_on (at_end s h) (at_end v m) (at_end w m) g (same_messages (at_end v m) (at_end w m) runs refl refl refl refl refl)
 
--- what was read is read on, where nothing was put out
-reads_closed : (side : Side) (c d : Closing) → drains side c ≡ false → d.deaf ≡ c.deaf → closing_items d ≡ [] → drains side d ≡ false
-reads_closed side c d free deaf none =
-    let k = unsaid d.end_sent d.reply_sent none in
-    let is = reads_on side c free in
-    ap (λ (b : Bool). b || ((d.end_sent && is_called side) || (d.reply_sent || d.deaf))) is.going
-    ∙ ap (λ (b : Bool). (b && is_called side) || (d.reply_sent || d.deaf)) k.0 ∙ ap (λ (b : Bool). b || d.deaf) k.1 ∙ deaf ∙ is.heard
+-- items that move without a refusal do not change whether what comes is read
+moved_reads : {x y : Scene} {r : Result (Unit {0}) FeedRefusal} → Moves x r y → (drains x.side x.closing ≡ false → drains y.side y.closing ≡ false)
+    → drains y.side y.closing ≡ drains x.side x.closing
+moved_reads (drains_only drain) reads = refl
+moved_reads (converses free c) reads = reads free ∙ sym free
+
+-- where memory was refused, nothing was put out, and what was read is read on
+short_reads : {x y : Scene} {r : Result (Unit {0}) FeedRefusal} → Moves x r y → (drains x.side x.closing ≡ false → drains y.side y.closing ≡ false) → r ≡ Err NoMemory
+    → drains y.side y.closing ≡ drains_behind x y
+short_reads (drains_only drain) reads is = absurd (cc)
+short_reads {x} {y} (converses free c) reads is =
+    let there = reads free in
+    there ∙ sym (ap (λ (b : Bool). b || (y.closing.end_sent && is_called y.side)) free ∙ (reads_on y.side y.closing there).end)
+
+last_or : (a b : Bool) → true ≡ (a || (true || b))
+last_or true b = refl
+last_or false b = refl
 
 -- a side that reads no more does so for good
 never : (mid to : Scene) → EndsSo (deafened mid) to → drains to.side to.closing ≡ false → ⊥
@@ -203,13 +214,11 @@ has_settled below law {x} h s moves (good u mid) =
           let calm = k.calm (f.free free) in
           (f.moved free calm.0, subst (λ (y : Side). IsListed y) (sym f.side) calm.1);
       until = tt;
-      reads = λ fine free none.
-          let to : Scene = closed_up mid in
-          ap (λ (y : Side). drains y to.closing) f.side ∙ reads_closed mid.side mid.closing to.closing (k.reads fine free) p.closes.deaf none;
+      reads = p.reads ∙ ap (λ (b : Bool). b || ((closed_up mid).closing.end_sent && is_called (closed_up mid).side)) (moved_reads moves (k.reads refl));
     }
 has_settled below law {x} h s moves (short mid) =
     let k = has_moved below h s moves in
-    record { story = k.story; says = k.says; goes = k.goes; calm = λ some. absurd (some refl); until = k.until; reads = λ fine free none. k.reads fine free }
+    record { story = k.story; says = k.says; goes = k.goes; calm = λ some. absurd (some refl); until = k.until; reads = short_reads moves (k.reads refl) refl }
 has_settled below law {x} h s moves (bad e mid other) =
     let k = has_moved below h s moves in
     let p = closes_up below.next law (deafened mid) in
@@ -220,7 +229,10 @@ has_settled below law {x} h s moves (bad e mid other) =
       goes = goes_follow x.state h k.story f.runs k.goes;
       calm = λ some free. absurd (never mid (closed_up (deafened mid)) p.closes.follows free);
       until = k.until;
-      reads = λ fine free none. absurd (other (let is = fine (λ z. cc) in cc));
+      reads = closed_drained (deafened mid) (deaf_drained mid)
+          ∙ last_or (drains x.side x.closing) ((closed_up (deafened mid)).closing.end_sent && is_called (closed_up (deafened mid)).side)
+          ∙ ap (λ (b : Bool). drains x.side x.closing || (b || ((closed_up (deafened mid)).closing.end_sent && is_called (closed_up (deafened mid)).side)))
+          (sym (refused_for e other));
     }
 
 -- ---- what needs no story
@@ -229,6 +241,10 @@ pub record IsSettled (x : Scene) (r : Result (Unit {0}) FeedRefusal) (to : Scene
   pub said : r ≢ Err NoMemory → IsSaid to
   pub wanted : to.closing.wanted ≡ x.closing.wanted
   pub still : drains to.side to.closing ≡ false → drains x.side x.closing ≡ false
+  pub ended : x.closing.end_sent ≡ false → to.closing.end_sent ≡ true → HasLastWord to.side to.closing
+
+moves_unsent : {x y : Scene} {r : Result (Unit {0}) FeedRefusal} → Moves x r y → x.closing.end_sent ≡ false → y.closing.end_sent ≡ false
+moves_unsent moves unsent = ap (λ (c : Closing). c.end_sent) (moves_closing moves) ∙ unsent
 
 moves_still : {x y : Scene} {r : Result (Unit {0}) FeedRefusal} → Moves x r y → drains y.side y.closing ≡ false → drains x.side x.closing ≡ false
 moves_still (drains_only drain) free = free
@@ -242,11 +258,13 @@ is_settled below law moves (good u mid) =
       said = λ some. p.said;
       wanted = p.closes.follows.wanted ∙ ap (λ (c : Closing). c.wanted) (moves_closing moves);
       still = λ free. moves_still moves (p.closes.follows.free free);
+      ended = λ unsent sent. p.due (moves_unsent moves unsent) sent;
     }
 is_settled below law moves (short mid) = record {
   said = λ some. absurd (some refl);
   wanted = ap (λ (c : Closing). c.wanted) (moves_closing moves);
   still = moves_still moves;
+  ended = λ unsent sent. absurd (let none = moves_unsent moves unsent in cc);
 }
 is_settled below law moves (bad e mid other) =
     let p = closes_up below.next law (deafened mid) in
@@ -254,6 +272,7 @@ is_settled below law moves (bad e mid other) =
       said = λ some. p.said;
       wanted = p.closes.follows.wanted ∙ ap (λ (c : Closing). c.wanted) (moves_closing moves);
       still = λ free. absurd (never mid (closed_up (deafened mid)) p.closes.follows free);
+      ended = λ unsent sent. p.due (moves_unsent moves unsent) sent;
     }
 
 -- ---- one that reads no more does so for good

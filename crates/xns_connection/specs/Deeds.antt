@@ -1,5 +1,5 @@
 -- What is done at a connection, and what comes of it when what can move has moved.
-use Rattle.std.specs.Prelude.{◌≡◌, ◌≢◌, ℕ, List, [], ◌∷◌, ◌++◌, Bool, true, false, ◌||◌, if◌then◌else◌, length, nat_lt, Option, Some, None, Result, Ok, Err}
+use Rattle.std.specs.Prelude.{◌≡◌, ◌≢◌, ℕ, List, [], ◌∷◌, ◌++◌, Bool, true, false, not, ◌||◌, if◌then◌else◌, length, nat_lt, Option, Some, None, Result, Ok, Err, is_ok}
 use Rattle.courier_messages.specs.RawCalls.{RawCall}
 use Rattle.courier_messages.specs.declared.message.Message.{Message}
 use Rattle.courier_sessions.specs.Answering as answering
@@ -130,6 +130,10 @@ is_starved (Err Busy) = false
 is_starved (Err TooLong) = false
 is_starved (Err Attention) = false
 is_starved (Err (Fault f)) = false
+
+-- the side refused an item
+abbrev pub is_refused : Result (Unit {0}) FeedRefusal → Bool
+is_refused moved = not (is_ok moved || is_starved moved)
 
 -- memory that was refused is noted; where fewer items wait than before, the peer is owed a word
 abbrev pub owed_moved : Owed → (starved : Bool) → (before after : ℕ) → Owed

@@ -17,7 +17,7 @@ use Rattle.xns_connection.specs.Moving.{is_calm, scene}
 use Rattle.xns_connection.specs.Reasons.{answer_fault_of, call_fault_of}
 use Rattle.xns_connection.specs.Story.{Story, is_stopped, waiting_message}
 use Rattle.xns_connection.specs.Telling.{waits as waits_for}
-use Rattle.xns_connection.specs.Telling.{CalmFrom, Goes, HasSaidEnd, HasSaidReply, MovesAndGives, OwesRoom, ReadsAll, Rested}
+use Rattle.xns_connection.specs.Telling.{CalmFrom, EndsWhenDue, Goes, HasSaidEnd, HasSaidReply, MovesAndGives, OwesRoom, ReadsAll, Rested}
 use Rattle.xns_connection.specs.declared.connection.Connection.{Connection}
 use Rattle.xns_connection.specs.declared.conversation.Conversation.{Conversation}
 use Rattle.xns_connection.specs.declared.closing.TheConstants.Closing as closings
@@ -130,7 +130,9 @@ ClosesFrom old new deed = ClosesBy old.conversation deed new.conversation new.ow
 -- ---- what that means for what it has done, and for the peer
 
 -- whatever the connection had done goes on from where it is after that; no item can move, and nothing is to be said or read of closing, unless
--- memory was refused or the step closed it; and that is why it is closed, if it is
+-- memory was refused or the step closed it; and that is why it is closed, if it is. `closes` says of each step whether it drains then: so what
+-- `calm` says of a connection that does not drain is said of each that did not, unless its side refused an item, the step closed it, or End was
+-- put out at a side that is called, which is done only when it is due
 pub record Promises (now : ℕ) (deed : Deed) (old new : Connection) : Type 0 where
   pub story : GoesFrom old.conversation new.conversation (told_by deed old.conversation.side)
   pub wanted : new.conversation.closing.wanted ≡ wanted_by deed old.conversation.closing.wanted
@@ -140,6 +142,7 @@ pub record Promises (now : ℕ) (deed : Deed) (old new : Connection) : Type 0 wh
       → CalmFrom old.conversation new.conversation (told_by deed old.conversation.side)
   pub read : new.owed.moving ≡ false → new.closed ≡ old.closed → ReadsAll old.conversation new.conversation
   pub said : new.owed.moving ≡ false → HasSaidEnd new.conversation
+  pub ended : EndsWhenDue old.conversation new.conversation
   pub replied : HasReplied old new
   pub closes : ClosesFrom old new (told_by deed old.conversation.side)
   pub packets : new.conversation.packets ≡ old.conversation.packets
@@ -156,12 +159,15 @@ AMessageIsHandedAsByAStep = (now : ℕ) (old new : Connection) → waiting_messa
     → Promises now took old new
 
 -- asked for a packet the connection went on by itself and gave this one, or none: the first of those that waited and of those that were made
--- on the way. Where there is none, nothing is owed, and of a connection that is not dead no item is left that may go out for the first time
+-- on the way. Where there is none, nothing is owed. Of a connection that is not dead no packet waits then, and no item is left that may go out
+-- for the first time; of a dead one those packets wait that waited before
 pub record GivesOn (result : Result (Option (List ℕ)) AllocError) (old new : Connection) : Type 0 where
   pub goes : Goes old.conversation new.conversation
   pub gives : IfOk result (λ o. MovesAndGives old.conversation new.conversation o)
   pub given_none : OnErr result (MovesAndGives old.conversation new.conversation None)
   pub rested : is_dead new.closed ≡ false → result ≡ Ok None → Rested old.conversation new.conversation
+  pub emptied : is_dead new.closed ≡ false → result ≡ Ok None → new.conversation.packets.items ≡ []
+  pub kept : is_dead new.closed ≡ true → result ≡ Ok None → new.conversation.packets.items ≡ old.conversation.packets.items
   pub none : result ≡ Ok None
       → (new.owed.again ≡ false) × (new.owed.asks ≡ false) × (new.owed.word ≡ false) × (new.owed.fresh ≡ new.owed.moving)
 

@@ -1,5 +1,5 @@
 -- What a connection has done, with the closing exchange (XSIS 028112, Sequenced Packet Protocol, Termination).
-use Rattle.std.specs.Prelude.{◌≡◌, ◌≢◌, ◌<◌, ℕ, ◌-◌, List, [], ◌++◌, Bool, true, false, not, ◌&&◌, ◌||◌, ◌==◌, nat_lt, if◌then◌else◌, length, take, drop, Option, Some, None, Result, Ok, Err, is_ok}
+use Rattle.std.specs.Prelude.{◌≡◌, ◌<◌, ℕ, ◌-◌, List, [], ◌++◌, Bool, true, false, not, ◌&&◌, ◌||◌, ◌==◌, nat_lt, if◌then◌else◌, length, take, drop, Option, Some, None, is_ok}
 use Rattle.std.specs.Option.{option_to_list}
 use Rattle.courier_sessions.specs.Answering.{has_items}
 use Rattle.xns_agenda.specs.declared.progress.Progress.{Progress}
@@ -11,7 +11,6 @@ use Rattle.xns_spp.specs.Sending.{flush_answer, send_answer, waiting_count}
 use Rattle.xns_spp.specs.State.{State}
 use Rattle.xns_spp.specs.Telling.{out_count, told_answer, unacknowledged_count}
 use Rattle.courier_sessions.specs.declared.feed_refusal.FeedRefusal.{FeedRefusal}
-use Rattle.courier_sessions.specs.declared.feed_refusal.FeedRefusal.TheVariants.{NoMemory}
 use Rattle.xns_spp.specs.declared.item.Item.{Item}
 use Rattle.xns_connection.specs.Closing.{closing_item, closing_items, drains, end_reply_stream, end_stream, Knows}
 use Rattle.xns_connection.specs.Story.{Story, SideHas, GoesOn, made_on, out_of, owes_answer, IsMoved, IsListed, IsHeld}
@@ -19,6 +18,12 @@ use Rattle.xns_connection.specs.declared.closing.Closing.{Closing}
 use Rattle.xns_connection.specs.declared.conversation.Conversation.{Conversation}
 use Rattle.xns_connection.specs.declared.owed.Owed.{Owed}
 use Rattle.xns_connection.specs.declared.side.Side.{Side}
+
+-- the program wants an end, and the side has nothing out and owes no answer
+pub record HasLastWord (side : Side) (c : Closing) : Type 0 where
+  pub wanted : c.wanted ≡ true
+  pub answered : owes_answer side ≡ false
+  pub out : out_of side ≡ []
 
 -- End is to be put out, once: behind all that is out, and behind the answer that is owed
 abbrev pub owes_end : Conversation → Bool
@@ -28,6 +33,10 @@ owes_end t =
 -- End is put out where it is to be, unless there is no room
 abbrev pub HasSaidEnd : Conversation → Type 0
 HasSaidEnd t = owes_end t ≡ true → (s : State) → StandsFor t.endpoint s → is_ok (send_answer s (closing_item end_stream)) ≡ false
+
+-- where End was put out since, it was due
+abbrev pub EndsWhenDue : (old new : Conversation) → Type 0
+EndsWhenDue old new = old.closing.end_sent ≡ false → new.closing.end_sent ≡ true → HasLastWord new.side new.closing
 
 -- EndReply is to be put out
 abbrev pub owes_reply : Conversation → Bool
@@ -130,12 +139,3 @@ pub record CalmFrom (old new : Conversation) (base : Story → Story) : Type 0 w
 pub record GoesUntil (old : Conversation) (base : Story → Story) (e : FeedRefusal) : Type 0 where
   pub on : (h : Story) → Tells old h → (last : Conversation) × (m : Story) × Tells last m × GoesOn (base h) m
       × (drains last.side last.closing ≡ false) × IsHeld last.side m.state e
-
--- the side refused no item
-abbrev pub IsUnrefused : Result (Unit {0}) FeedRefusal → Type 0
-IsUnrefused moved = moved ≢ Ok tt → moved ≡ Err NoMemory
-
--- where the end puts nothing out of the closing exchange, what was read is read on
-abbrev pub ReadsOn : (old new : Conversation) → Type 0
-ReadsOn old new = (h : Story) → Tells old h → drains old.side old.closing ≡ false → closing_items new.closing ≡ []
-    → drains new.side new.closing ≡ false

@@ -81,7 +81,8 @@ pub fn two_programs_agree()
 }
 
 /// What a connection had done goes on by each step, as the program or the peer had it do: no item can move then, and nothing is to be said
-/// or read of closing, unless memory was refused or the step closed it.
+/// or read of closing, unless memory was refused or the step closed it. A connection reads on, unless its side refused an item, the step closed
+/// it, or End was put out, where it was due, at a side that is called.
 pub fn a_step_keeps_its_promises()
     ensures { AStepKeepsItsPromises }
 {
@@ -106,7 +107,7 @@ pub fn a_message_is_handed_as_by_a_step()
 }
 
 /// A connection that is asked for a packet goes on by itself, and gives the first of those that waited and of those that it made. Where it
-/// gives none, nothing is owed, and of a connection that is not dead no item is left that may go out for the first time.
+/// gives none, nothing is owed, and of a connection that is not dead no packet waits, and no item is left that may go out for the first time.
 pub fn a_connection_gives_what_it_made()
     ensures { AConnectionGivesWhatItMade }
 {
