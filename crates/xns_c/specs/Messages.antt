@@ -10,8 +10,8 @@ use Rattle.xns_c.specs.Heads.{head_given}
 use Rattle.xns_c.specs.Results.{ok, bad_argument}
 use Rattle.xns_c.specs.declared.message.XnsMessage.{XnsMessage}
 
--- the words of the message that the bytes are are written, for which memory is wanted where it has any, and what stands before them is told. Of
--- bytes that are no message nothing is, and their first fault is answered
+-- the head of the message is told, and its words are written, for which memory is wanted where there are any. Of bytes that are no message
+-- nothing is, and their first fault is answered
 pub record ReadsMessage (bytes : List ℕ) (before after : XnsMessage) (old new : List ℕ) (had told result : ℕ) : Type 0 where
   pub words : (m : Message) → message_of bytes ≡ Ok m
       → Writes (0 < length (words_in m)) (words_in m) (length (words_in m)) old new had told result
@@ -19,7 +19,7 @@ pub record ReadsMessage (bytes : List ℕ) (before after : XnsMessage) (old new 
   pub fault : (f : MessageFault) → message_of bytes ≡ Err f → (result ≡ message_fault_number f) × IsUnwritten old new had told
   pub headless : result ≢ ok → after ≡ before
 
--- the bytes of the message are written, up to as many as a message may have; where there is none of these parts nothing is
+-- the bytes of the message are written, up to as many as a message may have. Where there is no message nothing is written
 pub record WritesMessage (given : Option Message) (old new : List ℕ) (had told result : ℕ) : Type 0 where
   pub bad : given ≡ None → (result ≡ bad_argument) × IsUnwritten old new had told
   pub written : (m : Message) → given ≡ Some m

@@ -4,11 +4,11 @@ ghost use Rattle.std.specs.Prelude.{◌≡◌, ◌≢◌, ◌⊎◌, ◌<◌, �
 ghost use Rattle.xns_spp.specs.Ends.{most_pending};
 ghost use Rattle.xns_spp.specs.Held.{StandsFor};
 ghost use Rattle.xns_spp.specs.Packet.{most_body};
-ghost use Rattle.xns_spp.specs.Receiving.{after_receive, NeedsMemory};
-ghost use Rattle.xns_spp.specs.Sending.{send_answer, after_send, take_answer, after_take, flush_answer};
+ghost use Rattle.xns_spp.specs.Sending.{send_answer, after_send, flush_answer};
 ghost use Rattle.xns_spp.specs.Sending.{after_flush, tick_answer, after_tick};
 ghost use Rattle.xns_spp.specs.State.{State, initiator_state, responder_state};
-ghost use Rattle.xns_c.specs.Given.{IsPut, IsPutIfThere, NextIsTaken, TellsReceived};
+ghost use Rattle.xns_c.specs.Endpoints.{HandsUp, TakesPacket};
+ghost use Rattle.xns_c.specs.Given.{IsPut, IsPutIfThere};
 ghost use Rattle.xns_c.specs.Handle.{line_of};
 ghost use Rattle.xns_c.specs.Line.{Keeps, Makes, packets_of};
 ghost use Rattle.xns_c.specs.Results.{ok, nothing, no_memory, no_endpoint, short_buffer, bad_argument, too_long, send_number};
@@ -179,15 +179,7 @@ pub extern "C" fn xns_endpoint_take(
     item: &mut XnsItem,
     buffer: &mut [u8],
 ) -> u32
-    ensures taken { (s : State) → Keeps (line_of handle.old) s → most_body ≤ length buffer.old
-        → NextIsTaken (take_answer s) item.new buffer.old buffer.new result }
-    ensures stands { (s : State) → Keeps (line_of handle.old) s → most_body ≤ length buffer.old
-        → Keeps (line_of handle.new) (after_take s) }
-    ensures packets { packets_of (line_of handle.new) ≡ packets_of (line_of handle.old) }
-    ensures short { length buffer.old < most_body → (result ≡ short_buffer) × (item.new ≡ record item.old { length = most_body })
-        × (line_of handle.new ≡ line_of handle.old) }
-    ensures none { line_of handle.old ≡ None → most_body ≤ length buffer.old → (result ≡ no_endpoint) × (line_of handle.new ≡ None) }
-    ensures unchanged { result ≢ ok → (buffer.new ≡ buffer.old) × (result ≢ short_buffer → item.new ≡ item.old) }
+    ensures { HandsUp (line_of handle.old) (line_of handle.new) item.old item.new buffer.old buffer.new result }
 {
     if buffer.len() < MOST_BODY {
         item.length = MOST_BODY;
@@ -237,16 +229,7 @@ pub extern "C" fn xns_endpoint_receive(
     received: &mut XnsReceived,
     buffer: &mut [u8],
 ) -> u32
-    ensures stands { (s : State) → Keeps (line_of handle.old) s → result ≡ ok → Keeps (line_of handle.new) (after_receive s bytes.now) }
-    ensures told { (s : State) → Keeps (line_of handle.old) s → result ≡ ok
-        → TellsReceived s bytes.now received.new buffer.old buffer.new }
-    ensures memory { (s : State) → Keeps (line_of handle.old) s → 42 ≤ length buffer.old → result ≢ ok → (result ≡ no_memory)
-        × NeedsMemory s bytes.now }
-    ensures short { length buffer.old < 42 → (result ≡ short_buffer) × (received.new ≡ record received.old { reply = 42 }) }
-    ensures none { line_of handle.old ≡ None → 42 ≤ length buffer.old → result ≡ no_endpoint }
-    ensures unchanged { (packets_of (line_of handle.new) ≡ packets_of (line_of handle.old))
-        × (result ≢ ok → (line_of handle.new ≡ line_of handle.old) × (buffer.new ≡ buffer.old)
-        × (result ≢ short_buffer → received.new ≡ received.old)) }
+    ensures { TakesPacket (line_of handle.old) (line_of handle.new) bytes.now received.old received.new buffer.old buffer.new result }
 {
     if buffer.len() < REPLY {
         received.reply = REPLY;

@@ -3,10 +3,28 @@ use Rattle.xns_c.specs.Handle.{line_of}
 use Rattle.xns_c.proofs.Kept.{taken}
 use Rattle.xns_c.proofs.endpoint.xns_endpoint_receive.Goals as goal
 
-pub returns-in-Err-clause-memory : goal.returns-in-Err-clause-memory
-returns-in-Err-clause-memory c = λ s keeps _ _.
-    (refl, c.in-Err.ensures.memory s (taken (line_of c.args.handle.now) c.in-Some.connection.value c.deref_mut.result.now s c.in-Some.ensures.answer c.deref_mut.ensures.value keeps))
+pub returns-in-Err : goal.returns-in-Err
+returns-in-Err c = record {
+  stands = search rules;
+  told = search rules;
+  memory = λ s keeps _ _.
+      (refl, c.in-Err.ensures.memory s (taken (line_of c.args.handle.now) c.in-Some.connection.value c.deref_mut.result.now s c.in-Some.ensures.answer c.deref_mut.ensures.value keeps));
+  packets = search rules;
+  short = search rules;
+  none = search rules;
+  unchanged = search rules;
+  untold = search rules;
+}
 
-pub returns-in-Ok-clause-told : goal.returns-in-Ok-clause-told
-returns-in-Ok-clause-told c = λ s keeps _.
-    record { took = search rules; acknowledged = search rules steps 2000000; dropped = search rules; reply = search rules steps 2000000 }
+pub returns-in-Ok : goal.returns-in-Ok
+returns-in-Ok c = record {
+  stands = search rules steps 2000000;
+  told = λ s keeps _.
+      record { took = search rules; acknowledged = search rules steps 2000000; dropped = search rules; reply = search rules steps 2000000 };
+  memory = search rules;
+  packets = search rules;
+  short = search rules;
+  none = search rules;
+  unchanged = search rules;
+  untold = search rules;
+}
