@@ -121,7 +121,7 @@ class Namer:
 
 
 def name_lines(files):
-    programs = ref.read_programs(files, sys.stderr)
+    programs = ref.read_files(files, sys.stderr)
     if programs is None:
         return 2
     namer = Namer(programs)

@@ -715,7 +715,7 @@ def listed(program):
     return "\n".join(lines)
 
 
-def read_programs(files, said, read=lambda program: None):
+def read_files(files, said, read=lambda program: None):
     """The programs of the files, each of which knows those before it. None where one is refused: `said` is told where."""
     programs = []
     for file in files:
@@ -730,14 +730,14 @@ def read_programs(files, said, read=lambda program: None):
 
 
 def list_programs(files):
-    programs = read_programs(files, sys.stderr, lambda program: print(listed(program)))
+    programs = read_files(files, sys.stderr, lambda program: print(listed(program)))
     return 2 if programs is None else 0
 
 
 def main(files):
     if files[0] == "--list":
         return list_programs(files[1:])
-    programs = read_programs(files, sys.stdout)
+    programs = read_files(files, sys.stdout)
     if programs is None:
         return 2
     for line in sys.stdin:
