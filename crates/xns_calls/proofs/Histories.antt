@@ -85,7 +85,7 @@ at_comes n i flow a k c packets there w d at =
     let same : new ≡ d = (cc) in
     subst (Comes (packets ++ packet ∷ [])) same (comes_on packets packet c (record { known = k; is = refl }) w)
 
--- it may begin the connection anew
+-- the packets of a connection go on, also where a packet begins the connection anew
 there_comes : (n : Origin) (i : ℕ) (flow : Flow) (a : Arrival) (k : Known) (packets : List Handled) → ComesAt i packets k
     → ComesAt i (packets_there i n flow a (slice_get k.connections i) k packets) (after_at n i flow a.0 a.1 a.2 (renewed n i flow a.1 k))
 unfolding renewed after_at

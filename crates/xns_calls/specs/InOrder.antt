@@ -24,8 +24,8 @@ pub record CanBeRead (track : Track) (behind : Option Track) (given : ℕ) (earl
   pub next : early.number ≤ track.next
   pub free : IsFree behind given early.item.acknowledged
 
--- an item is read only where it can be: of a flow, or of the one behind it; of two that can be, the one that was captured first is read first;
--- what is still kept then can't be read, of neither flow; and at the end of the input nothing is still kept
+-- an item has its turn only where it can be read: of a flow, or of the one behind it; of two that can be, the one that was captured first has
+-- it; what is still kept then can't be read, of neither flow; and at the end of the input nothing is still kept
 pub record KeptItemsAreReadInTurn : Type 0 where
   pub can : (given : Given) (own other : Option Track) → next_turn given own other ≡ Some false
       → (track : Track) × (own ≡ Some track) × (early : Early) × CanBeRead track other given.other early

@@ -113,8 +113,7 @@ RepeatsAreToldOnce = (is_repeat : Bool) (before : List Bool)
     → (is_repeat && tells_next (repeats_of before)) ≡ (has_row (is_repeat ∷ before) && not (has_row before))
 
 -- no item is passed over but before one that is captured: the next item is never more than one behind the last that is, and where no item
--- behind the
--- next one is captured, an event says what it says without the line of missing items
+-- behind the next one is captured, an event says what it says without the line of missing items
 pub record MissingItemsAreBeforeCapturedOnes : Type 0 where
   pub next : (events : List Event) (t : Told) (most : ℕ) → t.track.early ≡ [] → t.track.next ≤ most + 1
       → ((n : ℕ) → IsAmong n (captured_in events []) → n ≤ most)

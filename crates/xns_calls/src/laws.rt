@@ -56,9 +56,11 @@ pub fn acknowledgements_wait()
     ensures { AcknowledgementsWait }
 {}
 
-/// An item that is kept is read only where it comes next, and where the items of the other flow that its packet acknowledges were read or
-/// are waited for no longer. That holds of both flows of a connection. Of two that can be read, one of each flow, the one that was captured
-/// first is read first. What is still kept behind a packet can't be read, of neither flow, and nothing is still kept behind the end of the input.
+/// An item that is kept has its turn only where it comes next, and where the items of the other flow that its packet acknowledges were read or
+/// are waited for no longer. That holds of both flows of a connection. Of two that can have their turn, one of each flow, the one that was
+/// captured first has it. What is still kept behind a packet can't have its turn, of neither flow, and nothing is still kept behind the end of
+/// the input. Items are read without a turn where a gap is given up: for an item that lies too far past it, for an acknowledgement that takes
+/// effect, and at the end of the input.
 pub fn kept_items_are_read_in_turn()
     ensures { KeptItemsAreReadInTurn }
 {}
