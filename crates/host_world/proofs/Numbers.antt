@@ -95,7 +95,7 @@ one_changed said old new number unsaid others here k = by (same_or_other k numbe
       subst (λ (xs : List Happening). LeadsAt xs (slice_get old k) (slice_get new k)) (sym (unsaid k other))
       (subst (LeadsAt [] (slice_get old k)) (sym (others k other)) (still_there (slice_get old k)))
 
--- this was said at the number of that place
+-- what was said at one number leads on from its place, where each other place is as it was
 pub one_said : (number : ℕ) (x : Happening) (old new : List (Option Guest)) → ((k : ℕ) → k ≢ number → slice_get new k ≡ slice_get old k)
     → LeadsAt (x ∷ []) (slice_get old number) (slice_get new number) → Leads (said_at number x) old new
 one_said number x old new others here =

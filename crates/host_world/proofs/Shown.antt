@@ -42,7 +42,7 @@ ShowsIn (held d) None = ⊥
 ShowsIn (held d) (Some None) = ⊥
 ShowsIn (held d) (Some (Some g)) = Shows d g
 
--- these steps lead from this view to one that the place shows
+-- happenings lead from this view to one that the place shows
 pub record Passes (events : List Happening) (v : View) (place : Option (Option Guest)) : Type 0 where
   pub view : View
   pub shows : ShowsIn view place

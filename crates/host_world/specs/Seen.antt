@@ -43,7 +43,7 @@ news_of (events.Call number tag program version procedure m) = hands m
 news_of (events.Answer number tag answer m) = hands m
 news_of (events.Closed number tag why) = tells why
 
--- this is said at this number, and at the others nothing
+-- what is said at each number, where this is said at one alone
 abbrev pub said_at : (number : ℕ) → Happening → (k : ℕ) → List Happening
 said_at number x k = if k == number then x ∷ [] else []
 
@@ -100,7 +100,7 @@ between said (Some g) None = said ++ leaving said
 between said (Some g) (Some h) =
     if id_of h == id_of g then said ++ closed_since g.connection.closed h.connection.closed else goes ∷ (said ++ arriving h)
 
--- the same, by the place with the number
+-- what happened at a number by one function, read off the place that has the number
 abbrev pub happens : (said : List Happening) → (old new : Option (Option Guest)) → List Happening
 happens said old new = between said (guest_in old) (guest_in new)
 
