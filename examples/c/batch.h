@@ -4,6 +4,7 @@
 
 #include "link.h"
 #include <sys/socket.h>
+#include <sys/time.h>
 
 enum { BATCH_MOST = 64, BATCH_ROOM = 2048 };
 
@@ -30,19 +31,32 @@ static inline void batch_set(struct batch *batch, unsigned k, size_t length, siz
     head->msg_namelen = (socklen_t)place;
 }
 
-/* Takes in the packets that are there: `messages[k].msg_len` bytes of each stand in `bytes[k]`. How many. */
-static inline unsigned batch_receive(int file) {
+/* Lets batch_receive wait for a packet: LINK_SHORT_WAIT at most, which the socket keeps. */
+static inline void batch_let_wait(struct link *link) {
+    const struct timeval most = { 0, LINK_SHORT_WAIT * 1000 };
+    link->can_wait = setsockopt(link->file, SOL_SOCKET, SO_RCVTIMEO, &most, sizeof most) == 0;
+}
+
+/* Takes in the packets that are there, once one is where the link is to wait: `messages[k].msg_len` bytes of each stand in `bytes[k]`. How many. */
+static inline unsigned batch_receive(struct link *link) {
     static unsigned used = BATCH_MOST; /* by the packets before: only these messages are to be made ready again */
     int count;
     for (unsigned k = 0; k < used; k++) batch_set(&batch_in, k, BATCH_ROOM, sizeof batch_in.places[k]);
-    count = recvmmsg(file, batch_in.messages, BATCH_MOST, MSG_DONTWAIT, NULL);
+    count = recvmmsg(link->file, batch_in.messages, BATCH_MOST, link->waits ? MSG_WAITFORONE : MSG_DONTWAIT, NULL);
     used = count < 0 ? 0 : (unsigned)count;
+    link->is_busy = link->can_wait && used > 0;
+    link->waits = false;
     return used;
 }
 
-/* Sends what was put. One that can't be sent is as one that is lost. */
+/* Sends what was put: one packet alone takes less by itself. One that can't be sent is as one that is lost. */
 static inline void batch_flush(struct link *link) {
-    for (unsigned first = 0; first < batch_out.count;) {
+    unsigned first = 0;
+    if (batch_out.count == 1) {
+        (void)!sendmsg(link->file, &batch_out.messages[0].msg_hdr, MSG_DONTWAIT);
+        first = 1;
+    }
+    while (first < batch_out.count) {
         const int sent = sendmmsg(link->file, batch_out.messages + first, batch_out.count - first, MSG_DONTWAIT);
         first += sent > 0 ? (unsigned)sent : 1;
     }

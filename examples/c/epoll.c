@@ -48,10 +48,9 @@ static int wait_for(const int *files, int count) {
 
 static void turn(struct link *link) {
     static uint16_t words[XNS_MOST_MESSAGE_WORDS];
-    const uint64_t now = milliseconds();
+    const uint64_t now = link_receive_packets(link, &host);
     struct xns_event event;
     size_t length;
-    link_receive_packets(link, &host, now);
     while (xns_host_next_event(&host, &event, words, XNS_MOST_MESSAGE_WORDS, &length) == XNS_OK)
         if (event.kind == XNS_EVENT_CALL) check(xns_host_answer(&host, now, event.number, XNS_KIND_RETURN, 0, words, length));
     link_send_packets(link, &host, now);

@@ -25,7 +25,7 @@ static inline struct sockaddr_ll ethernet_place(uint64_t via) {
 /* Packets to this station or to all; frames to others, which come where an interface is promiscuous, and those that this machine sends are passed over.
  * Where an interface is down there is none. */
 static inline void ethernet_receive(struct link *link, link_taker *take, void *given) {
-    const unsigned count = batch_receive(link->file);
+    const unsigned count = batch_receive(link);
     for (unsigned k = 0; k < count; k++) {
         const struct sockaddr_ll *from = (const struct sockaddr_ll *)&batch_in.places[k];
         if (from->sll_pkttype != PACKET_HOST && from->sll_pkttype != PACKET_BROADCAST) continue;
@@ -59,6 +59,7 @@ static inline void ethernet_open(struct link *link, const char *interface) {
     link->receive = ethernet_receive;
     link->put = ethernet_put;
     link->flush = batch_flush;
+    batch_let_wait(link);
     link->via = (uint32_t)place.sll_ifindex;
     link->socket = random_socket();
 }

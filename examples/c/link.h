@@ -11,7 +11,7 @@
 #include <string.h>
 #include <time.h>
 
-enum { LINK_MOST_WAIT = 1000, LINK_LEAST_SOCKET = 3001, LINK_SOCKETS = 60000 };
+enum { LINK_MOST_WAIT = 1000, LINK_SHORT_WAIT = 20, LINK_LEAST_SOCKET = 3001, LINK_SOCKETS = 60000 };
 
 /* Is given a packet that came. */
 typedef void link_taker(void *given, uint64_t via, const uint8_t *bytes, size_t length);
@@ -24,6 +24,9 @@ struct link {
     uint8_t station[6];                                                /* its own host */
     uint64_t via;                                                      /* for packets to its peers, where it is one for all */
     uint16_t socket;                                                   /* a socket of its host that hardly another program has */
+    bool can_wait;                                                     /* whether its `receive` can wait for a packet, LINK_SHORT_WAIT at most */
+    bool is_busy;                                                      /* whether packets came the last time; kept by links that can wait */
+    bool waits;                                                        /* whether the next `receive` is to wait */
 };
 
 static inline uint64_t milliseconds(void) {
@@ -65,38 +68,31 @@ static inline void link_new_host(const struct link *link, struct xns_host *host,
     check(xns_host_new(host, &here, settings, secret));
 }
 
-/* Waits for a packet, but not beyond this time, and a second at most: so a signal that comes just before is seen. */
+/* Waits for a packet, but not beyond this time, and a second at most: so a signal that comes just before is seen. Where packets came the last time, the next
+ * comes soon: the link's `receive` then waits for it, which takes a system call less. */
 static inline void link_wait(struct link *link, uint64_t until) {
     const uint64_t now = milliseconds();
     const uint64_t wait = until <= now ? 0 : until - now;
     struct pollfd one = { link->file, POLLIN, 0 };
-    (void)poll(&one, 1, wait < LINK_MOST_WAIT ? (int)wait : LINK_MOST_WAIT);
+    link->waits = link->is_busy && wait >= LINK_SHORT_WAIT;
+    if (!link->waits) (void)poll(&one, 1, wait < LINK_MOST_WAIT ? (int)wait : LINK_MOST_WAIT);
 }
 
-/* A host, and the time. */
-struct link_host {
-    struct xns_host *host;
-    uint64_t now;
-};
-
-static inline void link_give(void *given, uint64_t via, const uint8_t *bytes, size_t length) {
-    const struct link_host *to = given;
-    xns_host_receive(to->host, to->now, via, bytes, length);
+/* Gives a host a packet that has just come. */
+static inline void link_give(void *host, uint64_t via, const uint8_t *bytes, size_t length) {
+    xns_host_receive(host, milliseconds(), via, bytes, length);
 }
 
-/* Gives the host the packets that are there. */
-static inline void link_receive_packets(struct link *link, struct xns_host *host, uint64_t now) {
-    struct link_host to = { host, now };
-    link->receive(link, link_give, &to);
+/* Gives the host the packets that are there. The time behind them. */
+static inline uint64_t link_receive_packets(struct link *link, struct xns_host *host) {
+    link->receive(link, link_give, host);
+    return milliseconds();
 }
 
 /* Waits until the host has something to do or a packet comes, and gives it the packets that are there. The time. */
 static inline uint64_t link_hear(struct link *link, struct xns_host *host) {
-    uint64_t now;
     link_wait(link, xns_host_wake(host));
-    now = milliseconds();
-    link_receive_packets(link, host, now);
-    return now;
+    return link_receive_packets(link, host);
 }
 
 /* Sends the packets that the host has made. */

@@ -25,7 +25,7 @@ static inline uint64_t udp_here(uint32_t port) {
 }
 
 static inline void udp_receive(struct link *link, link_taker *take, void *given) {
-    const unsigned count = batch_receive(link->file);
+    const unsigned count = batch_receive(link);
     for (unsigned k = 0; k < count; k++) {
         take(given, udp_via((const struct sockaddr_in *)&batch_in.places[k]), batch_in.bytes[k], batch_in.messages[k].msg_len);
     }
@@ -48,6 +48,7 @@ static inline void udp_open(struct link *link, uint32_t port) {
     link->receive = udp_receive;
     link->put = udp_put;
     link->flush = batch_flush;
+    batch_let_wait(link);
     link->socket = ntohs(place.sin_port);
 }
 
