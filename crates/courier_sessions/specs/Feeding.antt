@@ -1,5 +1,5 @@
 -- What is told of an item that is fed to a side of a conversation.
-use Rattle.std.specs.Prelude.{ℕ, ◌+◌, ◌<◌, ◌≡◌, length, Result, Ok, Err, IsOk}
+use Rattle.std.specs.Prelude.{ℕ, ◌+◌, ◌<◌, ◌≡◌, length, Bool, if◌then◌else◌, nat_lt, Result, Ok, Err, IsOk}
 use Rattle.xns_spp.specs.declared.item.Item.{Item}
 use Rattle.courier_messages.specs.Refusal.{Stops}
 use Rattle.courier_messages.specs.Message.{most_bytes}
@@ -8,7 +8,7 @@ use Rattle.courier_messages.specs.declared.fault.SessionFault.TheVariants as fau
 use Rattle.courier_messages.specs.declared.fault.SessionFault.TheVariants.{NoCommonVersion, BadVersions, BadMessage, WrongTransaction}
 use Rattle.courier_messages.specs.declared.fault.SessionFault.TheVariants.{BadReply, Stream, Failed}
 use Rattle.courier_sessions.specs.declared.feed_refusal.FeedRefusal.{FeedRefusal}
-use Rattle.courier_sessions.specs.declared.feed_refusal.FeedRefusal.TheVariants.{Fault, NoMemory}
+use Rattle.courier_sessions.specs.declared.feed_refusal.FeedRefusal.TheVariants.{Stopped, Busy, TooLong, Attention, Fault, NoMemory}
 
 -- how many bytes an item may have at most: those of the versions and of the longest message
 abbrev pub most_item : ℕ
@@ -18,6 +18,15 @@ most_item = 4 + most_bytes
 abbrev pub heard : {S : Type 0} → Result S SessionFault → Result S FeedRefusal
 heard (Ok t) = Ok t
 heard (Err e) = Err (Fault e)
+
+-- a side once an item is taken in that leads to `after`, or the first reason why the item is refused, in this order
+abbrev pub fed_unless : {S : Type 0} → Bool → Bool → Item → Result S SessionFault → Result S FeedRefusal
+fed_unless stopped busy x after =
+    if stopped then Err Stopped
+    else if busy then Err Busy
+    else if x.attention then Err Attention
+    else if nat_lt most_item (length x.body) then Err TooLong
+    else heard after
 
 -- what is returned for an item that was looked at
 abbrev pub told : Result (Unit {0}) SessionFault → Result (Unit {0}) FeedRefusal

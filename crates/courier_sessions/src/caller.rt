@@ -1,21 +1,18 @@
 //! The side of a Courier conversation that calls. It reads no shapes: a call goes out with its words, and its answer comes as a message.
 
-ghost use Rattle.std.specs.Prelude.{◌≡◌, ◌<◌, ℕ, List, length, false, OnErr, IfOk, IsOk, Some, None, Ok, Err, option_copied};
+ghost use Rattle.std.specs.Prelude.{◌≡◌, ℕ, List, length, refl, false, OnErr, IfOk, Some, None, Ok, Err, option_copied};
 ghost use Rattle.courier_messages.specs.declared.fault.SessionFault.TheVariants.{NoMemory};
 ghost use Rattle.courier_messages.specs.RawCalls.{words_call};
 ghost use Rattle.courier_messages.specs.Head.{with_words};
-ghost use Rattle.courier_messages.specs.Refusal.{Follows, MakeSecondPiece};
-ghost use Rattle.courier_messages.specs.Text.{item_of};
-ghost use Rattle.courier_sessions.specs.Feeding.{Judges};
 ghost use Rattle.courier_sessions.specs.declared.call_refusal.CallRefusal.TheVariants as refusals;
-ghost use Rattle.courier_sessions.specs.Pumping.{caller_side, IsFed};
+ghost use Rattle.courier_sessions.specs.Pumping.{caller_side};
 ghost use Rattle.courier_sessions.specs.Talk.{Talk, new_talk, called, call_refusal, CallAnswers, reply_fault, after_item};
 
 use crate::call_refusal::CallRefusal;
-use crate::feed_refusal::FeedRefusal;
+use crate::hearer::Hearer;
 use crate::intake::Intake;
-use crate::outgoing::{MOST_ITEM, copied_item, put_message};
-use crate::side::{WordSide, told};
+use crate::outgoing::put_message;
+use crate::side::WordSide;
 use courier_messages::{Head, MOST_BYTES, PiecedMessage, SessionFault, versions};
 use std::alloc::{AllocError, Global};
 use std::collections::VecDeque;
@@ -162,12 +159,40 @@ impl WordCaller {
         self.waiting = true;
         Ok(())
     }
+}
 
-    /// What is wrong with an item of these parts, if anything is. The item is not taken in.
+impl Hearer for WordCaller {
+    ghost side = { caller_side };
+
+    ghost after = { after_item };
+
+    ghost phase = { λ s. s.phase };
+
+    ghost stopped = { λ s. s.failed };
+
+    ghost busy = { λ s. false };
+
     #[inline(always)]
-    fn judge(&self, stream: u8, last: bool, body: &[u8]) -> Result<(), SessionFault>
-        ensures { Judges result (after_item self.now (item_of stream last body.now)) }
-    {
+    fn is_stopped(&self) -> bool {
+        self.failed
+    }
+
+    #[inline(always)]
+    fn is_busy(&self) -> bool {
+        false
+    }
+
+    #[inline(always)]
+    fn is_empty(&self) -> bool {
+        self.incoming.is_empty()
+    }
+
+    fn stop(&mut self) {
+        self.failed = true;
+    }
+
+    #[inline(always)]
+    fn judge(&self, stream: u8, last: bool, body: &[u8]) -> Result<(), SessionFault> {
         let Some(head) = self.incoming.look(stream, last, body)? else {
             return Ok(());
         };
@@ -177,14 +202,8 @@ impl WordCaller {
         }
     }
 
-    /// Takes in one more item, and keeps the answer that it ends.
     #[inline(always)]
-    fn take_item(&mut self, alloc: Global, item: Item) -> Result<(), SessionFault>
-        ensures hears { Follows result (after_item self.old item) self.new }
-        ensures memory { result ≡ Err NoMemory → (self.new ≡ self.old) × (0 < length item.body) }
-        ensures kept { result ≡ Err NoMemory → MakeSecondPiece self.old.phase item.body }
-        ensures out { self.new.out ≡ self.old.out }
-    {
+    fn take_item(&mut self, alloc: Global, item: Item) -> Result<(), SessionFault> {
         let Some(message) = self.incoming.take(alloc, item)? else {
             return Ok(());
         };
@@ -196,83 +215,16 @@ impl WordCaller {
         Ok(())
     }
 
-    /// Takes in an item of these parts, whose bytes are copied once nothing is wrong with them.
-    fn hear(
-        &mut self,
-        alloc: Global,
-        stream: u8,
-        last: bool,
-        body: &[u8],
-    ) -> Result<(), SessionFault>
-        ensures hears { Follows result (after_item self.old (item_of stream last body.now)) self.new }
-        ensures same { OnErr result (self.new ≡ self.old) }
-        ensures memory { result ≡ Err NoMemory → IsOk (after_item self.old (item_of stream last body.now)) × (0 < length body.now) }
-    {
-        self.judge(stream, last, body)?;
-        let item = copied_item(alloc, stream, last, body)?;
-        self.take_item(alloc, item)
-    }
+    ghost fed = { λ s x. refl };
 
-    /// Takes in one more item of these parts of the peer's, whose bytes are copied, and keeps the answer that it ends.
-    pub fn feed_parts(
-        &mut self,
-        alloc: Global,
-        stream: u8,
-        attention: bool,
-        last: bool,
-        body: &[u8],
-    ) -> Result<(), FeedRefusal>
-        ensures { IsFed caller_side self.old (record {
-          stream = stream;
-          attention = attention;
-          last = last;
-          body = body.now;
-        }) result self.new }
-    {
-        if self.failed {
-            return Err(FeedRefusal::Stopped);
-        }
-        if attention {
-            self.failed = true;
-            return Err(FeedRefusal::Attention);
-        }
-        if body.len() > MOST_ITEM {
-            return Err(FeedRefusal::TooLong);
-        }
-        told(self.hear(alloc, stream, last, body), &mut self.failed)
-    }
+    ghost grows = { λ s x may. may };
+
+    ghost uncopied = { λ s x right empty. (right, empty) };
+
+    ghost right = { λ s x uncopied. uncopied };
 }
 
 impl WordSide for WordCaller {
-    ghost side = { caller_side };
-
-    fn feed(&mut self, alloc: Global, item: &Item) -> Result<(), FeedRefusal> {
-        self.feed_parts(
-            alloc,
-            item.stream,
-            item.attention,
-            item.last,
-            item.body.as_slice(),
-        )
-    }
-
-    #[inline(always)]
-    fn needs_no_copy(&self, item: &Item) -> bool {
-        if !self.incoming.is_empty() || self.failed {
-            return false;
-        }
-        if item.attention || item.body.as_slice().len() > MOST_ITEM {
-            return false;
-        }
-        self.judge(item.stream, item.last, item.body.as_slice())
-            .is_ok()
-    }
-
-    #[inline(always)]
-    fn feed_uncopied(&mut self, alloc: Global, item: Item) {
-        let _ = self.take_item(alloc, item);
-    }
-
     fn first_out(&self) -> Option<&Item> {
         self.out.front()
     }

@@ -10,6 +10,7 @@ mod call_refusal;
 mod caller;
 mod feed_refusal;
 mod heads;
+mod hearer;
 mod intake;
 pub mod laws;
 mod outgoing;

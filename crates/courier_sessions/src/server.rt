@@ -1,30 +1,26 @@
 //! The side of a Courier conversation that is called. It reads no shapes: a call is handed as a message, and its answer goes out with its
 //! words.
 
-ghost use Rattle.std.specs.Prelude.{◌≡◌, ◌≢◌, ◌<◌, ◌++◌, ℕ, length, true, false, OnErr, IfOk, IsOk, Some, None, Ok, Err, option_map};
+ghost use Rattle.std.specs.Prelude.{◌≡◌, ◌≢◌, ◌++◌, ℕ, refl, true, false, OnErr, IfOk, Some, None, Ok, Err, option_map};
 ghost use Rattle.std.specs.Prelude.{option_copied};
 ghost use Rattle.std.specs.Option.{is_some};
-ghost use Rattle.courier_messages.specs.declared.fault.SessionFault.TheVariants.{NoMemory};
 ghost use Rattle.courier_messages.specs.declared.message.Message.{Message};
 ghost use Rattle.courier_messages.specs.Cutting.{cut};
 ghost use Rattle.courier_messages.specs.Head.{with_words};
-ghost use Rattle.courier_messages.specs.Refusal.{Follows, MakeSecondPiece};
-ghost use Rattle.courier_messages.specs.Text.{item_of};
-ghost use Rattle.courier_sessions.specs.Feeding.{Judges};
 ghost use Rattle.courier_sessions.specs.Answering.{Answering, new_answering, is_busy, after_item, transaction_in};
 ghost use Rattle.courier_sessions.specs.Answering.{after_call, why_unlisted, reject_message, after_reject, answer_message, answers_to};
 ghost use Rattle.courier_sessions.specs.Answering.{answer_refusal, AnswerAnswers, answered};
-ghost use Rattle.courier_sessions.specs.Pumping.{server_side, IsFed};
+ghost use Rattle.courier_sessions.specs.Pumping.{server_side};
 ghost use Rattle.courier_sessions.specs.declared.unlisted.Unlisted.{Unlisted};
 
 use crate::answer::Answer;
 use crate::answer_refusal::AnswerRefusal;
-use crate::feed_refusal::FeedRefusal;
 use crate::heads::{answer_head, is_call, is_reject, is_too_long, transaction_of};
+use crate::hearer::Hearer;
 use crate::intake::Intake;
-use crate::outgoing::{MOST_ITEM, copied_item, put_message};
+use crate::outgoing::put_message;
 use crate::program::Program;
-use crate::side::{WordSide, told};
+use crate::side::WordSide;
 use crate::unlisted::{Unlisted, refusal, reject_words};
 use courier_messages::{Head, PiecedMessage, SessionFault, put_out, versions};
 use std::alloc::{AllocError, Global};
@@ -79,88 +75,6 @@ impl WordServer {
         ensures { result ≡ is_busy self.now }
     {
         self.call.is_some() || self.asked.is_some() || !self.out.is_empty()
-    }
-
-    /// What is wrong with an item of these parts, if anything is. The item is not taken in.
-    #[inline(always)]
-    fn judge(&self, stream: u8, last: bool, body: &[u8]) -> Result<(), SessionFault>
-        ensures { Judges result (after_item self.now (item_of stream last body.now)) }
-    {
-        let Some(head) = self.incoming.look(stream, last, body)? else {
-            return Ok(());
-        };
-        if is_call(head) {
-            Ok(())
-        } else {
-            Err(SessionFault::BadReply)
-        }
-    }
-
-    /// Takes in one more item, and keeps the call that it ends.
-    #[inline(always)]
-    fn take_item(&mut self, alloc: Global, item: Item) -> Result<(), SessionFault>
-        ensures hears { Follows result (after_item self.old item) self.new }
-        ensures memory { result ≡ Err NoMemory → (self.new ≡ self.old) × (0 < length item.body) }
-        ensures kept { result ≡ Err NoMemory → MakeSecondPiece self.old.phase item.body }
-        ensures out { self.new.out ≡ self.old.out }
-    {
-        let Some(message) = self.incoming.take(alloc, item)? else {
-            return Ok(());
-        };
-        if !is_call(message.head()) {
-            return Err(SessionFault::BadReply);
-        }
-        self.call = Some(message);
-        Ok(())
-    }
-
-    /// Takes in an item of these parts, whose bytes are copied once nothing is wrong with them.
-    fn hear(
-        &mut self,
-        alloc: Global,
-        stream: u8,
-        last: bool,
-        body: &[u8],
-    ) -> Result<(), SessionFault>
-        ensures hears { Follows result (after_item self.old (item_of stream last body.now)) self.new }
-        ensures same { OnErr result (self.new ≡ self.old) }
-        ensures memory { result ≡ Err NoMemory → IsOk (after_item self.old (item_of stream last body.now)) × (0 < length body.now) }
-    {
-        self.judge(stream, last, body)?;
-        let item = copied_item(alloc, stream, last, body)?;
-        self.take_item(alloc, item)
-    }
-
-    /// Takes in one more item of these parts of the peer's, whose bytes are copied, and keeps the call that it ends.
-    pub fn feed_parts(
-        &mut self,
-        alloc: Global,
-        stream: u8,
-        attention: bool,
-        last: bool,
-        body: &[u8],
-    ) -> Result<(), FeedRefusal>
-        ensures { IsFed server_side self.old (record {
-          stream = stream;
-          attention = attention;
-          last = last;
-          body = body.now;
-        }) result self.new }
-    {
-        if self.failed {
-            return Err(FeedRefusal::Stopped);
-        }
-        if self.is_busy() {
-            return Err(FeedRefusal::Busy);
-        }
-        if attention {
-            self.failed = true;
-            return Err(FeedRefusal::Attention);
-        }
-        if body.len() > MOST_ITEM {
-            return Err(FeedRefusal::TooLong);
-        }
-        told(self.hear(alloc, stream, last, body), &mut self.failed)
     }
 
     /// Whether the conversation has stopped.
@@ -342,36 +256,70 @@ impl WordServer {
     }
 }
 
-impl WordSide for WordServer {
+impl Hearer for WordServer {
     ghost side = { server_side };
 
-    fn feed(&mut self, alloc: Global, item: &Item) -> Result<(), FeedRefusal> {
-        self.feed_parts(
-            alloc,
-            item.stream,
-            item.attention,
-            item.last,
-            item.body.as_slice(),
-        )
+    ghost after = { after_item };
+
+    ghost phase = { λ s. s.phase };
+
+    ghost stopped = { λ s. s.failed };
+
+    ghost busy = { is_busy };
+
+    #[inline(always)]
+    fn is_stopped(&self) -> bool {
+        self.failed
     }
 
     #[inline(always)]
-    fn needs_no_copy(&self, item: &Item) -> bool {
-        if !self.incoming.is_empty() || self.failed || self.is_busy() {
-            return false;
-        }
-        if item.attention || item.body.as_slice().len() > MOST_ITEM {
-            return false;
-        }
-        self.judge(item.stream, item.last, item.body.as_slice())
-            .is_ok()
+    fn is_busy(&self) -> bool {
+        WordServer::is_busy(self)
     }
 
     #[inline(always)]
-    fn feed_uncopied(&mut self, alloc: Global, item: Item) {
-        let _ = self.take_item(alloc, item);
+    fn is_empty(&self) -> bool {
+        self.incoming.is_empty()
     }
 
+    fn stop(&mut self) {
+        self.failed = true;
+    }
+
+    #[inline(always)]
+    fn judge(&self, stream: u8, last: bool, body: &[u8]) -> Result<(), SessionFault> {
+        let Some(head) = self.incoming.look(stream, last, body)? else {
+            return Ok(());
+        };
+        if is_call(head) {
+            Ok(())
+        } else {
+            Err(SessionFault::BadReply)
+        }
+    }
+
+    #[inline(always)]
+    fn take_item(&mut self, alloc: Global, item: Item) -> Result<(), SessionFault> {
+        let Some(message) = self.incoming.take(alloc, item)? else {
+            return Ok(());
+        };
+        if !is_call(message.head()) {
+            return Err(SessionFault::BadReply);
+        }
+        self.call = Some(message);
+        Ok(())
+    }
+
+    ghost fed = { λ s x. refl };
+
+    ghost grows = { λ s x may. may };
+
+    ghost uncopied = { λ s x right empty. (right, empty) };
+
+    ghost right = { λ s x uncopied. uncopied };
+}
+
+impl WordSide for WordServer {
     fn first_out(&self) -> Option<&Item> {
         self.out.front()
     }

@@ -4,7 +4,7 @@ use Rattle.courier_messages.specs.declared.message.Message.{Message}
 use Rattle.courier_messages.specs.Head.{words_in}
 use Rattle.courier_sessions.specs.Answering.{is_a_call}
 use Rattle.courier_sessions.proofs.Hearing.{silent, asked, no_call, stopped}
-use Rattle.courier_sessions.proofs.server.WordServer.take_item.Goals as goal
+use Rattle.courier_sessions.proofs.server.WordServerHearer.take_item.Goals as goal
 
 pub returns-in_err-message-clause-hears : goal.returns-in_err-message-clause-hears
 returns-in_err-message-clause-hears c =

@@ -6,7 +6,7 @@ use Rattle.courier_messages.specs.Text.{item_of}
 use Rattle.courier_sessions.specs.Answering.{after_item}
 use Rattle.courier_sessions.specs.Feeding.{Judges}
 use Rattle.courier_sessions.proofs.Judging.{fault_first, no_call_yet, one_call, another_message}
-use Rattle.courier_sessions.proofs.server.WordServer.judge.Goals as goal
+use Rattle.courier_sessions.proofs.server.WordServerHearer.judge.Goals as goal
 
 pub returns-in_err-head : goal.returns-in_err-head
 returns-in_err-head c =

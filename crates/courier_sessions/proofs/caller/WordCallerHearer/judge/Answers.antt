@@ -3,7 +3,7 @@ use Rattle.std.specs.Option.{option_to_list}
 use Rattle.courier_messages.specs.declared.head.Head.{Head}
 use Rattle.courier_messages.specs.Text.{item_of}
 use Rattle.courier_sessions.proofs.Judging.{wrong_answer, right_answer}
-use Rattle.courier_sessions.proofs.caller.WordCaller.judge.Goals as goal
+use Rattle.courier_sessions.proofs.caller.WordCallerHearer.judge.Goals as goal
 
 pub returns-in-Some-reply_fault : goal.returns-in-Some-reply_fault
 returns-in-Some-reply_fault c =
