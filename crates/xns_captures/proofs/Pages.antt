@@ -1,17 +1,17 @@
 -- What is printed of packets, as they are taken and written.
-use Rattle.std.proofs.Common.{◌≡◌, sym, refl, arith, ℕ, ◌≤◌, inl, inr, Bool, List, [], append-nil, subst, Option, Some, None, Result, Ok, Err}
+use Rattle.std.proofs.Common.{◌≡◌, sym, refl, arith, ℕ, ◌≤◌, inl, inr, List, [], append-nil, subst, Option, Some, None, Result, Ok, Err}
 use Rattle.std.specs.Prelude.{IfErr, IfSome, OnOk}
 use Rattle.std.specs.Io.KnownBytes.{Appends}
 use Rattle.xns_lines.specs.Faults.{AppendsPart}
 use Rattle.xns_lines.specs.Report.{whole}
-use Rattle.xns_lines.specs.declared.page.Page.{Page}
+use Rattle.xns_lines.specs.declared.pages.Pages.{Pages}
 use Rattle.xns_lines.specs.declared.fault.RunFault.{RunFault}
 use Rattle.xns_lines.specs.declared.fault.RunFault.TheVariants as run
-use Rattle.xns_lines.proofs.Pages.{all_left, if_some, none_left, part_left, whole_front}
+use Rattle.xns_lines.proofs.OnPages.{all_left, if_some, none_left, part_left, whole_front}
 use Rattle.xns_lines.proofs.Writes.{appends_nothing}
-use Rattle.xns_captures.specs.Captures.{NumberedPacket, fault_of, packets_of}
-use Rattle.xns_lines.specs.Printing.{EndCount, HasFailed, StandsBehind, StopsInEnd, TextWithEnd, text_to_end}
-use Rattle.xns_captures.specs.Printing.{IsFront, StopsIn, StopsWith, WritesBy}
+use Rattle.xns_captures.specs.Captures.{NumberedPacket, packets_of}
+use Rattle.xns_lines.specs.Printing.{EndCount, HasFailed, Output, Stands, StopsInEnd, TextWithEnd, text_to_end}
+use Rattle.xns_captures.specs.Printing.{IsFront, StopsIn, StopsWith, TakesAll, TakesSome, WritesBy}
 use Rattle.xns_captures.specs.Reading.{Says, StandsAfter, StopsBy}
 use Rattle.xns_captures.specs.declared.file_fault.FileFault.{FileFault}
 use Rattle.xns_captures.specs.declared.file_fault.FileFault.TheVariants.{Run, Capture, TooManyFrames}
@@ -32,14 +32,14 @@ at_end : (ends : EndCount NumberedPacket) (file : List ℕ) (part : ℕ) → par
 at_end ends file part few = record { rest = []; joined = append-nil (packets_of file); few = few; place = inr refl }
 
 -- a fault at the end of the file
-pub stops_in_end : (f : RunFault) (ends : EndCount NumberedPacket) (file : List ℕ) (stands fails : ℕ → Says)
-    → StopsInEnd f (λ n. stands n (packets_of file)) (λ n. fails n (packets_of file)) (ends (packets_of file))
-    → StopsWith (Run f) ends file (λ packets part. StandsAfter (Run f) (stands part) (fails part) packets)
-stops_in_end run.Read ends file stands fails h = absurd h.2
-stops_in_end run.LineTooLong ends file stands fails h = absurd h.2
-stops_in_end run.TooManyLines ends file stands fails h = absurd h.2
-stops_in_end run.NoMemory ends file stands fails h = (tt, packets_of file, h.0, at_end ends file h.0 h.1, h.2)
-stops_in_end run.Write ends file stands fails h = (tt, packets_of file, h.0, at_end ends file h.0 h.1, h.2)
+pub stops_in_end : {P : Type 0} (f : RunFault) (output : Output P NumberedPacket) (file : List ℕ) (pages : Pages P) (before after : Option (List ℕ))
+    → StopsInEnd output f (output.end_count (packets_of file)) pages before after (packets_of file)
+    → StopsWith (Run f) output.end_count file (λ packets part. StandsAfter (Run f) (Stands output part pages before after) (HasFailed output part pages before after) packets)
+stops_in_end run.Read output file pages before after h = absurd h.2
+stops_in_end run.LineTooLong output file pages before after h = absurd h.2
+stops_in_end run.TooManyLines output file pages before after h = absurd h.2
+stops_in_end run.NoMemory output file pages before after h = (tt, packets_of file, h.0, at_end output.end_count file h.0 h.1, h.2)
+stops_in_end run.Write output file pages before after h = (tt, packets_of file, h.0, at_end output.end_count file h.0 h.1, h.2)
 
 stops_map : (fault : FileFault) (ends : EndCount NumberedPacket) (file : List ℕ) (L M : List NumberedPacket → ℕ → Type 0)
     → ((packets : List NumberedPacket) (part : ℕ) → L packets part → M packets part)
@@ -57,71 +57,71 @@ stops_writing (Capture why) ends file L M f h =
 stops_writing (Run r) ends file L M f h = (tt, h.1, h.2, h.3, f h.1 h.2 h.4)
 stops_writing TooManyFrames ends file L M f h = (tt, h.1, h.2, h.3, f h.1 h.2 h.4)
 
-module _ (has_printed : List NumberedPacket → ℕ → Type 0) (text_of : TextWithEnd NumberedPacket) (has_refused : List NumberedPacket → ℕ → Bool) (ends : EndCount NumberedPacket)
-    (p : Page) (is_lost : Bool) (before mid after : Option (List ℕ)) where
-  abbrev Stands : ℕ → Says
-  Stands part = StandsBehind has_printed text_of has_refused part p is_lost before mid
+module _ {P : Type 0} (output : Output P NumberedPacket) (old new : Pages P) (before mid after : Option (List ℕ)) where
+  abbrev StandsAt : ℕ → Says
+  StandsAt part = Stands output part new before mid
 
-  abbrev Fails : ℕ → Says
-  Fails part = HasFailed (λ xs. text_of xs part) p before mid
+  abbrev FailsAt : ℕ → Says
+  FailsAt part = HasFailed output part new before mid
 
   -- what is pending is written
-  written : (fault : FileFault) (packets : List NumberedPacket) (part : ℕ) → Appends mid after (whole p.text)
-      → StandsAfter fault (Stands part) (Fails part) packets → WritesBy fault before after (text_of packets part)
-  written TooManyFrames packets part text h = all_left _ _ _ p is_lost mid after before packets text h
-  written (Capture why) packets part text h = all_left _ _ _ p is_lost mid after before packets text h
+  written : (fault : FileFault) (packets : List NumberedPacket) (part : ℕ) → Appends mid after (whole new.page.text)
+      → StandsAfter fault (StandsAt part) (FailsAt part) packets → WritesBy fault before after (output.text_of packets part)
+  written TooManyFrames packets part text h = all_left output part new mid after before packets text h
+  written (Capture why) packets part text h = all_left output part new mid after before packets text h
   written (Run run.Write) packets part text h =
-      none_left before mid after (whole p.text) (text_of packets part) h.0 (whole_front mid after (whole p.text) text) h.1
-  written (Run run.Read) packets part text h = all_left _ _ _ p is_lost mid after before packets text h
-  written (Run run.LineTooLong) packets part text h = all_left _ _ _ p is_lost mid after before packets text h
-  written (Run run.TooManyLines) packets part text h = all_left _ _ _ p is_lost mid after before packets text h
-  written (Run run.NoMemory) packets part text h = all_left _ _ _ p is_lost mid after before packets text h
+      none_left before mid after (whole new.page.text) (output.text_of packets part) h.0 (whole_front mid after (whole new.page.text) text) h.1
+  written (Run run.Read) packets part text h = all_left output part new mid after before packets text h
+  written (Run run.LineTooLong) packets part text h = all_left output part new mid after before packets text h
+  written (Run run.TooManyLines) packets part text h = all_left output part new mid after before packets text h
+  written (Run run.NoMemory) packets part text h = all_left output part new mid after before packets text h
 
   -- a part of it is
-  unwritten : (fault : FileFault) (packets : List NumberedPacket) (part : ℕ) → AppendsPart mid after (whole p.text)
-      → StandsAfter fault (Stands part) (Fails part) packets → AppendsPart before after (text_of packets part)
-  unwritten TooManyFrames packets part text h = part_left _ _ _ p is_lost mid after before packets text h
-  unwritten (Capture why) packets part text h = part_left _ _ _ p is_lost mid after before packets text h
+  unwritten : (fault : FileFault) (packets : List NumberedPacket) (part : ℕ) → AppendsPart mid after (whole new.page.text)
+      → StandsAfter fault (StandsAt part) (FailsAt part) packets → AppendsPart before after (output.text_of packets part)
+  unwritten TooManyFrames packets part text h = part_left output part new mid after before packets text h
+  unwritten (Capture why) packets part text h = part_left output part new mid after before packets text h
   unwritten (Run run.Write) packets part text h =
-      none_left before mid after (whole p.text) (text_of packets part) h.0 (text.0, text.1, (text.2.0, text.2.2)) h.1
-  unwritten (Run run.Read) packets part text h = part_left _ _ _ p is_lost mid after before packets text h
-  unwritten (Run run.LineTooLong) packets part text h = part_left _ _ _ p is_lost mid after before packets text h
-  unwritten (Run run.TooManyLines) packets part text h = part_left _ _ _ p is_lost mid after before packets text h
-  unwritten (Run run.NoMemory) packets part text h = part_left _ _ _ p is_lost mid after before packets text h
+      none_left before mid after (whole new.page.text) (output.text_of packets part) h.0 (text.0, text.1, (text.2.0, text.2.2)) h.1
+  unwritten (Run run.Read) packets part text h = part_left output part new mid after before packets text h
+  unwritten (Run run.LineTooLong) packets part text h = part_left output part new mid after before packets text h
+  unwritten (Run run.TooManyLines) packets part text h = part_left output part new mid after before packets text h
+  unwritten (Run run.NoMemory) packets part text h = part_left output part new mid after before packets text h
 
-  abbrev pub All : List ℕ → Type 0
-  All file = (fault_of file ≡ None) × Stands (ends (packets_of file)) (packets_of file)
+  module _ (begun : Stands output 0 old before before []) where
+    abbrev pub All : List ℕ → Type 0
+    All file = TakesAll output old new before mid file
 
-  abbrev pub Some_of : FileFault → List ℕ → Type 0
-  Some_of fault file = StopsWith fault ends file (λ packets part. StandsAfter fault (Stands part) (Fails part) packets)
+    abbrev pub Some_of : FileFault → List ℕ → Type 0
+    Some_of fault file = TakesSome output fault old new before mid file
 
-  pub flushed_text : (file : List ℕ) → Appends mid after (whole p.text) → All file → Appends before after (text_to_end text_of ends (packets_of file))
-  flushed_text file text all = all_left _ _ _ p is_lost mid after before (packets_of file) text all.1
+    pub flushed_text : (file : List ℕ) → Appends mid after (whole new.page.text) → All file → Appends before after (text_to_end output.text_of output.end_count (packets_of file))
+    flushed_text file text all = all_left output _ new mid after before (packets_of file) text (all before begun).1
 
-  pub flushed_some : (fault : FileFault) (file : List ℕ) → Appends mid after (whole p.text) → Some_of fault file
-      → StopsIn text_of ends fault file before after
-  flushed_some fault file text some =
-      stops_map fault ends file _ _ (λ packets part h. written fault packets part text h) some
+    pub flushed_some : (fault : FileFault) (file : List ℕ) → Appends mid after (whole new.page.text) → Some_of fault file
+        → StopsIn output.text_of output.end_count fault file before after
+    flushed_some fault file text some =
+        stops_map fault output.end_count file _ _ (λ packets part h. written fault packets part text h) (some before begun)
 
-  unflushed_all : (file : List ℕ) → AppendsPart mid after (whole p.text) → All file → StopsIn text_of ends (Run run.Write) file before after
-  unflushed_all file part all = (
-    tt,
-    packets_of file,
-    ends (packets_of file),
-    at_end ends file (ends (packets_of file)) (omega arith),
-    part_left _ _ _ p is_lost mid after before (packets_of file) part all.1,
-  )
+    unflushed_all : (file : List ℕ) → AppendsPart mid after (whole new.page.text) → All file → StopsIn output.text_of output.end_count (Run run.Write) file before after
+    unflushed_all file part all = (
+      tt,
+      packets_of file,
+      output.end_count (packets_of file),
+      at_end output.end_count file (output.end_count (packets_of file)) (omega arith),
+      part_left output _ new mid after before (packets_of file) part (all before begun).1,
+    )
 
-  unflushed_some : (fault : FileFault) (file : List ℕ) → AppendsPart mid after (whole p.text) → Some_of fault file
-      → StopsIn text_of ends (Run run.Write) file before after
-  unflushed_some fault file part some =
-      stops_writing fault ends file _ _ (λ packets k h. unwritten fault packets k part h) some
+    unflushed_some : (fault : FileFault) (file : List ℕ) → AppendsPart mid after (whole new.page.text) → Some_of fault file
+        → StopsIn output.text_of output.end_count (Run run.Write) file before after
+    unflushed_some fault file part some =
+        stops_writing fault output.end_count file _ _ (λ packets k h. unwritten fault packets k part h) (some before begun)
 
-  pub unflushed : (r : Result Unit FileFault) (f : RunFault) (left : Option (List ℕ)) → (f ≡ run.Write) × AppendsPart mid after (whole p.text)
-      → OnOk r (IfSome left All) → IfErr r (λ e. IfSome left (Some_of e))
-      → IfSome left (λ file. StopsIn text_of ends (Run f) file before after)
-  unflushed (Ok x) f left failed all some = rw failed.0 (if_some _ _ left all (λ file h. unflushed_all file failed.1 h))
-  unflushed (Err e) f left failed all some = rw failed.0 (if_some _ _ left some (λ file h. unflushed_some e file failed.1 h))
+    pub unflushed : (r : Result Unit FileFault) (f : RunFault) (left : Option (List ℕ)) → (f ≡ run.Write) × AppendsPart mid after (whole new.page.text)
+        → OnOk r (IfSome left All) → IfErr r (λ e. IfSome left (Some_of e))
+        → IfSome left (λ file. StopsIn output.text_of output.end_count (Run f) file before after)
+    unflushed (Ok x) f left failed all some = rw failed.0 (if_some _ _ left all (λ file h. unflushed_all file failed.1 h))
+    unflushed (Err e) f left failed all some = rw failed.0 (if_some _ _ left some (λ file h. unflushed_some e file failed.1 h))
 
 -- ---- before anything is read
 

@@ -1,23 +1,15 @@
 -- What is printed of the packets of a capture and of its end, after a fault.
-use Rattle.std.specs.Prelude.{◌≡◌, ℕ, ◌≤◌, ◌⊎◌, ◌++◌, Bool, true, List, [], Option}
+use Rattle.std.specs.Prelude.{◌≡◌, ℕ, ◌≤◌, ◌⊎◌, ◌++◌, List, [], Option, None}
 use Rattle.std.specs.Io.KnownBytes.{Appends}
 use Rattle.xns_lines.specs.Faults.{HasWritten}
-use Rattle.xns_lines.specs.Printing.{EndCount, TextWithEnd}
-use Rattle.xns_lines.specs.Report.{whole}
-use Rattle.xns_lines.specs.declared.page.Page.{Page}
-use Rattle.xns_captures.specs.Captures.{NumberedPacket, packets_of}
-use Rattle.xns_captures.specs.Reading.{IsJustified}
+use Rattle.xns_lines.specs.Printing.{EndCount, HasFailed, Output, Stands, TextWithEnd}
+use Rattle.xns_lines.specs.declared.pages.Pages.{Pages}
+use Rattle.xns_captures.specs.Captures.{NumberedPacket, fault_of, packets_of}
+use Rattle.xns_captures.specs.Reading.{IsJustified, StandsAfter}
 use Rattle.xns_captures.specs.declared.file_fault.FileFault.{FileFault}
 use Rattle.xns_captures.specs.declared.file_fault.FileFault.TheVariants.{Run, Capture}
 
--- ---- a packet
-
--- memory may be refused for a packet: it was refused before, or the printer wants some for it, on a page whose next line begins
-abbrev pub WantsAtLine : (Page → Type 0) → Page → Bool → Type 0
-WantsAtLine wants page is_lost = (is_lost ≡ true)
-    ⊎ ((begun : Page) × (whole begun.text ≡ whole page.text) × (begun.text.line ≡ []) × (begun.is_refused ≡ page.is_refused) × wants begun)
-
--- ---- what was taken of a file
+-- ---- after a fault
 
 -- of the packets of the file these are taken, and so many parts of the end behind them, which come behind all packets alone
 pub record IsFront (end_count : EndCount NumberedPacket) (file : List ℕ) (front : List NumberedPacket) (part : ℕ) : Type 0 where
@@ -41,3 +33,16 @@ WritesBy _ before after text = Appends before after text
 abbrev pub StopsIn : TextWithEnd NumberedPacket → EndCount NumberedPacket → FileFault → List ℕ → Option (List ℕ) → Option (List ℕ) → Type 0
 StopsIn text_of end_count fault file before after =
     StopsWith fault end_count file (λ packets part. WritesBy fault before after (text_of packets part))
+
+-- ---- what was taken of a file, by the old pages, which became the new ones: the writer held `held` then, and holds `after` now
+
+-- the packets were taken to the end of a file without a fault, and its end
+abbrev pub TakesAll : {P : Type 0} → Output P NumberedPacket → Pages P → Pages P → Option (List ℕ) → Option (List ℕ) → List ℕ → Type 0
+TakesAll output old new held after file = (before : Option (List ℕ)) → Stands output 0 old before held []
+    → (fault_of file ≡ None) × Stands output (output.end_count (packets_of file)) new before after (packets_of file)
+
+-- the packets were taken up to a fault
+abbrev pub TakesSome : {P : Type 0} → Output P NumberedPacket → FileFault → Pages P → Pages P → Option (List ℕ) → Option (List ℕ) → List ℕ → Type 0
+TakesSome output fault old new held after file = (before : Option (List ℕ)) → Stands output 0 old before held []
+    → StopsWith fault output.end_count file (λ packets part. StandsAfter fault (Stands output part new before after)
+    (HasFailed output part new before after) packets)

@@ -1,5 +1,6 @@
 -- What was read of a capture, between two parts and after a fault.
 use Rattle.std.specs.Prelude.{◌≡◌, ◌≤◌, ◌<◌, ℕ, List, [], ◌∷◌, ◌++◌, length, take, Option, Some, None, Ok}
+use Rattle.xns_lines.specs.Faults.{StandsAfterThing}
 use Rattle.xns_lines.specs.declared.fault.RunFault.{RunFault}
 use Rattle.xns_lines.specs.declared.fault.RunFault.TheVariants as run
 use Rattle.std.specs.Option.{option_or}
@@ -24,14 +25,7 @@ most_frames = 4294967295
 
 -- a taker's fault at a packet: without memory it stands for the packets before it, and after a failed write the packet is taken
 abbrev pub StandsAfterPacket : RunFault → Says → Says → List NumberedPacket → NumberedPacket → Type 0
-StandsAfterPacket run.NoMemory stands fails packets packet = stands packets
-StandsAfterPacket run.Write stands fails packets packet = fails (packets ++ packet ∷ [])
-StandsAfterPacket _ stands fails packets packet = ⊥
-
--- what holds where the fault is a want of memory
-abbrev pub IfWants : RunFault → Type 0 → Type 0
-IfWants run.NoMemory wants = wants
-IfWants _ wants = Unit {0}
+StandsAfterPacket fault stands fails packets packet = StandsAfterThing fault stands fails packets packet
 
 -- a fault at a frame behind so many: after a failed write its packet is taken, and else it is not
 abbrev pub StopsAtFrame : FileFault → ℕ → Says → Says → List NumberedPacket → List NumberedPacket → Type 0

@@ -2,6 +2,7 @@
 #![tactic(auto)]
 
 mod block;
+mod by_packet;
 mod byte_order;
 mod fault;
 mod file_fault;
@@ -15,7 +16,6 @@ mod link_name;
 mod magic;
 mod options;
 mod packet_block;
-mod packet_pages;
 mod packet_printer;
 mod part;
 mod passing;

@@ -1,18 +1,17 @@
 //! Prints what the packets of a capture say.
-ghost use Rattle.std.specs.Prelude.{◌≡◌, ℕ, List, [], Option, None, IfErr, IfOk, IfSome, OnOk};
+ghost use Rattle.std.specs.Prelude.{◌≡◌, [], None, IfErr, IfOk, IfSome, OnOk};
 ghost use Rattle.std.specs.Io.KnownBytes.{Appends};
 ghost use Rattle.xns_captures.specs.Captures.{fault_of, packets_of};
-ghost use Rattle.xns_lines.specs.Printing.{HasFailed, StandsBehind, text_to_end};
-ghost use Rattle.xns_captures.specs.Printing.{StopsIn, StopsWith};
-ghost use Rattle.xns_captures.specs.Reading.{StandsAfter};
+ghost use Rattle.xns_lines.specs.Printing.{text_to_end};
+ghost use Rattle.xns_captures.specs.Printing.{StopsIn, TakesAll, TakesSome};
 
+use crate::by_packet::ByPacket;
 use crate::file_fault::FileFault;
-use crate::packet_pages::PacketPages;
 use crate::packet_printer::PacketPrinter;
 use crate::taking::take_packets;
 use std::alloc::Global;
 use std::io::{Read, Write};
-use xns_lines::Page;
+use xns_lines::{Pages, ThingPrinter};
 
 /// Reads a capture to its end, and prints what its packets say, in order, and what is said at its end. The answer is
 /// whether a packet, or something at the end, was refused.
@@ -41,18 +40,14 @@ pub fn print_packets<R: Read, W: Write, P: PacketPrinter + Drop>(
         StopsIn P.packets_text P.packet_ends fault file (W.contents writer.old) (W.contents writer.new))) }
 {
     P::nothing_is_said();
-    let mut taker = PacketPages {
-        printer,
-        page: Page::new(alloc),
-        is_lost: false,
-    };
-    let taken = take_all(alloc, reader, &mut taker, writer);
-    match taker.page.flush(writer) {
+    let mut pages = Pages::new(alloc, ByPacket { printer });
+    let taken = take_all(alloc, reader, &mut pages, writer);
+    match pages.page.flush(writer) {
         Ok(()) => {}
         Err(fault) => return Err(FileFault::Run(fault)),
     }
     match taken {
-        Ok(()) => Ok(taker.page.is_refused),
+        Ok(()) => Ok(pages.page.is_refused),
         Err(fault) => Err(fault),
     }
 }
@@ -61,25 +56,19 @@ pub fn print_packets<R: Read, W: Write, P: PacketPrinter + Drop>(
 fn take_all<R: Read, W: Write, P: PacketPrinter>(
     alloc: Global,
     reader: &mut R,
-    taker: &mut PacketPages<P>,
+    pages: &mut Pages<ByPacket<P>>,
     writer: &mut W,
 ) -> Result<(), FileFault>
-    ensures ok { OnOk result (IfSome (R.remaining reader.old) (λ file. (before : Option (List ℕ))
-        → StandsBehind (P.prints taker.old.printer) P.packets_text P.refuses 0 taker.old.page taker.old.is_lost before (W.contents writer.old) []
-        → (fault_of file ≡ None)
-        × StandsBehind (P.prints taker.new.printer) P.packets_text P.refuses (P.packet_ends (packets_of file))
-        taker.new.page taker.new.is_lost before (W.contents writer.new) (packets_of file))) }
-    ensures err { IfErr result (λ fault. IfSome (R.remaining reader.old) (λ file. (before : Option (List ℕ))
-        → StandsBehind (P.prints taker.old.printer) P.packets_text P.refuses 0 taker.old.page taker.old.is_lost before (W.contents writer.old) []
-        → StopsWith fault P.packet_ends file (λ packets part. StandsAfter fault
-        (StandsBehind (P.prints taker.new.printer) P.packets_text P.refuses part taker.new.page taker.new.is_lost before (W.contents writer.new))
-        (HasFailed (λ xs. P.packets_text xs part) taker.new.page before (W.contents writer.new)) packets))) }
+    ensures ok { OnOk result (IfSome (R.remaining reader.old)
+        (TakesAll ⟦<ByPacket<P> as ThingPrinter>⟧.output pages.old pages.new (W.contents writer.old) (W.contents writer.new))) }
+    ensures err { IfErr result (λ fault. IfSome (R.remaining reader.old)
+        (TakesSome ⟦<ByPacket<P> as ThingPrinter>⟧.output fault pages.old pages.new (W.contents writer.old) (W.contents writer.new))) }
 {
-    match take_packets(alloc, reader, taker, writer) {
+    match take_packets(alloc, reader, pages, writer) {
         Ok(()) => {}
         Err(fault) => return Err(fault),
     }
-    match taker.finish(writer) {
+    match pages.finish(writer) {
         Ok(()) => Ok(()),
         Err(fault) => Err(FileFault::Run(fault)),
     }

@@ -11,7 +11,8 @@ use xns_lines::RunFault;
 pub trait PacketTaker {
     ghost use Rattle.std.specs.Prelude.{◌≡◌, ◌≤◌, ◌<◌, ◌++◌, ℕ, List, [], ◌∷◌, Option, IfErr, OnOk, length};
     ghost use Rattle.xns_captures.specs.Captures.{NumberedPacket};
-    ghost use Rattle.xns_captures.specs.Reading.{IfWants, StandsAfterPacket, most_frames};
+    ghost use Rattle.xns_captures.specs.Reading.{StandsAfterPacket, most_frames};
+    ghost use Rattle.xns_lines.specs.Faults.{IfWants};
 
     // The taker has taken these packets, and the writer, which held the first bytes, holds the second.
     ghost stands: { Self → Option (List ℕ) → Option (List ℕ) → List NumberedPacket → Type 0 };

@@ -33,7 +33,7 @@ impl Model for Window {
 }
 
 impl Window {
-    ghost use Rattle.xns_captures.specs.Reading.{IfWants};
+    ghost use Rattle.xns_lines.specs.Faults.{IfWants};
 
     /// A window without bytes.
     pub(crate) fn new(alloc: Global) -> Window

@@ -3,6 +3,6 @@ pub mod Cuts
 pub mod Cutting
 pub mod FewDigits
 pub mod Joined
-pub mod Pages
+pub mod OnPages
 pub mod WordsInHex
 pub mod Writes

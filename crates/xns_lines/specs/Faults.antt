@@ -1,5 +1,5 @@
 -- What stands after a fault: what was written, and what justifies the fault.
-use Rattle.std.specs.Prelude.{◌≡◌, ℕ, ◌<◌, List, ◌++◌, length, Option}
+use Rattle.std.specs.Prelude.{◌≡◌, ℕ, ◌<◌, List, [], ◌∷◌, ◌++◌, length, Option}
 use Rattle.std.specs.Io.KnownBytes.{Appends}
 use Rattle.xns_lines.specs.Lines.{BeginsLong, closed_lines}
 use Rattle.xns_lines.specs.declared.fault.RunFault.{RunFault}
@@ -32,3 +32,14 @@ IsJustified most fault.NoMemory read good next = Unit {0}
 abbrev pub HasWritten : RunFault → Option (List ℕ) → Option (List ℕ) → List ℕ → Type 0
 HasWritten fault.Write before after text = AppendsPart before after text
 HasWritten _ before after text = Appends before after text
+
+-- a taker's fault at a thing: without memory it stands for the things before it, and after a failed write the thing is taken
+abbrev pub StandsAfterThing : {A : Type 0} → RunFault → (List A → Type 0) → (List A → Type 0) → List A → A → Type 0
+StandsAfterThing fault.NoMemory stands fails things next = stands things
+StandsAfterThing fault.Write stands fails things next = fails (things ++ next ∷ [])
+StandsAfterThing _ stands fails things next = ⊥
+
+-- what holds where the fault is a want of memory
+abbrev pub IfWants : RunFault → Type 0 → Type 0
+IfWants fault.NoMemory wants = wants
+IfWants _ wants = Unit {0}

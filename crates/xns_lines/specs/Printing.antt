@@ -1,5 +1,5 @@
 -- What is printed of the lines of an input, or of other things in it, and of its end, between two of them and after a fault.
-use Rattle.std.specs.Prelude.{◌≡◌, ℕ, ◌+◌, ◌≤◌, ◌⊎◌, ◌++◌, Bool, false, List, [], ◌∷◌, Option, Some}
+use Rattle.std.specs.Prelude.{◌≡◌, ℕ, ◌+◌, ◌≤◌, ◌⊎◌, ◌++◌, Bool, false, true, List, [], ◌∷◌, Option, Some}
 use Rattle.std.specs.Io.KnownBytes.{Appends, Consumes}
 use Rattle.xns_lines.specs.Faults.{AppendsFront, AppendsPart, HasWritten, IsJustified}
 use Rattle.xns_lines.specs.Lines.{AreWithinLimits, IsWithinLimits, lines_of}
@@ -8,6 +8,7 @@ use Rattle.xns_lines.specs.Report.{whole}
 use Rattle.xns_lines.specs.declared.fault.RunFault.{RunFault}
 use Rattle.xns_lines.specs.declared.fault.RunFault.TheVariants as fault
 use Rattle.xns_lines.specs.declared.page.Page.{Page}
+use Rattle.xns_lines.specs.declared.pages.Pages.{Pages}
 
 -- what things say: the lines of an input, or other things that are taken from one in order
 abbrev pub TextOf : Type 0 → Type 0
@@ -51,26 +52,41 @@ pub record IsEndPrinted (has_printed : ℕ → Type 0) (text_of : ℕ → List �
 
 -- ---- between two of them
 
+-- what a printer puts out: what holds of it once it has printed some things and so many parts of the end behind them, what these say, whether
+-- something of them is refused, and how many parts the end has
+pub record Output (P A : Type 0) : Type 1 where
+  pub has_printed : P → List A → ℕ → Type 0
+  pub text_of : TextWithEnd A
+  pub has_refused : List A → ℕ → Bool
+  pub end_count : EndCount A
+
+-- the printer has printed nothing; no things have no text, and none of them is refused
+pub record IsSilent {P A : Type 0} (output : Output P A) (printer : P) : Type 0 where
+  pub printed : output.has_printed printer [] 0
+  pub text : output.text_of [] 0 ≡ []
+  pub refused : output.has_refused [] 0 ≡ false
+
 -- the writer, which held `before`, has the text but for what is pending
 abbrev pub IsWritten : Option (List ℕ) → Option (List ℕ) → List ℕ → List ℕ → Type 0
 IsWritten before after pending text = (out : List ℕ) × Appends before after out × (out ++ pending ≡ text)
 
--- the writer, which held `before`, has the text of these but for what is on the page; the printer has printed them, until memory is refused
-pub record PrinterStandsFor {A : Type 0} (has_printed : List A → Type 0) (text_of : TextOf A) (has_refused : HasRefused A) (page : Page)
-    (is_lost : Bool) (before after : Option (List ℕ)) (things : List A) : Type 0 where
-  pub refused : page.is_refused ≡ has_refused things
-  pub written : IsWritten before after (whole page.text) (text_of things)
-  pub printed : is_lost ≡ false → has_printed things
-
--- the printer stands for these things and for this many parts of the end of the input
-abbrev pub StandsBehind : {A : Type 0} → (List A → ℕ → Type 0) → TextWithEnd A → (List A → ℕ → Bool) → ℕ → Page → Bool → Option (List ℕ)
-    → Option (List ℕ) → List A → Type 0
-StandsBehind has_printed text_of has_refused part page is_lost before after things =
-    PrinterStandsFor (λ xs. has_printed xs part) (λ xs. text_of xs part) (λ xs. has_refused xs part) page is_lost before after things
+-- the writer, which held `before`, has the text of these things and of so many parts of the end, but for what is on the page; the printer has
+-- printed them, until memory is refused
+pub record Stands {P A : Type 0} (output : Output P A) (part : ℕ) (pages : Pages P) (before after : Option (List ℕ)) (things : List A)
+    : Type 0 where
+  pub refused : pages.page.is_refused ≡ output.has_refused things part
+  pub written : IsWritten before after (whole pages.page.text) (output.text_of things part)
+  pub printed : pages.is_lost ≡ false → output.has_printed pages.printer things part
 
 -- after a failed write nothing is pending, and something of the text was not written
-abbrev pub HasFailed : {A : Type 0} → TextOf A → Page → Option (List ℕ) → Option (List ℕ) → List A → Type 0
-HasFailed text_of page before after things = (whole page.text ≡ []) × AppendsPart before after (text_of things)
+abbrev pub HasFailed : {P A : Type 0} → Output P A → ℕ → Pages P → Option (List ℕ) → Option (List ℕ) → List A → Type 0
+HasFailed output part pages before after things = (whole pages.page.text ≡ []) × AppendsPart before after (output.text_of things part)
+
+-- memory may be refused for a thing: it was refused before, or the printer wants some for the thing, on a page whose next line begins
+abbrev pub WantsAtLine : {P A : Type 0} → (P → Page → A → Type 0) → Pages P → A → Type 0
+WantsAtLine wants pages thing = (pages.is_lost ≡ true)
+    ⊎ ((begun : Page) × (whole begun.text ≡ whole pages.page.text) × (begun.text.line ≡ []) × (begun.is_refused ≡ pages.page.is_refused)
+    × wants pages.printer begun thing)
 
 -- ---- after a fault
 
@@ -81,8 +97,9 @@ StandsInEnd fault.Write stands fails = fails
 StandsInEnd _ stands fails = ⊥
 
 -- the fault came behind some number of parts of the end, at most this many
-abbrev pub StopsInEnd : RunFault → (ℕ → Type 0) → (ℕ → Type 0) → ℕ → Type 0
-StopsInEnd f stands fails most = (part : ℕ) × (part ≤ most) × StandsInEnd f (stands part) (fails part)
+abbrev pub StopsInEnd : {P A : Type 0} → Output P A → RunFault → ℕ → Pages P → Option (List ℕ) → Option (List ℕ) → List A → Type 0
+StopsInEnd output f most pages before after things = (part : ℕ) × (part ≤ most)
+    × StandsInEnd f (Stands output part pages before after things) (HasFailed output part pages before after things)
 
 -- ---- the lines of an input
 
@@ -114,22 +131,20 @@ pub record StopsIn (most : ℕ) (text_of : TextWithEnd (List ℕ)) (end_count : 
   pub front : AppendsFront before after (text_to_end text_of end_count (lines_of read))
   pub stops : StopsAt most end_count f input read (λ part good. HasWritten f before after (text_of good part))
 
--- ---- what was taken of an input, of which this holds at first
+-- ---- what was taken of an input, by the old pages, which became the new ones: the writer held `held` then, and holds `after` now
 
 -- the lines were taken to the end, and its end
-abbrev pub TakesAll : ℕ → (List (List ℕ) → ℕ → Type 0) → TextWithEnd (List ℕ) → (List (List ℕ) → ℕ → Bool) → EndCount (List ℕ) → Page → Bool
-    → (Option (List ℕ) → Type 0) → Option (List ℕ) → Option (List ℕ) → List ℕ → Type 0
-TakesAll most has_printed text_of has_refused end_count page is_lost begun left after input = Consumes (Some input) left input
+abbrev pub TakesAll : {P : Type 0} → ℕ → Output P (List ℕ) → Pages P → Pages P → Option (List ℕ) → Option (List ℕ) → Option (List ℕ)
+    → List ℕ → Type 0
+TakesAll most output old new held after left input = Consumes (Some input) left input
     × IsWithinLimits most input
-    × ((before : Option (List ℕ)) → begun before
-    → StandsBehind has_printed text_of has_refused (end_count (lines_of input)) page is_lost before after (lines_of input))
+    × ((before : Option (List ℕ)) → Stands output 0 old before held []
+    → Stands output (output.end_count (lines_of input)) new before after (lines_of input))
 
 -- the lines were taken up to a fault
-abbrev pub TakesSome : ℕ → (List (List ℕ) → ℕ → Type 0) → TextWithEnd (List ℕ) → (List (List ℕ) → ℕ → Bool) → EndCount (List ℕ) → Page → Bool
-    → (Option (List ℕ) → Type 0) → Option (List ℕ) → Option (List ℕ) → RunFault → List ℕ → Type 0
-TakesSome most has_printed text_of has_refused end_count page is_lost begun left after f input = (read : List ℕ)
+abbrev pub TakesSome : {P : Type 0} → ℕ → Output P (List ℕ) → RunFault → Pages P → Pages P → Option (List ℕ) → Option (List ℕ) → Option (List ℕ)
+    → List ℕ → Type 0
+TakesSome most output f old new held after left input = (read : List ℕ)
     × Consumes (Some input) left read
-    × ((before : Option (List ℕ)) → begun before
-    → StopsAt most end_count f input read (λ part.
-    StandsAfter f (StandsBehind has_printed text_of has_refused part page is_lost before after)
-    (HasFailed (λ xs. text_of xs part) page before after)))
+    × ((before : Option (List ℕ)) → Stands output 0 old before held []
+    → StopsAt most output.end_count f input read (λ part. StandsAfter f (Stands output part new before after) (HasFailed output part new before after)))

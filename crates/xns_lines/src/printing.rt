@@ -2,13 +2,14 @@
 ghost use Rattle.std.specs.Prelude.{◌≡◌, ◌≤◌, ℕ, List, [], Option, IfErr, IfOk, IfSome, OnOk};
 ghost use Rattle.std.specs.Io.KnownBytes.{Appends};
 ghost use Rattle.xns_lines.specs.Lines.{IsWithinLimits, lines_of};
-ghost use Rattle.xns_lines.specs.Printing.{StandsBehind, StopsIn, TakesAll, TakesSome, text_to_end};
+ghost use Rattle.xns_lines.specs.Printing.{StopsIn, TakesAll, TakesSome, text_to_end};
 
+use crate::by_line::ByLine;
 use crate::fault::RunFault;
 use crate::line_printer::LinePrinter;
-use crate::page::Page;
-use crate::page_printer::PagePrinter;
+use crate::pages::Pages;
 use crate::taking::take_lines;
+use crate::thing_printer::ThingPrinter;
 use std::alloc::Global;
 use std::io::{Read, Write};
 
@@ -44,15 +45,11 @@ pub fn print_lines<R: Read, W: Write, P: LinePrinter + Drop>(
         StopsIn most P.text_of P.end_count input (R.remaining reader.new) (W.contents writer.old) (W.contents writer.new) fault)) }
 {
     P::text_only_grows();
-    let mut taker = PagePrinter {
-        printer,
-        page: Page::new(alloc),
-        is_lost: false,
-    };
-    let taken = take_all(alloc, most, reader, &mut taker, writer);
-    taker.page.flush(writer)?;
+    let mut pages = Pages::new(alloc, ByLine { printer });
+    let taken = take_all(alloc, most, reader, &mut pages, writer);
+    pages.page.flush(writer)?;
     match taken {
-        Ok(()) => Ok(taker.page.is_refused),
+        Ok(()) => Ok(pages.page.is_refused),
         Err(fault) => Err(fault),
     }
 }
@@ -62,21 +59,17 @@ fn take_all<R: Read, W: Write, P: LinePrinter>(
     alloc: Global,
     most: usize,
     reader: &mut R,
-    taker: &mut PagePrinter<P>,
+    pages: &mut Pages<ByLine<P>>,
     writer: &mut W,
 ) -> Result<(), RunFault>
     requires few { most ≤ P.limit }
-    ensures ok { OnOk result (IfSome (R.remaining reader.old) (λ input.
-        TakesAll most (P.has_printed taker.new.printer) P.text_of P.has_refused P.end_count taker.new.page taker.new.is_lost
-        (λ before. StandsBehind (P.has_printed taker.old.printer) P.text_of P.has_refused 0
-        taker.old.page taker.old.is_lost before (W.contents writer.old) [])
-        (R.remaining reader.new) (W.contents writer.new) input)) }
-    ensures err { IfErr result (λ fault. IfSome (R.remaining reader.old) (λ input.
-        TakesSome most (P.has_printed taker.new.printer) P.text_of P.has_refused P.end_count taker.new.page taker.new.is_lost
-        (λ before. StandsBehind (P.has_printed taker.old.printer) P.text_of P.has_refused 0
-        taker.old.page taker.old.is_lost before (W.contents writer.old) [])
-        (R.remaining reader.new) (W.contents writer.new) fault input)) }
+    ensures ok { OnOk result (IfSome (R.remaining reader.old)
+        (TakesAll most ⟦<ByLine<P> as ThingPrinter>⟧.output pages.old pages.new
+        (W.contents writer.old) (W.contents writer.new) (R.remaining reader.new))) }
+    ensures err { IfErr result (λ fault. IfSome (R.remaining reader.old)
+        (TakesSome most ⟦<ByLine<P> as ThingPrinter>⟧.output fault pages.old pages.new
+        (W.contents writer.old) (W.contents writer.new) (R.remaining reader.new))) }
 {
-    take_lines(alloc, most, reader, taker, writer)?;
-    taker.finish(writer)
+    take_lines(alloc, most, reader, pages, writer)?;
+    pages.finish(writer)
 }

@@ -1,8 +1,8 @@
 -- A cutter between two bytes of its input, and what takes its lines.
-use Rattle.std.specs.Prelude.{◌≡◌, ℕ, ◌≤◌, ◌<◌, ◌+◌, ◌-◌, ◌*◌, ◌++◌, ◌∷◌, [], List, length, false}
+use Rattle.std.specs.Prelude.{◌≡◌, ℕ, ◌≤◌, ◌<◌, ◌+◌, ◌-◌, ◌*◌, ◌++◌, List, length, false}
 use Rattle.std.specs.List.{list_any}
 use Rattle.memchr.specs.Find.{Nowhere, Passes, is_byte}
-use Rattle.xns_lines.specs.Faults.{IsJustified}
+use Rattle.xns_lines.specs.Faults.{IsJustified, StandsAfterThing}
 use Rattle.xns_lines.specs.Lines.{AreWithinLimits, closed_lines, is_long, lines_of, open_line, most_line_bytes}
 use Rattle.xns_lines.specs.declared.cutter.Cutter.{Cutter}
 use Rattle.xns_lines.specs.declared.fault.RunFault.{RunFault}
@@ -46,9 +46,7 @@ StandsAfter _ stands fails lines = stands lines
 
 -- a taker's fault at a line: without memory it stands for the lines before it, and after a failed write the line is taken
 abbrev pub StandsAfterLine : RunFault → Says → Says → List (List ℕ) → List ℕ → Type 0
-StandsAfterLine fault.NoMemory stands fails lines line = stands lines
-StandsAfterLine fault.Write stands fails lines line = fails (lines ++ line ∷ [])
-StandsAfterLine _ stands fails lines line = ⊥
+StandsAfterLine f stands fails lines line = StandsAfterThing f stands fails lines line
 
 -- it stopped within these bytes, and of the lines that are over at that place this is so
 pub record IsCutShort (most : ℕ) (f : RunFault) (taken : List ℕ) (left : Says) : Type 0 where
