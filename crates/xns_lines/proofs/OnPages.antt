@@ -1,5 +1,5 @@
 -- What is printed of lines, as they are taken and written.
-use Rattle.std.proofs.Common.{◌≡◌, ◌∙◌, ap, sym, refl, arith, ℕ, zero, suc, ◌+◌, ◌-◌, ◌≤◌, ◌⊎◌, inl, inr, Bool, List, [], ◌∷◌, ◌++◌, append-nil, subst, Option, Some, None, Result, Ok, Err}
+use Rattle.std.proofs.Common.{◌≡◌, ◌∙◌, ap, sym, refl, arith, ℕ, zero, suc, ◌+◌, ◌-◌, ◌≤◌, ◌⊎◌, inl, inr, List, [], ◌∷◌, ◌++◌, append-nil, subst, Option, Some, None, Result, Ok, Err}
 use Rattle.std.specs.Prelude.{IfErr, IfSome, OnOk}
 use Rattle.std.specs.Io.KnownBytes.{Appends}
 use Rattle.xns_lines.specs.Faults.{AppendsFront, AppendsPart, Begins, HasWritten}
@@ -260,9 +260,3 @@ module _ {P : Type 0} (most : ℕ) (output : Output P (List ℕ)) where
       flushed_text all written = if_some _ _ start all (λ input h.
           let count = output.end_count (lines_of input) in
           all_left output count new mid after held (lines_of input) written (h.2 held begun))
-
-      pub flushed_refused : (refused : Bool) → refused ≡ new.page.is_refused → IfSome start All → IfSome start (λ input. refused ≡ output.has_refused (lines_of input) (output.end_count (lines_of input)))
-      flushed_refused refused e all = if_some _ _ start all (λ input h. e ∙ (h.2 held begun).refused)
-
-      pub within_all : IfSome start All → IfSome start (IsWithinLimits most)
-      within_all all = if_some _ _ start all (λ input h. h.1)
