@@ -1,6 +1,6 @@
 -- What a service's law needs of a table of one entry: a call that is listed, and whose value fits its arguments, names
 -- a procedure of the entry, and a version within the range of the entry.
-use Rattle.std.proofs.Common.{ℕ, Bool, true, false, Result, Some, None, Err, [], ◌∷◌}
+use Rattle.std.proofs.Common.{ℕ, Bool, true, false, Result, Some, None, Err}
 use Rattle.std.specs.Prelude.{if◌then◌else◌, ◌||◌, nat_lt}
 use Rattle.courier_types.specs.Value.{ValueModel}
 use Rattle.courier_calls.specs.Table.{EntryModel, ProcedureModel, procedure_of}

@@ -1,4 +1,4 @@
-use Rattle.std.proofs.Common.{◌≡◌, ◌∙◌, ◌∷◌, ap, refl, rules, sym, ℕ, List, Ok, Err, []}
+use Rattle.std.proofs.Common.{◌≡◌, ◌∙◌, ◌∷◌, ap, refl, rules, sym, ℕ, List, Ok, Err, [], inl}
 use Rattle.courier_messages.specs.RawCalls.{words_call}
 use Rattle.courier_messages.specs.declared.fault.SessionFault.TheVariants.{NoMemory}
 use Rattle.courier_messages.specs.declared.head.Head.{Head}
@@ -11,6 +11,13 @@ use Rattle.courier_calls.proofs.server.Server.carry_out.Goals as goal
 
 pub returns-in_default-clause-taken : goal.returns-in_default-clause-taken
 returns-in_default-clause-taken g c = no_call _ _ _ _ c.args.message.now refl refl refl (not_a_call c.args.message.now c.head.result c.head.ensures c.in_default.not-Call)
+
+pub returns-in_err-words-clause-taken : goal.returns-in_err-words-clause-taken
+returns-in_err-words-clause-taken g c =
+    let m = c.args.message.now in
+    let w : c.from_residual.result ≡ Err NoMemory = search rules in
+    let message = c.head.ensures ∙ ap (λ (h : Head). with_words h (words_in m)) c.in-Call.is in
+    runs_out g.S.Service.serving _ _ m c.from_residual.result c.in-Call.transaction (words_call c.in-Call.program c.in-Call.version c.in-Call.procedure (words_in m)) w message refl (inl refl)
 
 pub returns-in_err-answer-clause-taken : goal.returns-in_err-answer-clause-taken
 returns-in_err-answer-clause-taken g c =
@@ -28,3 +35,13 @@ returns-clause-taken g c =
     (ap (λ (n : Message). n ∷ []) (message ∙ call)) (ap (λ p. Ok p) (sym c.in_ok-answer.ensures.phase))
     (rw (← c.in_ok-words.ensures.words) at c.in_ok-answer.ensures.state)
     (rw (← c.in_ok-words.ensures.words) at c.in_ok-answer.ensures.out)
+
+pub returns-clause-out : goal.returns-clause-out
+returns-clause-out g c =
+    let m = c.args.message.now in
+    let message = c.head.ensures ∙ ap (λ (h : Head). with_words h (words_in m)) c.in-Call.is in
+    let call = ap (λ (ws : List ℕ). Call c.in-Call.transaction c.in-Call.program c.in-Call.version c.in-Call.procedure ws) (sym c.in_ok-words.ensures.words) in (
+      c.in-Call.transaction,
+      ap (λ (n : Message). n ∷ []) (message ∙ call),
+      rw (← c.in_ok-words.ensures.words) at c.in_ok-answer.ensures.out,
+    )
