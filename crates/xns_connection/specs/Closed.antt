@@ -14,7 +14,7 @@ use Rattle.xns_connection.specs.Telling.{GoesUntil, Tells, is_over}
 use Rattle.xns_connection.specs.declared.conversation.Conversation.{Conversation}
 use Rattle.xns_connection.specs.declared.why.Why.{Why}
 
--- it was open, and is closed
+-- a connection was open, and is closed
 abbrev pub is_closed_now : (was closed : Option Why) → Bool
 is_closed_now was closed = is_none was && is_some closed
 
