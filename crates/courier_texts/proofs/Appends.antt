@@ -38,6 +38,9 @@ done old now whole s = record {
   capacity = s.capacity;
 }
 
+pub all_printed : {old now : Vec ℕ Global} {left whole : List ℕ} → SoFar old now left whole → left ≡ [] → IsAppended whole old now
+all_printed {old} {now} {left} {whole} s none = done old now whole (left_is old now left [] whole s none)
+
 -- the last part
 pub ends : {A : Type 0} (r : Result A TextRefusal) (old now new : Vec ℕ Global) (a whole : List ℕ) → SoFar old now a whole → Appends r a now new → Appends r whole old new
 ends (Ok x) old now new a whole s p = done old new whole (goes_on old now new a [] whole (left_is old now a (a ++ []) whole s (sym (append-nil a))) p)

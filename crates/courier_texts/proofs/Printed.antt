@@ -5,7 +5,9 @@ use Rattle.courier_types.specs.declared.value.Value.{Value, Fields as VFields, C
 use Rattle.courier_types.specs.Value.{ValueModel, no_values, value_model, value_models}
 use Rattle.courier_texts.specs.declared.named.Named.{Named, Record, Choice, the_lemmas}
 use Rattle.courier_texts.specs.Named.{NamedModel, ComponentModels, component_and, variant_and, named_model, members_seen, components_seen, variants_seen, component_models, variant_models}
+use Rattle.courier_texts.specs.Appending.{IsAppended}
 use Rattle.courier_texts.specs.Printing.{member_text, components_text, variant_text, value_text}
+use Rattle.courier_texts.proofs.Appends.{SoFar, goes_on, left_is}
 
 pub item_here : {X : Type 0} (xs : List X) (i : ℕ) (x : X) → i < length xs → x ≡ get_or xs i x → drop i xs ≡ x ∷ drop (i + 1) xs
 item_here xs i x lt e = drop_more xs i x lt ∙ ap (λ y. y ∷ drop (i + 1) xs) (sym e)
@@ -30,19 +32,32 @@ past_member members i m word here h = ap (λ ms. member_text (members_seen ms) w
 
 -- ---- components
 
+-- the text of a component, and what stands behind that component
+abbrev pub part_text : Vec ℕ Global × Named → Value → List ℕ
+part_text part v = part.0.items ++ codes ": " ++ value_text (named_model part.1) (value_model v)
+
+abbrev pub more_text : List (Vec ℕ Global × Named) → List Value → ℕ → List ℕ
+more_text parts values i = components_text (codes ", ") (component_models (drop (i + 1) parts)) (value_models (drop (i + 1) values))
+
 pub components_here : (front : List ℕ) (parts : List (Vec ℕ Global × Named)) (values : List Value) (i : ℕ) (part : Vec ℕ Global × Named) (v : Value) → drop i parts ≡ part ∷ drop (i + 1) parts → drop i values ≡ v ∷ drop (i + 1) values
-    → components_text front (component_models (drop i parts)) (value_models (drop i values)) ≡ front ++ ((part.0.items ++ codes ": " ++ value_text (named_model part.1) (value_model v)) ++ components_text (codes ", ") (component_models (drop (i + 1) parts)) (value_models (drop (i + 1) values)))
+    → components_text front (component_models (drop i parts)) (value_models (drop i values)) ≡ front ++ (part_text part v ++ more_text parts values i)
 unfolding components_text
 components_here front parts values i part v here there =
     ap (λ ps. components_text front (component_models ps) (value_models (drop i values))) here
     ∙ ap (λ vs. components_text front (component_models (part ∷ drop (i + 1) parts)) (value_models vs)) there
-    ∙ append_assoc front (part.0.items ++ codes ": " ++ value_text (named_model part.1) (value_model v)) (components_text (codes ", ") (component_models (drop (i + 1) parts)) (value_models (drop (i + 1) values)))
+    ∙ append_assoc front (part_text part v) (more_text parts values i)
+
+-- the front of a component was printed
+pub front_printed : {old now next : Vec ℕ Global} {whole : List ℕ} (front : List ℕ) (parts : List (Vec ℕ Global × Named)) (values : List Value) (i : ℕ) (part : Vec ℕ Global × Named) (v : Value) → drop i parts ≡ part ∷ drop (i + 1) parts → drop i values ≡ v ∷ drop (i + 1) values
+    → SoFar old now (components_text front (component_models (drop i parts)) (value_models (drop i values))) whole → IsAppended front now next → SoFar old next (part_text part v ++ more_text parts values i) whole
+front_printed {old} {now} {next} {whole} front parts values i part v here there s put =
+    goes_on old now next front (part_text part v ++ more_text parts values i) whole (left_is old now _ _ whole s (components_here front parts values i part v here there)) put
 
 pub front_first : (front : List ℕ) (parts : List (Vec ℕ Global × Named)) (values : List Value) (i : ℕ) (part : Vec ℕ Global × Named) → drop i parts ≡ part ∷ drop (i + 1) parts → i < length values
     → (left : List ℕ) × (components_text front (component_models (drop i parts)) (value_models (drop i values)) ≡ front ++ left)
 front_first front parts values i part here lt =
     let some = some_left values i lt in
-    ((part.0.items ++ codes ": " ++ value_text (named_model part.1) (value_model some.0)) ++ components_text (codes ", ") (component_models (drop (i + 1) parts)) (value_models (drop (i + 1) values)), components_here front parts values i part some.0 here some.1)
+    (part_text part some.0 ++ more_text parts values i, components_here front parts values i part some.0 here some.1)
 
 none_left : (front : List ℕ) (parts : ComponentModels) → components_text front parts no_values ≡ []
 unfolding components_text

@@ -145,20 +145,21 @@ fn print_list(out: &mut Vec<u8>, element: &Named, values: &[Value]) -> Result<()
     append(out, b"]")
 }
 
-/// A component: its name, a colon and its value.
+/// A component or a candidate: its name, a mark and its value.
 #[cycle(print)]
-fn print_component(
+fn print_part(
     out: &mut Vec<u8>,
     name: &[u8],
+    mark: &[u8],
     part: &Named,
     value: &Value,
 ) -> Result<(), TextRefusal>
     requires { vec_len out.old ≤ most_text }
-    ensures { Appends result (name.now ++ codes ": "
+    ensures { Appends result (name.now ++ mark.now
         ++ value_text (named_model part.now) (value_model value.now)) out.old out.new }
 {
     append(out, name)?;
-    append(out, b": ")?;
+    append(out, mark)?;
     print_value(out, part, value)
 }
 
@@ -178,7 +179,7 @@ fn print_components(
             return Ok(());
         }
         append(out, front)?;
-        print_component(out, &component.0, &component.1, &values[i])?;
+        print_part(out, &component.0, b": ", &component.1, &values[i])?;
         front = b", ";
     }
     Ok(())
@@ -201,23 +202,6 @@ pub fn print_record(
     append(out, b"]")
 }
 
-/// A candidate: its name and its value.
-#[cycle(print)]
-fn print_variant(
-    out: &mut Vec<u8>,
-    name: &[u8],
-    part: &Named,
-    value: &Value,
-) -> Result<(), TextRefusal>
-    requires { vec_len out.old ≤ most_text }
-    ensures { Appends result (name.now ++ codes " "
-        ++ value_text (named_model part.now) (value_model value.now)) out.old out.new }
-{
-    append(out, name)?;
-    append(out, b" ")?;
-    print_value(out, part, value)
-}
-
 /// The candidate that has the designator, with its value; nothing where none has it.
 #[cycle(print)]
 fn print_chosen(
@@ -231,7 +215,7 @@ fn print_chosen(
 {
     for variant in variants {
         if variant.1.0 == designator {
-            return print_variant(out, &variant.0, &variant.1.1, value);
+            return print_part(out, &variant.0, b" ", &variant.1.1, value);
         }
     }
     Ok(())
