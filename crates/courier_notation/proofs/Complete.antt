@@ -2,7 +2,7 @@
 use Rattle.std.proofs.Common.{◌≡◌, ℕ, zero, suc, ◌+◌, ◌<◌, ◌≤◌, Bool, true, cond, List, [], ◌∷◌, ◌++◌, length, Option, Some, None, Result, Ok, Err, refl, ap, ◌∙◌, append_assoc, arith}
 use Rattle.std.specs.List.{AllByRecursion}
 use Rattle.std.proofs.lemmas.Bool.{lt-ltb}
-use Rattle.courier_notation.specs.declared.reason.Reason.{Reason}
+use Rattle.courier_notation.specs.declared.reason.Reason.TheVariants as reasons
 use Rattle.courier_notation.specs.declared.token.Token.{Token}
 use Rattle.courier_notation.specs.declared.token.Token.TheVariants as tokens
 use Rattle.courier_notation.specs.declared.written.Numeric.{Numeric}
@@ -10,7 +10,7 @@ use Rattle.courier_notation.specs.declared.written.Numeric.TheVariants as numeri
 use Rattle.courier_notation.specs.declared.written.Reference.{Reference}
 use Rattle.courier_notation.specs.declared.written.Reference.TheVariants as references
 use Rattle.courier_notation.specs.Written.{TypeModel, FieldModels, no_fields, field_and, CandidateModels, no_candidates, candidate_and, Designator, fields_from, candidates_from}
-use Rattle.courier_notation.specs.Reading.{Fault, ◌>>=◌, Reader, over, behind_comma, others_at, listed, most_parts, name_at, reference_behind, word_of, numeric_at, close_bracket_at}
+use Rattle.courier_notation.specs.Reading.{Fault, ◌>>=◌, Reader, over, behind_comma, others_at, listed, most_parts, name_at, reference_behind, small_or_fault, numeric_at, token_at}
 use Rattle.courier_notation.specs.Reading.{member_at, designator_behind, designator_at, field_at, fields_behind, fields_at, candidate_at, tag_at, maximum_at, enumeration_behind, array_behind, sequence_behind, choice_behind, record_behind, type_behind, type_at}
 use Rattle.courier_notation.specs.Spelling.{name_spelling, numeric_spelling, maximum_spelling, tag_spelling, member_spelling, designator_spelling, more_spelling, parts_spelling}
 use Rattle.courier_notation.specs.Spelling.{type_spelling, fields_spelling, more_fields_spelling, candidates_spelling, more_candidates_spelling, IsNumeric, IsNumberIfAny, AreParts, field_count, candidate_count, IsType, AreFields, AreCandidates, is_apart}
@@ -25,12 +25,12 @@ pub own_read : (n : ℕ) (ts : List Token) → is_apart ts ≡ true → referenc
 own_read n (tokens.Dot ∷ ts) h = absurd cc
 own_read n ts h = refl
 
-word_read : (n : ℕ) (ts : List Token) → n < 65536 → word_of n ts ≡ got (numerics.Number n) ts
-word_read n ts lt = ap (λ (b : Bool). cond b (got (numerics.Number n) ts) (Err (length ts + 1, Reason.LargeNumber))) (lt-ltb n 65536 lt)
+pub small_word : (n : ℕ) (ts : List Token) → n < 65536 → small_or_fault n ts ≡ got n ts
+small_word n ts lt = ap (λ (b : Bool). cond b (got n ts) (Err (length ts + 1, reasons.LargeNumber))) (lt-ltb n 65536 lt)
 
 numeric_read : (x : Numeric) (ts : List Token) → IsNumeric x → is_apart ts ≡ true → numeric_at (numeric_spelling x ++ ts) ≡ got x ts
 unfolding numeric_at
-numeric_read (numerics.Number n) ts good apart = word_read n ts good
+numeric_read (numerics.Number n) ts good apart = ap (over numerics.Number) (small_word n ts good)
 numeric_read (numerics.Constant (references.Own n)) ts good apart = ap (over numerics.Constant) (own_read n ts apart)
 numeric_read (numerics.Constant (references.Other p n)) ts good apart = refl
 
@@ -159,7 +159,7 @@ fields_step depth most names type fields rest parts h others =
     rw (append_assoc (parts_spelling name_spelling names ++ tokens.Colon ∷ type_spelling type) (more_fields_spelling fields) rest, field_read depth names type (more_fields_spelling fields ++ rest) parts h, others) refl
 
 -- the first component is none: its first token is a name
-inside_some : (one : Reader TypeModel) (names : List ℕ) (ts text : List Token) → AreParts names → ts ≡ parts_spelling name_spelling names ++ text → fields_behind one ts ≡ (listed (field_at one) most_parts ts >>= λ fields. close_bracket_at fields.1 >>= λ rest. got fields.0 rest)
+inside_some : (one : Reader TypeModel) (names : List ℕ) (ts text : List Token) → AreParts names → ts ≡ parts_spelling name_spelling names ++ text → fields_behind one ts ≡ (listed (field_at one) most_parts ts >>= λ fields. token_at tokens.CloseBracket reasons.NoCloseBracket fields.1 >>= λ rest. got fields.0 rest)
 unfolding fields_behind
 inside_some one [] ts text parts e = absurd (omega arith)
 inside_some one (n ∷ names) ts text parts e = rw e refl
@@ -174,7 +174,7 @@ record_read depth names type fields rest parts h =
     let begun : text ++ tokens.CloseBracket ∷ rest ≡ parts_spelling name_spelling names ++ ((tokens.Colon ∷ type_spelling type) ++ (more_fields_spelling fields ++ tokens.CloseBracket ∷ rest)) = simp append_assoc in
     let inside : fields_behind (type_at depth) (text ++ tokens.CloseBracket ∷ rest) ≡ got ((names, type) ∷ fields_to fields) rest =
     inside_some (type_at depth) names (text ++ tokens.CloseBracket ∷ rest) ((tokens.Colon ∷ type_spelling type) ++ (more_fields_spelling fields ++ tokens.CloseBracket ∷ rest)) parts begun
-    ∙ ap (λ (r : Result (List (List ℕ × TypeModel) × List Token) Fault). r >>= λ fields. close_bracket_at fields.1 >>= λ rest. got fields.0 rest) h in
+    ∙ ap (λ (r : Result (List (List ℕ × TypeModel) × List Token) Fault). r >>= λ fields. token_at tokens.CloseBracket reasons.NoCloseBracket fields.1 >>= λ rest. got fields.0 rest) h in
     ap (λ (t : List Token). over (λ fields. TypeModel.fields (fields_from fields)) (fields_behind (type_at depth) t)) regrouped
     ∙ ap (over (λ fields. TypeModel.fields (fields_from fields))) inside
     ∙ ap (λ (f : FieldModels). got (TypeModel.fields (field_and names type f)) rest) (fields_back fields)

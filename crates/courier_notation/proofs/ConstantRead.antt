@@ -2,11 +2,12 @@
 use Rattle.std.proofs.Common.{◌≡◌, ℕ, zero, suc, ◌≤◌, Bool, true, false, cond, List, [], ◌∷◌, ◌++◌, Result, Ok, refl, ap, subst, ◌∙◌, append_assoc, arith, inl, inr}
 use Rattle.courier_notation.specs.declared.declared.Constant.{Constant}
 use Rattle.courier_notation.specs.declared.declared.Constant.TheVariants as constants
+use Rattle.courier_notation.specs.declared.reason.Reason.TheVariants as reasons
 use Rattle.courier_notation.specs.declared.token.Token.{Token}
 use Rattle.courier_notation.specs.declared.token.Token.TheVariants as tokens
 use Rattle.courier_notation.specs.declared.written.Reference.{Reference}
 use Rattle.courier_notation.specs.declared.written.Reference.TheVariants as references
-use Rattle.courier_notation.specs.Reading.{Fault, ◌>>=◌, Reader, over, behind_comma, others_at, listed, most_parts, reference_behind, close_bracket_at}
+use Rattle.courier_notation.specs.Reading.{Fault, ◌>>=◌, Reader, over, behind_comma, others_at, listed, most_parts, reference_behind, token_at}
 use Rattle.courier_notation.specs.Programs.{long_at, begins_constant, chosen_behind, component_behind, element_at, elements_behind, constant_behind, constant_at}
 use Rattle.courier_notation.specs.Spelling.{reference_spelling}
 use Rattle.courier_notation.specs.ProgramSpelling.{SpellsConstant, SpellsElement, SpellsElements, number, negative, quoted, is_true, is_false, named, chosen, nothing, listed as listed_elements, alone, component, last, more}
@@ -40,8 +41,8 @@ component_found : (depth : ℕ) → Finds depth → (ts : List Token) (c : Const
 component_found depth find ts c text [] x t s e = subst (λ (p : Constant × List Token). IsElementFound depth ts p.1) (ok_is (c, []) x e) (record { text = text; takes = t; spells = alone depth c text s })
 component_found depth find ts c text (tokens.Colon ∷ after) x t s e =
     let f = find after x e in
-    let behind = Takes-behind tokens.Colon (tokens.Colon ∷ after) after f.text x.1 refl f.takes in
-    record { text = text ++ tokens.Colon ∷ f.text; takes = Takes-then ts text (tokens.Colon ∷ after) (tokens.Colon ∷ f.text) x.1 t behind; spells = component depth c x.0 text f.text s f.spells }
+    let behind = Takes-behind tokens.Colon refl f.takes in
+    record { text = text ++ tokens.Colon ∷ f.text; takes = Takes-then t behind; spells = component depth c x.0 text f.text s f.spells }
 component_found depth find ts c text (u ∷ after) x t s e = subst (λ (p : Constant × List Token). IsElementFound depth ts p.1) (ok_is (c, u ∷ after) x e) (record { text = text; takes = t; spells = alone depth c text s })
 
 element_found : (depth : ℕ) → Finds depth → (ts : List Token) (x : Constant × List Token) → element_at (constant_at depth) ts ≡ Ok x → IsElementFound depth ts x.1
@@ -63,8 +64,8 @@ elements_found depth find (suc most) ts x e =
     elim (others_ok (listed one most) b.0.1 (behind_comma b.0.1) o.0.0 o.0.1 o.1) [
       | inl m ↦
           let l = elements_found depth find most m.0 (o.0.0, o.0.1) m.2 in
-          let behind = Takes-behind tokens.Comma b.0.1 m.0 l.text o.0.1 (comma_is b.0.1 m.0 m.1) l.takes in
-          record { count = suc l.count; text = first.text ++ tokens.Comma ∷ l.text; takes = Takes-then ts first.text b.0.1 (tokens.Comma ∷ l.text) o.0.1 first.takes behind; few = omega (arith, l.few); spells = more depth l.count first.text l.text first.spells l.spells }
+          let behind = Takes-behind tokens.Comma (comma_is b.0.1 m.0 m.1) l.takes in
+          record { count = suc l.count; text = first.text ++ tokens.Comma ∷ l.text; takes = Takes-then first.takes behind; few = omega (arith, l.few); spells = more depth l.count first.text l.text first.spells l.spells }
       | inr n ↦
           let here : Takes ts first.text o.0.1 = subst (λ (r : List Token). Takes ts first.text r) n.2 first.takes in
           record { count = 1; text = first.text; takes = here; few = omega arith; spells = last depth first.text first.spells }
@@ -74,16 +75,16 @@ elements_found depth find (suc most) ts x e =
 abbrev brackets : ℕ → List Token → Result (Constant × List Token) Fault
 brackets depth ts = do
   elements ← listed (element_at (constant_at depth)) most_parts ts
-  rest ← close_bracket_at elements.1
+  rest ← token_at tokens.CloseBracket reasons.NoCloseBracket elements.1
   Ok (constants.Other, rest)
 
 some_found : (depth : ℕ) → Finds depth → (ts : List Token) (x : Constant × List Token) → brackets depth ts ≡ Ok x → IsFound (suc depth) (tokens.OpenBracket ∷ ts) x
 some_found depth find ts x e =
     let a = bind_ok (listed (element_at (constant_at depth)) most_parts ts) _ x e in
-    let b = bind_ok (close_bracket_at a.0.1) _ x a.2 in
+    let b = bind_ok (token_at tokens.CloseBracket reasons.NoCloseBracket a.0.1) _ x a.2 in
     let l = elements_found depth find most_parts ts a.0 a.1 in
-    let inside = Takes-then ts l.text a.0.1 (tokens.CloseBracket ∷ []) b.0 l.takes (Takes-one tokens.CloseBracket a.0.1 b.0 (close_bracket_is a.0.1 b.0 b.1)) in
-    let whole = Takes-behind tokens.OpenBracket (tokens.OpenBracket ∷ ts) ts (l.text ++ tokens.CloseBracket ∷ []) b.0 refl inside in
+    let inside = Takes-then l.takes (Takes-one tokens.CloseBracket (close_bracket_is a.0.1 b.0 b.1)) in
+    let whole = Takes-behind tokens.OpenBracket refl inside in
     subst (λ (p : Constant × List Token). IsFound (suc depth) (tokens.OpenBracket ∷ ts) p) (ok_is (constants.Other, b.0) x b.2)
     (record { text = tokens.OpenBracket ∷ (l.text ++ tokens.CloseBracket ∷ []); takes = whole; spells = listed_elements depth l.count l.text l.few l.spells })
 
@@ -102,7 +103,7 @@ choice_found depth find ts r after true x t e =
     let o = over_ok (λ c. constants.Other) (constant_at depth after) x e in
     let f = find after o.0 o.1 in
     subst (λ (p : Constant × List Token). IsFound (suc depth) ts p) o.2
-    (record { text = reference_spelling r ++ f.text; takes = Takes-then ts (reference_spelling r) after f.text o.0.1 t f.takes; spells = chosen depth r o.0.0 f.text f.spells })
+    (record { text = reference_spelling r ++ f.text; takes = Takes-then t f.takes; spells = chosen depth r o.0.0 f.text f.spells })
 choice_found depth find ts r after false x t e =
     subst (λ (p : Constant × List Token). IsFound (suc depth) ts p) (ok_is (constants.Named r, after) x e) (record { text = reference_spelling r; takes = t; spells = named depth r })
 
@@ -241,7 +242,7 @@ component_read : (depth : ℕ) (c d : Constant) (ts after rest : List Token) →
 unfolding element_at
 component_read depth c d ts after rest e f = rw e f
 
-inside_read : (one : Reader Constant) (ts : List Token) → begins_constant ts ≡ true → elements_behind one ts ≡ (listed (element_at one) most_parts ts >>= λ elements. close_bracket_at elements.1 >>= λ rest. got constants.Other rest)
+inside_read : (one : Reader Constant) (ts : List Token) → begins_constant ts ≡ true → elements_behind one ts ≡ (listed (element_at one) most_parts ts >>= λ elements. token_at tokens.CloseBracket reasons.NoCloseBracket elements.1 >>= λ rest. got constants.Other rest)
 unfolding elements_behind
 inside_read one [] h = absurd cc
 inside_read one (tokens.CloseBracket ∷ ts) h = absurd cc

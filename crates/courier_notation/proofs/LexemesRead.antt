@@ -10,8 +10,8 @@ use Rattle.courier_notation.specs.declared.reason.Reason.TheVariants as reasons
 use Rattle.courier_notation.specs.declared.token.Token.{Token}
 use Rattle.courier_notation.specs.declared.token.Token.TheVariants as tokens
 use Rattle.courier_notation.specs.Reading.{Fault}
-use Rattle.courier_notation.specs.Lexing.{is_blank, is_letter, is_digit, is_name_byte, is_no_quote, skipped, front_of, behind_front, digits_number, long_of, keyword_of, most_name, LexemeModel, LexemeRead, keyword_or_name, word_at, number_or_fault, number_at, quoted_ended, quoted_at, lexeme_at, lexeme_in, Lexing, nothing_read, with_lexeme, lexed_at, lexed_from, most_tokens, most_text, lexing_of}
-use Rattle.courier_notation.specs.LexemeSpelling.{token_spelling, lexeme_spelling, IsPlain, IsWord, IsLexeme, lexemes_spelling, lexing_with}
+use Rattle.courier_notation.specs.Lexing.{is_blank, is_letter, is_digit, is_name_byte, is_no_quote, skipped, front_of, behind_front, digits_number, long_of, token_spelling, keyword_of, most_name, LexemeModel, LexemeRead, keyword_or_name, word_at, number_or_fault, number_at, quoted_ended, quoted_at, lexeme_at, lexeme_in, Lexing, nothing_read, with_lexeme, lexed_at, lexed_from, most_tokens, most_text, lexing_of}
+use Rattle.courier_notation.specs.LexemeSpelling.{lexeme_spelling, IsPlain, IsWord, IsLexeme, lexemes_spelling, lexing_with}
 use Rattle.courier_notation.specs.Laws.{SpelledLexemesAreRead}
 
 both : (a b : Bool) → (a && b) ≡ true → (a ≡ true) × (b ≡ true)

@@ -1,10 +1,8 @@
 -- Tokens that spell a program are read as that program.
-use Rattle.std.proofs.Common.{◌≡◌, ℕ, zero, suc, ◌+◌, ◌<◌, ◌≤◌, Bool, true, false, cond, List, [], ◌∷◌, ◌++◌, length, Ok, Err, refl, sym, ap, ◌∙◌, append_assoc, arith, inl, inr}
+use Rattle.std.proofs.Common.{◌≡◌, ℕ, zero, suc, ◌<◌, ◌≤◌, Bool, true, false, List, [], ◌∷◌, ◌++◌, length, Ok, refl, sym, ap, ◌∙◌, append_assoc, arith, inl, inr}
 use Rattle.std.specs.List.{AllByRecursion}
-use Rattle.std.proofs.lemmas.Bool.{lt-ltb}
 use Rattle.courier_notation.specs.declared.declared.Constant.{Constant}
 use Rattle.courier_notation.specs.declared.declared.Dependency.{Dependency}
-use Rattle.courier_notation.specs.declared.reason.Reason.{Reason}
 use Rattle.courier_notation.specs.declared.token.Token.{Token}
 use Rattle.courier_notation.specs.declared.token.Token.TheVariants as tokens
 use Rattle.courier_notation.specs.declared.written.Reference.{Reference}
@@ -12,16 +10,13 @@ use Rattle.courier_notation.specs.declared.written.Reference.TheVariants as refe
 use Rattle.courier_notation.specs.Written.{TypeModel, fields_from}
 use Rattle.courier_notation.specs.ProgramModels.{DeclaredModel, FieldList, ProgramModel}
 use Rattle.courier_notation.specs.Reading.{Reader, most_parts, fields_at, type_at, record_behind, type_behind}
-use Rattle.courier_notation.specs.Programs.{most_depth, small_or_fault, small_at, constant_at, arguments_at, results_at, reference_at, reports_at}
+use Rattle.courier_notation.specs.Programs.{most_depth, small_at, constant_at, arguments_at, results_at, reference_at, reports_at}
 use Rattle.courier_notation.specs.Programs.{procedure_behind, error_behind, type_declared, constant_declared, declared_at, declaration_at, is_end, most_declarations, declarations_at, dependency_at, dependencies_at, header_at, body_at, program_with, program_of}
 use Rattle.courier_notation.specs.Spelling.{reference_spelling, parts_spelling, type_spelling, fields_spelling, AreFields, AreParts, field_count, is_apart}
 use Rattle.courier_notation.specs.ProgramSpelling.{SpellsFields, SaysNothing, SpellsArguments, SpellsResults, SpellsReports, numbered, SpellsDeclared, SpellsDeclaration, SpellsDeclarations, dependency_spelling, IsDependency, SpellsDependencies, SpellsProgram}
 use Rattle.courier_notation.proofs.Takes.{over_ok, Any}
-use Rattle.courier_notation.proofs.Complete.{any_all, got, own_read, IsComplete, some_read, type_read}
+use Rattle.courier_notation.proofs.Complete.{any_all, got, own_read, IsComplete, small_word, some_read, type_read}
 use Rattle.courier_notation.proofs.ConstantRead.{constant_read}
-
-small_word : (n : ℕ) (ts : List Token) → n < 65536 → small_or_fault n ts ≡ got n ts
-small_word n ts lt = ap (λ (b : Bool). cond b (got n ts) (Err (length ts + 1, Reason.LargeNumber))) (lt-ltb n 65536 lt)
 
 small_read : (n : ℕ) (ts : List Token) → n < 65536 → small_at (tokens.Number n ∷ ts) ≡ got n ts
 unfolding small_at

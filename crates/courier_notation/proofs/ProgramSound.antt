@@ -1,48 +1,25 @@
 -- Tokens that are read as a program spell it.
-use Rattle.std.proofs.Common.{◌≡◌, ◌⊎◌, ℕ, zero, suc, ◌<◌, ◌≤◌, Bool, true, false, cond, ltb, List, [], ◌∷◌, ◌++◌, length, Result, Ok, Err, refl, sym, ap, subst, ◌∙◌, append-nil, arith, inl, inr}
+use Rattle.std.proofs.Common.{◌≡◌, ◌⊎◌, ℕ, zero, suc, ◌<◌, ◌≤◌, Bool, true, false, cond, List, [], ◌∷◌, ◌++◌, length, Result, Ok, Err, refl, sym, ap, subst, ◌∙◌, append-nil, arith, inl, inr}
 use Rattle.std.specs.List.{AllByRecursion}
-use Rattle.std.proofs.lemmas.Bool.{ltb-true}
 use Rattle.courier_notation.specs.declared.declared.Dependency.{Dependency}
 use Rattle.courier_notation.specs.declared.reason.Reason.{Reason}
+use Rattle.courier_notation.specs.declared.reason.Reason.TheVariants as reasons
 use Rattle.courier_notation.specs.declared.token.Token.{Token}
 use Rattle.courier_notation.specs.declared.token.Token.TheVariants as tokens
 use Rattle.courier_notation.specs.declared.written.Reference.{Reference}
 use Rattle.courier_notation.specs.Written.{fields_from}
 use Rattle.courier_notation.specs.ProgramModels.{DeclaredModel, FieldList, ProgramModel}
-use Rattle.courier_notation.specs.Reading.{Fault, ◌>>=◌, over, listed, most_parts, name_at, colon_at, open_bracket_at, close_bracket_at, open_parenthesis_at, close_parenthesis_at, fields_behind, fields_at, type_at}
-use Rattle.courier_notation.specs.Programs.{most_depth, begin_at, end_at, program_at, version_at, upon_at, equal_at, semicolon_at, dot_at, long_at, small_at, constant_at, arguments_at, results_at, reference_at, reports_at}
+use Rattle.courier_notation.specs.Reading.{Fault, ◌>>=◌, over, listed, most_parts, token_at, name_at, fields_behind, fields_at, type_at}
+use Rattle.courier_notation.specs.Programs.{most_depth, long_at, small_at, constant_at, arguments_at, results_at, reference_at, reports_at}
 use Rattle.courier_notation.specs.Programs.{procedure_behind, error_behind, type_declared, constant_declared, declared_at, declaration_at, is_end, most_declarations, declarations_at, dependency_at, dependencies_at, nothing_at, Header, header_at, body_at, program_with, program_of}
 use Rattle.courier_notation.specs.Spelling.{reference_spelling, parts_spelling, type_spelling, fields_spelling, AreParts}
 use Rattle.courier_notation.specs.ProgramSpelling.{SpellsFields, SaysNothing, SpellsArguments, SpellsResults, SpellsReports, numbered, SpellsDeclared, SpellsDeclaration, SpellsDeclarations, dependency_spelling, IsDependency, SpellsDependencies, SpellsProgram}
-use Rattle.courier_notation.proofs.Takes.{done, ok_is, bind_ok, over_ok, Takes, Takes-then, Takes-behind, Takes-one, TakesOnly, IsSound, Any, listed_takes, name_takes, reference_takes, colon_is, open_bracket_is, close_bracket_is, open_parenthesis_is, close_parenthesis_is}
+use Rattle.courier_notation.proofs.Takes.{done, ok_is, bind_ok, over_ok, Takes, Takes-then, Takes-behind, Takes-one, IsSound, IsSmall, Any, listed_takes, name_takes, reference_takes, small_behind_takes}
+use Rattle.courier_notation.proofs.Takes.{colon_is, open_bracket_is, close_bracket_is, open_parenthesis_is, close_parenthesis_is, begin_is, end_is, program_is, version_is, upon_is, equal_is, semicolon_is, dot_is}
 use Rattle.courier_notation.proofs.Sound.{type_takes, fields_behind_take}
 use Rattle.courier_notation.proofs.ConstantRead.{constant_takes}
 
--- ---- single tokens
-
-begin_is : TakesOnly tokens.Begin begin_at
-begin_is = elim [ tokens.Begin ∷ ts ↦ λ rest e. cc | _ ↦ λ rest e. absurd cc ]
-
-end_is : TakesOnly tokens.End end_at
-end_is = elim [ tokens.End ∷ ts ↦ λ rest e. cc | _ ↦ λ rest e. absurd cc ]
-
-program_is : TakesOnly tokens.Program program_at
-program_is = elim [ tokens.Program ∷ ts ↦ λ rest e. cc | _ ↦ λ rest e. absurd cc ]
-
-version_is : TakesOnly tokens.Version version_at
-version_is = elim [ tokens.Version ∷ ts ↦ λ rest e. cc | _ ↦ λ rest e. absurd cc ]
-
-upon_is : TakesOnly tokens.Upon upon_at
-upon_is = elim [ tokens.Upon ∷ ts ↦ λ rest e. cc | _ ↦ λ rest e. absurd cc ]
-
-equal_is : TakesOnly tokens.Equal equal_at
-equal_is = elim [ tokens.Equal ∷ ts ↦ λ rest e. cc | _ ↦ λ rest e. absurd cc ]
-
-semicolon_is : TakesOnly tokens.Semicolon semicolon_at
-semicolon_is = elim [ tokens.Semicolon ∷ ts ↦ λ rest e. cc | _ ↦ λ rest e. absurd cc ]
-
-dot_is : TakesOnly tokens.Dot dot_at
-dot_is = elim [ tokens.Dot ∷ ts ↦ λ rest e. cc | _ ↦ λ rest e. absurd cc ]
+-- ---- numbers
 
 abbrev number_spelling : ℕ → List Token
 number_spelling n = tokens.Number n ∷ []
@@ -52,20 +29,13 @@ long_takes [] n rest e = absurd cc
 long_takes (tokens.Number m ∷ ts) n rest e = subst (λ (p : ℕ × List Token). Takes (tokens.Number m ∷ ts) (number_spelling p.0) p.1 × Unit {0}) (ok_is (m, ts) (n, rest) e) (record { parts = refl }, tt)
 long_takes (t ∷ ts) n rest e = absurd cc
 
-small_is : (n : ℕ) (b : Bool) (ts : List Token) (f : Fault) (x : ℕ × List Token) → ltb n 65536 ≡ b → cond {A = Result (ℕ × List Token) Fault} b (Ok (n, ts)) (Err f) ≡ Ok x → ((n, ts) ≡ x) × (n < 65536)
-small_is n false ts f x h e = absurd cc
-small_is n true ts f x h e = (ok_is (n, ts) x e, ltb-true n 65536 h)
-
-abbrev IsSmall : ℕ → Type 0
-IsSmall n = n < 65536
-
 small_takes : IsSound number_spelling IsSmall small_at
 unfolding small_at
 small_takes ts n rest e =
     let a = bind_ok (long_at ts) _ (n, rest) e in
     let t = long_takes ts a.0.0 a.0.1 a.1 in
-    let s = small_is a.0.0 (ltb a.0.0 65536) a.0.1 _ (n, rest) refl a.2 in
-    subst (λ (p : ℕ × List Token). Takes ts (number_spelling p.0) p.1 × IsSmall p.0) s.0 (t.0, s.1)
+    let s = small_behind_takes a.0.0 a.0.1 (n, rest) a.2 in
+    (record { parts = t.0.parts ∙ s.0.parts }, s.1)
 
 -- ---- parts of declarations
 
@@ -78,10 +48,10 @@ record Found {A : Type 0} (Spells : A → List Token → Type 0) (ts : List Toke
 fields_found : (ts : List Token) (x : FieldList × List Token) → fields_at (type_at most_depth) ts ≡ Ok x → Found SpellsFields ts x
 unfolding fields_at
 fields_found ts x e =
-    let a = bind_ok (open_bracket_at ts) (fields_behind (type_at most_depth)) x e in
+    let a = bind_ok (token_at tokens.OpenBracket reasons.NoOpenBracket ts) (fields_behind (type_at most_depth)) x e in
     let f = fields_behind_take most_depth (type_takes most_depth) a.0 x.0 x.1 a.2 in
     let text = fields_spelling (fields_from x.0) ++ tokens.CloseBracket ∷ [] in
-    record { text = tokens.OpenBracket ∷ text; takes = Takes-behind tokens.OpenBracket ts a.0 text x.1 (open_bracket_is ts a.0 a.1) f.takes; spells = (f.few, f.good, refl) }
+    record { text = tokens.OpenBracket ∷ text; takes = Takes-behind tokens.OpenBracket (open_bracket_is ts a.0 a.1) f.takes; spells = (f.few, f.good, refl) }
 
 -- nothing was said
 nothing_found : {A : Type 0} (Says : List A → List Token → Type 0) (ts : List Token) (x : List A × List Token) → done ([], ts) ≡ Ok x → Found (λ xs text. SaysNothing xs text ⊎ Says xs text) ts x
@@ -103,7 +73,7 @@ unfolding results_at
 results_found [] x e = nothing_found SaysResults [] x e
 results_found (tokens.Returns ∷ ts) x e =
     let f = fields_found ts x e in
-    record { text = tokens.Returns ∷ f.text; takes = Takes-behind tokens.Returns (tokens.Returns ∷ ts) ts f.text x.1 refl f.takes; spells = inr (f.text, refl, f.spells) }
+    record { text = tokens.Returns ∷ f.text; takes = Takes-behind tokens.Returns refl f.takes; spells = inr (f.text, refl, f.spells) }
 results_found (t ∷ ts) x e = nothing_found SaysResults (t ∷ ts) x e
 
 whole_takes : IsSound reference_spelling Any reference_at
@@ -121,23 +91,23 @@ reports_found : (ts : List Token) (x : List Reference × List Token) → reports
 unfolding reports_at
 reports_found [] x e = nothing_found SaysReports [] x e
 reports_found (tokens.Reports ∷ ts) x e =
-    let a = bind_ok (open_bracket_at ts) _ x e in
+    let a = bind_ok (token_at tokens.OpenBracket reasons.NoOpenBracket ts) _ x e in
     let b = bind_ok (listed reference_at most_parts a.0) _ x a.2 in
-    let c = bind_ok (close_bracket_at b.0.1) _ x b.2 in
+    let c = bind_ok (token_at tokens.CloseBracket reasons.NoCloseBracket b.0.1) _ x b.2 in
     let l = listed_takes reference_spelling Any reference_at whole_takes most_parts a.0 b.0.0 b.0.1 b.1 in
     let text = parts_spelling reference_spelling b.0.0 ++ tokens.CloseBracket ∷ [] in
-    let inside = Takes-then a.0 (parts_spelling reference_spelling b.0.0) b.0.1 (tokens.CloseBracket ∷ []) c.0 l.takes (Takes-one tokens.CloseBracket b.0.1 c.0 (close_bracket_is b.0.1 c.0 c.1)) in
-    let opened = Takes-behind tokens.OpenBracket ts a.0 text c.0 (open_bracket_is ts a.0 a.1) inside in
-    let whole = Takes-behind tokens.Reports (tokens.Reports ∷ ts) ts (tokens.OpenBracket ∷ text) c.0 refl opened in
+    let inside = Takes-then l.takes (Takes-one tokens.CloseBracket (close_bracket_is b.0.1 c.0 c.1)) in
+    let opened = Takes-behind tokens.OpenBracket (open_bracket_is ts a.0 a.1) inside in
+    let whole = Takes-behind tokens.Reports refl opened in
     subst (λ (p : List Reference × List Token). Found SpellsReports (tokens.Reports ∷ ts) p) (ok_is (b.0.0, c.0) x c.2)
     (record { text = tokens.Reports ∷ tokens.OpenBracket ∷ text; takes = whole; spells = inr ((l.some, l.few), refl) })
 reports_found (t ∷ ts) x e = nothing_found SaysReports (t ∷ ts) x e
 
 -- a number behind an equals sign
-numbered_takes : (ts : List Token) (rest : List Token) (n : ℕ × List Token) → equal_at ts ≡ Ok rest → small_at rest ≡ Ok n → Takes ts (numbered n.0) n.1 × IsSmall n.0
+numbered_takes : (ts : List Token) (rest : List Token) (n : ℕ × List Token) → token_at tokens.Equal reasons.NoEqual ts ≡ Ok rest → small_at rest ≡ Ok n → Takes ts (numbered n.0) n.1 × IsSmall n.0
 numbered_takes ts rest n e f =
     let t = small_takes rest n.0 n.1 f in
-    (Takes-behind tokens.Equal ts rest (tokens.Number n.0 ∷ []) n.1 (equal_is ts rest e) t.0, t.1)
+    (Takes-behind tokens.Equal (equal_is ts rest e) t.0, t.1)
 
 -- ---- declarations
 
@@ -147,52 +117,52 @@ procedure_found ts x e =
     let a = bind_ok (arguments_at ts) _ x e in
     let b = bind_ok (results_at a.0.1) _ x a.2 in
     let c = bind_ok (reports_at b.0.1) _ x b.2 in
-    let d = bind_ok (equal_at c.0.1) _ x c.2 in
+    let d = bind_ok (token_at tokens.Equal reasons.NoEqual c.0.1) _ x c.2 in
     let f = bind_ok (small_at d.0) _ x d.2 in
     let fa = arguments_found ts a.0 a.1 in
     let fb = results_found a.0.1 b.0 b.1 in
     let fc = reports_found b.0.1 c.0 c.1 in
     let n = numbered_takes c.0.1 d.0 f.0 d.1 f.1 in
-    let t2 = Takes-then b.0.1 fc.text c.0.1 (numbered f.0.0) f.0.1 fc.takes n.0 in
-    let t1 = Takes-then a.0.1 fb.text b.0.1 (fc.text ++ numbered f.0.0) f.0.1 fb.takes t2 in
-    let t0 = Takes-then ts fa.text a.0.1 (fb.text ++ (fc.text ++ numbered f.0.0)) f.0.1 fa.takes t1 in
+    let t2 = Takes-then fc.takes n.0 in
+    let t1 = Takes-then fb.takes t2 in
+    let t0 = Takes-then fa.takes t1 in
     let text = fa.text ++ (fb.text ++ (fc.text ++ numbered f.0.0)) in
     subst (λ (p : DeclaredModel × List Token). Found SpellsDeclared (tokens.Procedure ∷ ts) p) (ok_is (DeclaredModel.is_procedure a.0.0 b.0.0 c.0.0 f.0.0, f.0.1) x f.2)
-    (record { text = tokens.Procedure ∷ text; takes = Takes-behind tokens.Procedure (tokens.Procedure ∷ ts) ts text f.0.1 refl t0; spells = (fa.text, fb.text, fc.text, fa.spells, fb.spells, fc.spells, n.1, refl) })
+    (record { text = tokens.Procedure ∷ text; takes = Takes-behind tokens.Procedure refl t0; spells = (fa.text, fb.text, fc.text, fa.spells, fb.spells, fc.spells, n.1, refl) })
 
 error_found : (ts : List Token) (x : DeclaredModel × List Token) → error_behind ts ≡ Ok x → Found SpellsDeclared (tokens.Error ∷ ts) x
 unfolding error_behind
 error_found ts x e =
     let a = bind_ok (arguments_at ts) _ x e in
-    let d = bind_ok (equal_at a.0.1) _ x a.2 in
+    let d = bind_ok (token_at tokens.Equal reasons.NoEqual a.0.1) _ x a.2 in
     let f = bind_ok (small_at d.0) _ x d.2 in
     let fa = arguments_found ts a.0 a.1 in
     let n = numbered_takes a.0.1 d.0 f.0 d.1 f.1 in
-    let t0 = Takes-then ts fa.text a.0.1 (numbered f.0.0) f.0.1 fa.takes n.0 in
+    let t0 = Takes-then fa.takes n.0 in
     let text = fa.text ++ numbered f.0.0 in
     subst (λ (p : DeclaredModel × List Token). Found SpellsDeclared (tokens.Error ∷ ts) p) (ok_is (DeclaredModel.is_error a.0.0 f.0.0, f.0.1) x f.2)
-    (record { text = tokens.Error ∷ text; takes = Takes-behind tokens.Error (tokens.Error ∷ ts) ts text f.0.1 refl t0; spells = (fa.text, fa.spells, n.1, refl) })
+    (record { text = tokens.Error ∷ text; takes = Takes-behind tokens.Error refl t0; spells = (fa.text, fa.spells, n.1, refl) })
 
 type_found : (ts : List Token) (x : DeclaredModel × List Token) → type_declared ts ≡ Ok x → Found SpellsDeclared (tokens.Type ∷ ts) x
 unfolding type_declared
 type_found ts x e =
-    let a = bind_ok (equal_at ts) _ x e in
+    let a = bind_ok (token_at tokens.Equal reasons.NoEqual ts) _ x e in
     let b = bind_ok (type_at most_depth a.0) _ x a.2 in
     let t = type_takes most_depth a.0 b.0.0 b.0.1 b.1 in
-    let t1 = Takes-behind tokens.Equal ts a.0 (type_spelling b.0.0) b.0.1 (equal_is ts a.0 a.1) t.0 in
+    let t1 = Takes-behind tokens.Equal (equal_is ts a.0 a.1) t.0 in
     subst (λ (p : DeclaredModel × List Token). Found SpellsDeclared (tokens.Type ∷ ts) p) (ok_is (DeclaredModel.is_type b.0.0, b.0.1) x b.2)
-    (record { text = tokens.Type ∷ tokens.Equal ∷ type_spelling b.0.0; takes = Takes-behind tokens.Type (tokens.Type ∷ ts) ts (tokens.Equal ∷ type_spelling b.0.0) b.0.1 refl t1; spells = (t.1, refl) })
+    (record { text = tokens.Type ∷ tokens.Equal ∷ type_spelling b.0.0; takes = Takes-behind tokens.Type refl t1; spells = (t.1, refl) })
 
 constant_declared_found : (ts : List Token) (x : DeclaredModel × List Token) → constant_declared ts ≡ Ok x → Found SpellsDeclared ts x
 unfolding constant_declared
 constant_declared_found ts x e =
     let a = bind_ok (type_at most_depth ts) _ x e in
-    let b = bind_ok (equal_at a.0.1) _ x a.2 in
+    let b = bind_ok (token_at tokens.Equal reasons.NoEqual a.0.1) _ x a.2 in
     let c = bind_ok (constant_at most_depth b.0) _ x b.2 in
     let t = type_takes most_depth ts a.0.0 a.0.1 a.1 in
     let f = constant_takes most_depth b.0 c.0.0 c.0.1 c.1 in
-    let t1 = Takes-behind tokens.Equal a.0.1 b.0 f.0 c.0.1 (equal_is a.0.1 b.0 b.1) f.1 in
-    let t0 = Takes-then ts (type_spelling a.0.0) a.0.1 (tokens.Equal ∷ f.0) c.0.1 t.0 t1 in
+    let t1 = Takes-behind tokens.Equal (equal_is a.0.1 b.0 b.1) f.1 in
+    let t0 = Takes-then t.0 t1 in
     subst (λ (p : DeclaredModel × List Token). Found SpellsDeclared ts p) (ok_is (DeclaredModel.is_constant a.0.0 c.0.0, c.0.1) x c.2)
     (record { text = type_spelling a.0.0 ++ tokens.Equal ∷ f.0; takes = t0; spells = (f.0, t.1, f.2, refl) })
 
@@ -211,15 +181,15 @@ declaration_found : (ts : List Token) (x : Named × List Token) → declaration_
 unfolding declaration_at
 declaration_found ts x e =
     let a = bind_ok (name_at ts) _ x e in
-    let b = bind_ok (colon_at a.0.1) _ x a.2 in
+    let b = bind_ok (token_at tokens.Colon reasons.NoColon a.0.1) _ x a.2 in
     let c = bind_ok (declared_at b.0) _ x b.2 in
-    let d = bind_ok (semicolon_at c.0.1) _ x c.2 in
+    let d = bind_ok (token_at tokens.Semicolon reasons.NoSemicolon c.0.1) _ x c.2 in
     let t0 = name_takes ts a.0.0 a.0.1 a.1 in
     let f = declared_found b.0 c.0 c.1 in
-    let t3 = Takes-then b.0 f.text c.0.1 (tokens.Semicolon ∷ []) d.0 f.takes (Takes-one tokens.Semicolon c.0.1 d.0 (semicolon_is c.0.1 d.0 d.1)) in
+    let t3 = Takes-then f.takes (Takes-one tokens.Semicolon (semicolon_is c.0.1 d.0 d.1)) in
     let text = f.text ++ tokens.Semicolon ∷ [] in
-    let t2 = Takes-behind tokens.Colon a.0.1 b.0 text d.0 (colon_is a.0.1 b.0 b.1) t3 in
-    let whole = Takes-behind (tokens.Name a.0.0) ts a.0.1 (tokens.Colon ∷ text) d.0 t0.0.parts t2 in
+    let t2 = Takes-behind tokens.Colon (colon_is a.0.1 b.0 b.1) t3 in
+    let whole = Takes-behind (tokens.Name a.0.0) t0.0.parts t2 in
     let made : Named × List Token = ((a.0.0, c.0.0), d.0) in
     subst (λ (p : Named × List Token). Found SpellsDeclaration ts p) (ok_is made x d.2)
     (record { text = tokens.Name a.0.0 ∷ tokens.Colon ∷ text; takes = whole; spells = (f.text, f.spells, refl) })
@@ -253,7 +223,7 @@ declarations_found (suc most) ts x e = by_end (is_end ts) (declarations_found mo
         let f = declaration_found ts a.0 a.1 in
         let m = more a.0.1 o.0 o.1 in
         subst (λ (p : List Named × List Token). AreDeclared (suc most) ts p) o.2
-        (record { text = f.text ++ m.text; takes = Takes-then ts f.text a.0.1 m.text o.0.1 f.takes m.takes; spells = (f.text, m.text, f.spells, m.spells, refl); few = omega (arith, m.few) })
+        (record { text = f.text ++ m.text; takes = Takes-then f.takes m.takes; spells = (f.text, m.text, f.spells, m.spells, refl); few = omega (arith, m.few) })
 
 -- ---- programs
 
@@ -261,19 +231,19 @@ dependency_takes : IsSound dependency_spelling IsDependency dependency_at
 unfolding dependency_at
 dependency_takes ts x rest e =
     let a = bind_ok (name_at ts) _ (x, rest) e in
-    let b = bind_ok (open_parenthesis_at a.0.1) _ (x, rest) a.2 in
+    let b = bind_ok (token_at tokens.OpenParenthesis reasons.NoOpenParenthesis a.0.1) _ (x, rest) a.2 in
     let c = bind_ok (long_at b.0) _ (x, rest) b.2 in
-    let d = bind_ok (close_parenthesis_at c.0.1) _ (x, rest) c.2 in
-    let f = bind_ok (version_at d.0) _ (x, rest) d.2 in
+    let d = bind_ok (token_at tokens.CloseParenthesis reasons.NoCloseParenthesis c.0.1) _ (x, rest) c.2 in
+    let f = bind_ok (token_at tokens.Version reasons.NoVersion d.0) _ (x, rest) d.2 in
     let g = bind_ok (small_at f.0) _ (x, rest) f.2 in
     let n = name_takes ts a.0.0 a.0.1 a.1 in
     let l = long_takes b.0 c.0.0 c.0.1 c.1 in
     let s = small_takes f.0 g.0.0 g.0.1 g.1 in
-    let t3 = Takes-behind tokens.Version d.0 f.0 (tokens.Number g.0.0 ∷ []) g.0.1 (version_is d.0 f.0 f.1) s.0 in
-    let t2 = Takes-behind tokens.CloseParenthesis c.0.1 d.0 (tokens.Version ∷ tokens.Number g.0.0 ∷ []) g.0.1 (close_parenthesis_is c.0.1 d.0 d.1) t3 in
-    let t1 = Takes-behind (tokens.Number c.0.0) b.0 c.0.1 (tokens.CloseParenthesis ∷ tokens.Version ∷ tokens.Number g.0.0 ∷ []) g.0.1 l.0.parts t2 in
-    let t0 = Takes-behind tokens.OpenParenthesis a.0.1 b.0 (tokens.Number c.0.0 ∷ tokens.CloseParenthesis ∷ tokens.Version ∷ tokens.Number g.0.0 ∷ []) g.0.1 (open_parenthesis_is a.0.1 b.0 b.1) t1 in
-    let whole = Takes-behind (tokens.Name a.0.0) ts a.0.1 (tokens.OpenParenthesis ∷ tokens.Number c.0.0 ∷ tokens.CloseParenthesis ∷ tokens.Version ∷ tokens.Number g.0.0 ∷ []) g.0.1 n.0.parts t0 in
+    let t3 = Takes-behind tokens.Version (version_is d.0 f.0 f.1) s.0 in
+    let t2 = Takes-behind tokens.CloseParenthesis (close_parenthesis_is c.0.1 d.0 d.1) t3 in
+    let t1 = Takes-behind (tokens.Number c.0.0) l.0.parts t2 in
+    let t0 = Takes-behind tokens.OpenParenthesis (open_parenthesis_is a.0.1 b.0 b.1) t1 in
+    let whole = Takes-behind (tokens.Name a.0.0) n.0.parts t0 in
     subst (λ (p : Dependency × List Token). Takes ts (dependency_spelling p.0) p.1 × IsDependency p.0) (ok_is (made a.0.0 c.0.0 g.0.0, g.0.1) (x, rest) g.2) (whole, s.1)
   where
     made : ℕ → ℕ → ℕ → Dependency
@@ -286,14 +256,14 @@ dependencies_found : (ts : List Token) (x : List Dependency × List Token) → d
 unfolding dependencies_at
 dependencies_found [] x e = nothing_found SaysDependencies [] x e
 dependencies_found (tokens.Depends ∷ ts) x e =
-    let a = bind_ok (upon_at ts) _ x e in
+    let a = bind_ok (token_at tokens.Upon reasons.NoUpon ts) _ x e in
     let b = bind_ok (listed dependency_at most_parts a.0) _ x a.2 in
-    let c = bind_ok (semicolon_at b.0.1) _ x b.2 in
+    let c = bind_ok (token_at tokens.Semicolon reasons.NoSemicolon b.0.1) _ x b.2 in
     let l = listed_takes dependency_spelling IsDependency dependency_at dependency_takes most_parts a.0 b.0.0 b.0.1 b.1 in
     let text = parts_spelling dependency_spelling b.0.0 ++ tokens.Semicolon ∷ [] in
-    let inside = Takes-then a.0 (parts_spelling dependency_spelling b.0.0) b.0.1 (tokens.Semicolon ∷ []) c.0 l.takes (Takes-one tokens.Semicolon b.0.1 c.0 (semicolon_is b.0.1 c.0 c.1)) in
-    let upon = Takes-behind tokens.Upon ts a.0 text c.0 (upon_is ts a.0 a.1) inside in
-    let whole = Takes-behind tokens.Depends (tokens.Depends ∷ ts) ts (tokens.Upon ∷ text) c.0 refl upon in
+    let inside = Takes-then l.takes (Takes-one tokens.Semicolon (semicolon_is b.0.1 c.0 c.1)) in
+    let upon = Takes-behind tokens.Upon (upon_is ts a.0 a.1) inside in
+    let whole = Takes-behind tokens.Depends refl upon in
     subst (λ (p : List Dependency × List Token). Found SpellsDependencies (tokens.Depends ∷ ts) p) (ok_is (b.0.0, c.0) x c.2)
     (record { text = tokens.Depends ∷ tokens.Upon ∷ text; takes = whole; spells = inr ((l.some, l.few), l.good, refl) })
 dependencies_found (t ∷ ts) x e = nothing_found SaysDependencies (t ∷ ts) x e
@@ -309,25 +279,25 @@ header_takes : IsSound header_spelling IsHeader header_at
 unfolding header_at
 header_takes ts x rest e =
     let a = bind_ok (name_at ts) _ (x, rest) e in
-    let b = bind_ok (colon_at a.0.1) _ (x, rest) a.2 in
-    let c = bind_ok (program_at b.0) _ (x, rest) b.2 in
+    let b = bind_ok (token_at tokens.Colon reasons.NoColon a.0.1) _ (x, rest) a.2 in
+    let c = bind_ok (token_at tokens.Program reasons.NoProgram b.0) _ (x, rest) b.2 in
     let d = bind_ok (long_at c.0) _ (x, rest) c.2 in
-    let f = bind_ok (version_at d.0.1) _ (x, rest) d.2 in
+    let f = bind_ok (token_at tokens.Version reasons.NoVersion d.0.1) _ (x, rest) d.2 in
     let g = bind_ok (small_at f.0) _ (x, rest) f.2 in
-    let h = bind_ok (equal_at g.0.1) _ (x, rest) g.2 in
-    let k = bind_ok (begin_at h.0) _ (x, rest) h.2 in
+    let h = bind_ok (token_at tokens.Equal reasons.NoEqual g.0.1) _ (x, rest) g.2 in
+    let k = bind_ok (token_at tokens.Begin reasons.NoBegin h.0) _ (x, rest) h.2 in
     let n = name_takes ts a.0.0 a.0.1 a.1 in
     let l = long_takes c.0 d.0.0 d.0.1 d.1 in
     let s = small_takes f.0 g.0.0 g.0.1 g.1 in
     let x6 : List Token = tokens.Begin ∷ [] in
-    let t6 = Takes-one tokens.Begin h.0 k.0 (begin_is h.0 k.0 k.1) in
-    let t5 = Takes-behind tokens.Equal g.0.1 h.0 x6 k.0 (equal_is g.0.1 h.0 h.1) t6 in
-    let t4 = Takes-behind (tokens.Number g.0.0) f.0 g.0.1 (tokens.Equal ∷ x6) k.0 s.0.parts t5 in
-    let t3 = Takes-behind tokens.Version d.0.1 f.0 (tokens.Number g.0.0 ∷ tokens.Equal ∷ x6) k.0 (version_is d.0.1 f.0 f.1) t4 in
-    let t2 = Takes-behind (tokens.Number d.0.0) c.0 d.0.1 (tokens.Version ∷ tokens.Number g.0.0 ∷ tokens.Equal ∷ x6) k.0 l.0.parts t3 in
-    let t1 = Takes-behind tokens.Program b.0 c.0 (tokens.Number d.0.0 ∷ tokens.Version ∷ tokens.Number g.0.0 ∷ tokens.Equal ∷ x6) k.0 (program_is b.0 c.0 c.1) t2 in
-    let t0 = Takes-behind tokens.Colon a.0.1 b.0 (tokens.Program ∷ tokens.Number d.0.0 ∷ tokens.Version ∷ tokens.Number g.0.0 ∷ tokens.Equal ∷ x6) k.0 (colon_is a.0.1 b.0 b.1) t1 in
-    let whole = Takes-behind (tokens.Name a.0.0) ts a.0.1 (tokens.Colon ∷ tokens.Program ∷ tokens.Number d.0.0 ∷ tokens.Version ∷ tokens.Number g.0.0 ∷ tokens.Equal ∷ x6) k.0 n.0.parts t0 in
+    let t6 = Takes-one tokens.Begin (begin_is h.0 k.0 k.1) in
+    let t5 = Takes-behind tokens.Equal (equal_is g.0.1 h.0 h.1) t6 in
+    let t4 = Takes-behind (tokens.Number g.0.0) s.0.parts t5 in
+    let t3 = Takes-behind tokens.Version (version_is d.0.1 f.0 f.1) t4 in
+    let t2 = Takes-behind (tokens.Number d.0.0) l.0.parts t3 in
+    let t1 = Takes-behind tokens.Program (program_is b.0 c.0 c.1) t2 in
+    let t0 = Takes-behind tokens.Colon (colon_is a.0.1 b.0 b.1) t1 in
+    let whole = Takes-behind (tokens.Name a.0.0) n.0.parts t0 in
     let made : Header × List Token = ((a.0.0, d.0.0, g.0.0), k.0) in
     subst (λ (p : Header × List Token). Takes ts (header_spelling p.0) p.1 × IsHeader p.0) (ok_is made (x, rest) k.2) (whole, s.1)
 
@@ -344,16 +314,16 @@ unfolding body_at
 body_found ts x e =
     let a = bind_ok (dependencies_at ts) _ x e in
     let b = bind_ok (declarations_at most_declarations a.0.1) _ x a.2 in
-    let c = bind_ok (end_at b.0.1) _ x b.2 in
-    let d = bind_ok (dot_at c.0) _ x c.2 in
+    let c = bind_ok (token_at tokens.End reasons.NoEnd b.0.1) _ x b.2 in
+    let d = bind_ok (token_at tokens.Dot reasons.NoDot c.0) _ x c.2 in
     let fa = dependencies_found ts a.0 a.1 in
     let fb = declarations_found most_declarations a.0.1 b.0 b.1 in
-    let t3 = Takes-behind tokens.End b.0.1 c.0 (tokens.Dot ∷ []) d.0 (end_is b.0.1 c.0 c.1) (Takes-one tokens.Dot c.0 d.0 (dot_is c.0 d.0 d.1)) in
-    let t2 = Takes-then a.0.1 fb.text b.0.1 (tokens.End ∷ tokens.Dot ∷ []) d.0 fb.takes t3 in
+    let t3 = Takes-behind tokens.End (end_is b.0.1 c.0 c.1) (Takes-one tokens.Dot (dot_is c.0 d.0 d.1)) in
+    let t2 = Takes-then fb.takes t3 in
     let text = fb.text ++ tokens.End ∷ tokens.Dot ∷ [] in
     let made : Body × List Token = ((a.0.0, b.0.0), d.0) in
     subst (λ (p : Body × List Token). Found SpellsBody ts p) (ok_is made x d.2)
-    (record { text = fa.text ++ text; takes = Takes-then ts fa.text a.0.1 text d.0 fa.takes t2; spells = (fa.text, fb.text, fa.spells, fb.spells, fb.few, refl) })
+    (record { text = fa.text ++ text; takes = Takes-then fa.takes t2; spells = (fa.text, fb.text, fa.spells, fb.spells, fb.few, refl) })
 
 nothing_is : (p q : ProgramModel) (ts : List Token) → nothing_at p ts ≡ Ok q → (p ≡ q) × (ts ≡ [])
 nothing_is p q [] e = ((let same : p ≡ q = cc in same), refl)

@@ -1,12 +1,14 @@
 -- Tokens that are read as a type are its spelling.
 use Rattle.std.proofs.Common.{◌≡◌, ℕ, zero, suc, ◌≤◌, List, [], ◌∷◌, ◌++◌, length, Option, Some, None, Result, Ok, refl, sym, ap, subst, ◌∙◌, append_assoc, arith}
 use Rattle.std.specs.List.{AllByRecursion}
+use Rattle.courier_notation.specs.declared.reason.Reason.{Reason}
+use Rattle.courier_notation.specs.declared.reason.Reason.TheVariants as reasons
 use Rattle.courier_notation.specs.declared.token.Token.{Token}
 use Rattle.courier_notation.specs.declared.token.Token.TheVariants as tokens
 use Rattle.courier_notation.specs.declared.written.Numeric.{Numeric}
 use Rattle.courier_notation.specs.declared.written.Reference.{Reference}
 use Rattle.courier_notation.specs.Written.{TypeModel, Designator, fields_from, candidates_from}
-use Rattle.courier_notation.specs.Reading.{Fault, ◌>>=◌, Reader, over, listed, most_parts, name_at, reference_behind, numeric_at, of_at, arrow_at, colon_at, open_brace_at, close_brace_at, open_bracket_at, close_bracket_at, open_parenthesis_at, close_parenthesis_at}
+use Rattle.courier_notation.specs.Reading.{Fault, ◌>>=◌, Reader, over, listed, most_parts, name_at, reference_behind, numeric_at, token_at}
 use Rattle.courier_notation.specs.Reading.{member_at, designator_behind, designator_at, field_at, fields_behind, fields_at, candidate_at, tag_at, maximum_at, enumeration_behind, long_behind, array_behind, sequence_behind, choice_behind, record_behind, type_behind, type_at}
 use Rattle.courier_notation.specs.Spelling.{name_spelling, numeric_spelling, maximum_spelling, tag_spelling, number_spelling, member_spelling, designator_spelling, more_spelling, parts_spelling}
 use Rattle.courier_notation.specs.Spelling.{type_spelling, fields_spelling, more_fields_spelling, candidates_spelling, more_candidates_spelling, IsNumeric, IsNumberIfAny, AreParts, field_count, candidate_count, IsType, AreFields, AreCandidates}
@@ -16,23 +18,23 @@ use Rattle.courier_notation.proofs.Takes.{of_is, arrow_is, colon_is, open_brace_
 -- ---- parts of types
 
 -- a number in parentheses
-inside_takes : (ts : List Token) (x : Numeric) (after rest : List Token) → numeric_at ts ≡ Ok (x, after) → close_parenthesis_at after ≡ Ok rest → Takes (tokens.OpenParenthesis ∷ ts) (number_spelling (Some x)) rest × IsNumeric x
+inside_takes : (ts : List Token) (x : Numeric) (after rest : List Token) → numeric_at ts ≡ Ok (x, after) → token_at tokens.CloseParenthesis reasons.NoCloseParenthesis after ≡ Ok rest → Takes (tokens.OpenParenthesis ∷ ts) (number_spelling (Some x)) rest × IsNumeric x
 inside_takes ts x after rest e f =
     let n = numeric_takes ts x after e in
-    let whole : Takes ts (numeric_spelling x ++ tokens.CloseParenthesis ∷ []) rest = Takes-then ts (numeric_spelling x) after (tokens.CloseParenthesis ∷ []) rest n.0 (Takes-one tokens.CloseParenthesis after rest (close_parenthesis_is after rest f)) in
-    (Takes-behind tokens.OpenParenthesis (tokens.OpenParenthesis ∷ ts) ts (numeric_spelling x ++ tokens.CloseParenthesis ∷ []) rest refl whole, n.1)
+    let whole : Takes ts (numeric_spelling x ++ tokens.CloseParenthesis ∷ []) rest = Takes-then n.0 (Takes-one tokens.CloseParenthesis (close_parenthesis_is after rest f)) in
+    (Takes-behind tokens.OpenParenthesis refl whole, n.1)
 
 member_takes : IsSound member_spelling GoodMember member_at
 unfolding member_at
 member_takes ts x rest e =
     let a = bind_ok (name_at ts) _ (x, rest) e in
-    let b = bind_ok (open_parenthesis_at a.0.1) _ (x, rest) a.2 in
+    let b = bind_ok (token_at tokens.OpenParenthesis reasons.NoOpenParenthesis a.0.1) _ (x, rest) a.2 in
     let c = bind_ok (numeric_at b.0) _ (x, rest) b.2 in
-    let d = bind_ok (close_parenthesis_at c.0.1) _ (x, rest) c.2 in
+    let d = bind_ok (token_at tokens.CloseParenthesis reasons.NoCloseParenthesis c.0.1) _ (x, rest) c.2 in
     let t0 = name_takes ts a.0.0 a.0.1 a.1 in
     let t1 = inside_takes b.0 c.0.0 c.0.1 d.0 c.1 d.1 in
     let t2 : Takes a.0.1 (number_spelling (Some c.0.0)) d.0 = subst (λ (t : List Token). Takes t (number_spelling (Some c.0.0)) d.0) (sym (open_parenthesis_is a.0.1 b.0 b.1)) t1.0 in
-    let both = Takes-then ts (name_spelling a.0.0) a.0.1 (number_spelling (Some c.0.0)) d.0 t0.0 t2 in
+    let both = Takes-then t0.0 t2 in
     subst (λ (p : (ℕ × Numeric) × List Token). Takes ts (member_spelling p.0) p.1 × IsNumeric p.0.1) (ok_is ((a.0.0, c.0.0), d.0) (x, rest) d.2) (both, t1.1)
 
 designator_number_takes : (n : ℕ) (ts : List Token) (x : Designator) (rest : List Token) → designator_behind n ts ≡ Ok (x, rest) → Takes (tokens.Name n ∷ ts) (designator_spelling x) rest × GoodDesignator x
@@ -40,7 +42,7 @@ unfolding designator_behind
 designator_number_takes n [] x rest e = subst (λ (p : Designator × List Token). Takes (tokens.Name n ∷ []) (designator_spelling p.0) p.1 × GoodDesignator p.0) (ok_is ((n, None), []) (x, rest) e) (record { parts = refl }, tt)
 designator_number_takes n (tokens.OpenParenthesis ∷ ts) x rest e =
     let a = bind_ok (numeric_at ts) _ (x, rest) e in
-    let b = bind_ok (close_parenthesis_at a.0.1) _ (x, rest) a.2 in
+    let b = bind_ok (token_at tokens.CloseParenthesis reasons.NoCloseParenthesis a.0.1) _ (x, rest) a.2 in
     let t = inside_takes ts a.0.0 a.0.1 b.0 a.1 b.1 in
     let made : Designator × List Token = ((n, Some a.0.0), b.0) in
     subst (λ (p : Designator × List Token). Takes (tokens.Name n ∷ tokens.OpenParenthesis ∷ ts) (designator_spelling p.0) p.1 × GoodDesignator p.0) (ok_is made (x, rest) b.2) (record { parts = ap (λ (t : List Token). tokens.Name n ∷ t) t.0.parts }, t.1)
@@ -97,16 +99,16 @@ record IsTyped {A B : Type 0} (spell : A → List Token) (Good : A → Type 0) (
   good : Good front
   typed : IsType depth type
 
-typed_takes : {A B : Type 0} (spell : A → List Token) (Good : A → Type 0) (one : Reader A) → IsSound spell Good one → (mark : Token) (mark_at : List Token → Result (List Token) Fault) → TakesOnly mark mark_at
-    → (depth : ℕ) → IsTypeSound depth → (make : A → TypeModel → B) (ts : List Token) (x : B × List Token) → (one ts >>= λ front. mark_at front.1 >>= λ rest. over (make front.0) (type_at depth rest)) ≡ Ok x → IsTyped spell Good mark depth make ts x
-typed_takes {B} spell Good one sound mark mark_at is_mark depth types make ts x e =
+typed_takes : {A B : Type 0} (spell : A → List Token) (Good : A → Type 0) (one : Reader A) → IsSound spell Good one → (mark : Token) (missing : Reason) → TakesOnly mark missing
+    → (depth : ℕ) → IsTypeSound depth → (make : A → TypeModel → B) (ts : List Token) (x : B × List Token) → (one ts >>= λ front. token_at mark missing front.1 >>= λ rest. over (make front.0) (type_at depth rest)) ≡ Ok x → IsTyped spell Good mark depth make ts x
+typed_takes {B} spell Good one sound mark missing is_mark depth types make ts x e =
     let a = bind_ok (one ts) _ x e in
-    let b = bind_ok (mark_at a.0.1) _ x a.2 in
+    let b = bind_ok (token_at mark missing a.0.1) _ x a.2 in
     let o = over_ok (make a.0.0) (type_at depth b.0) x b.2 in
     let front = sound ts a.0.0 a.0.1 a.1 in
     let type = types b.0 o.0.0 o.0.1 o.1 in
-    let behind = Takes-behind mark a.0.1 b.0 (type_spelling o.0.0) o.0.1 (is_mark a.0.1 b.0 b.1) type.0 in
-    let both = Takes-then ts (spell a.0.0) a.0.1 (mark ∷ type_spelling o.0.0) o.0.1 front.0 behind in
+    let behind = Takes-behind mark (is_mark a.0.1 b.0 b.1) type.0 in
+    let both = Takes-then front.0 behind in
     record {
       front = a.0.0;
       type = o.0.0;
@@ -126,7 +128,7 @@ field_takes : (depth : ℕ) → IsTypeSound depth → IsSound field_spelling (Go
 unfolding field_at
 field_takes depth sound ts x rest e =
     let Field : Type 0 = List ℕ × TypeModel in
-    let t = typed_takes {B = Field} (parts_spelling name_spelling) (AreGood Any) (listed name_at most_parts) (parts_take name_spelling Any name_at name_takes) tokens.Colon colon_at colon_is depth sound (λ names type. (names, type)) ts (x, rest) e in
+    let t = typed_takes {B = Field} (parts_spelling name_spelling) (AreGood Any) (listed name_at most_parts) (parts_take name_spelling Any name_at name_takes) tokens.Colon reasons.NoColon colon_is depth sound (λ names type. (names, type)) ts (x, rest) e in
     subst (λ (f : Field). Takes ts (field_spelling f) rest × GoodField depth f) t.made (t.takes, (t.good.0, t.typed))
 
 -- ---- parts that are kept otherwise than in a list
@@ -165,16 +167,16 @@ pub record AreFieldsRead (depth : ℕ) (ts : List Token) (fs : List (List ℕ ×
 abbrev fields_inside : ℕ → List Token → Result (List (List ℕ × TypeModel) × List Token) Fault
 fields_inside depth ts = do
   fields ← listed (field_at (type_at depth)) most_parts ts
-  rest ← close_bracket_at fields.1
+  rest ← token_at tokens.CloseBracket reasons.NoCloseBracket fields.1
   Ok (fields.0, rest)
 
 some_fields_take : (depth : ℕ) → IsTypeSound depth → (ts : List Token) (fs : List (List ℕ × TypeModel)) (rest : List Token) → fields_inside depth ts ≡ Ok (fs, rest) → AreFieldsRead depth ts fs rest
 some_fields_take depth sound ts fs rest e =
     let a = bind_ok (listed (field_at (type_at depth)) most_parts ts) _ (fs, rest) e in
-    let b = bind_ok (close_bracket_at a.0.1) _ (fs, rest) a.2 in
+    let b = bind_ok (token_at tokens.CloseBracket reasons.NoCloseBracket a.0.1) _ (fs, rest) a.2 in
     let l = listed_takes field_spelling (GoodField depth) (field_at (type_at depth)) (field_takes depth sound) most_parts ts a.0.0 a.0.1 a.1 in
     let takes : Takes ts (fields_spelling (fields_from a.0.0)) a.0.1 = subst (λ (t : List Token). Takes ts t a.0.1) (sym (fields_are a.0.0)) l.takes in
-    let whole = Takes-then ts (fields_spelling (fields_from a.0.0)) a.0.1 (tokens.CloseBracket ∷ []) b.0 takes (Takes-one tokens.CloseBracket a.0.1 b.0 (close_bracket_is a.0.1 b.0 b.1)) in
+    let whole = Takes-then takes (Takes-one tokens.CloseBracket (close_bracket_is a.0.1 b.0 b.1)) in
     subst (λ (p : List (List ℕ × TypeModel) × List Token). AreFieldsRead depth ts p.0 p.1) (ok_is (a.0.0, b.0) (fs, rest) b.2)
     (record { takes = whole; few = omega (arith, l.few, count_is fields_from field_count refl (λ f fs. refl) a.0.0); good = are_good fields_from (AreFields depth) (GoodField depth) tt (λ f fs here others. (here.0, here.1, others)) a.0.0 l.good })
 
@@ -196,7 +198,7 @@ candidate_takes : (depth : ℕ) → IsTypeSound depth → IsSound candidate_spel
 unfolding candidate_at
 candidate_takes depth sound ts x rest e =
     let Candidate : Type 0 = List Designator × TypeModel in
-    let t = typed_takes {B = Candidate} (parts_spelling designator_spelling) (AreGood GoodDesignator) (listed designator_at most_parts) (parts_take designator_spelling GoodDesignator designator_at designator_takes) tokens.Arrow arrow_at arrow_is depth sound (λ designators type. (designators, type)) ts (x, rest) e in
+    let t = typed_takes {B = Candidate} (parts_spelling designator_spelling) (AreGood GoodDesignator) (listed designator_at most_parts) (parts_take designator_spelling GoodDesignator designator_at designator_takes) tokens.Arrow reasons.NoArrow arrow_is depth sound (λ designators type. (designators, type)) ts (x, rest) e in
     subst (λ (c : Candidate). Takes ts (candidate_spelling c) rest × GoodCandidate depth c) t.made (t.takes, (t.good.0, t.good.1, t.typed))
 
 candidates_are : (cs : List (List Designator × TypeModel)) → candidates_spelling (candidates_from cs) ≡ parts_spelling candidate_spelling cs
@@ -212,10 +214,10 @@ enumeration_takes : (depth : ℕ) (ts : List Token) (x : TypeModel × List Token
 unfolding enumeration_behind
 enumeration_takes depth ts x e =
     let a = bind_ok (listed member_at most_parts ts) _ x e in
-    let b = bind_ok (close_brace_at a.0.1) _ x a.2 in
+    let b = bind_ok (token_at tokens.CloseBrace reasons.NoCloseBrace a.0.1) _ x a.2 in
     let l = listed_takes member_spelling GoodMember member_at member_takes most_parts ts a.0.0 a.0.1 a.1 in
-    let inner = Takes-then ts (parts_spelling member_spelling a.0.0) a.0.1 (tokens.CloseBrace ∷ []) b.0 l.takes (Takes-one tokens.CloseBrace a.0.1 b.0 (close_brace_is a.0.1 b.0 b.1)) in
-    let whole = Takes-behind tokens.OpenBrace (tokens.OpenBrace ∷ ts) ts (parts_spelling member_spelling a.0.0 ++ tokens.CloseBrace ∷ []) b.0 refl inner in
+    let inner = Takes-then l.takes (Takes-one tokens.CloseBrace (close_brace_is a.0.1 b.0 b.1)) in
+    let whole = Takes-behind tokens.OpenBrace refl inner in
     subst (λ (p : TypeModel × List Token). Read (suc depth) (tokens.OpenBrace ∷ ts) p) (ok_is (TypeModel.enumeration a.0.0, b.0) x b.2) (whole, ((l.some, l.few), l.good))
 
 long_takes : (depth : ℕ) (ts : List Token) (x : TypeModel × List Token) → long_behind ts ≡ Ok x → Read (suc depth) (tokens.Long ∷ ts) x
@@ -227,45 +229,45 @@ long_takes depth (t ∷ ts) x e = absurd cc
 array_takes : (depth : ℕ) → IsTypeSound depth → (ts : List Token) (x : TypeModel × List Token) → array_behind (type_at depth) ts ≡ Ok x → Read (suc depth) (tokens.Array ∷ ts) x
 unfolding array_behind
 array_takes depth sound ts x e =
-    let t = typed_takes numeric_spelling IsNumeric numeric_at numeric_takes tokens.Of of_at of_is depth sound TypeModel.array ts x e in
-    subst (λ (p : TypeModel). Read (suc depth) (tokens.Array ∷ ts) (p, x.1)) t.made (Takes-behind tokens.Array (tokens.Array ∷ ts) ts (numeric_spelling t.front ++ tokens.Of ∷ type_spelling t.type) x.1 refl t.takes, (t.good, t.typed))
+    let t = typed_takes numeric_spelling IsNumeric numeric_at numeric_takes tokens.Of reasons.NoOf of_is depth sound TypeModel.array ts x e in
+    subst (λ (p : TypeModel). Read (suc depth) (tokens.Array ∷ ts) (p, x.1)) t.made (Takes-behind tokens.Array refl t.takes, (t.good, t.typed))
 
 sequence_takes : (depth : ℕ) → IsTypeSound depth → (ts : List Token) (x : TypeModel × List Token) → sequence_behind (type_at depth) ts ≡ Ok x → Read (suc depth) (tokens.Sequence ∷ ts) x
 unfolding sequence_behind
 sequence_takes depth sound ts x e =
-    let t = typed_takes maximum_spelling IsNumberIfAny maximum_at maximum_takes tokens.Of of_at of_is depth sound TypeModel.sequence ts x e in
-    subst (λ (p : TypeModel). Read (suc depth) (tokens.Sequence ∷ ts) (p, x.1)) t.made (Takes-behind tokens.Sequence (tokens.Sequence ∷ ts) ts (maximum_spelling t.front ++ tokens.Of ∷ type_spelling t.type) x.1 refl t.takes, (t.good, t.typed))
+    let t = typed_takes maximum_spelling IsNumberIfAny maximum_at maximum_takes tokens.Of reasons.NoOf of_is depth sound TypeModel.sequence ts x e in
+    subst (λ (p : TypeModel). Read (suc depth) (tokens.Sequence ∷ ts) (p, x.1)) t.made (Takes-behind tokens.Sequence refl t.takes, (t.good, t.typed))
 
 record_takes : (depth : ℕ) → IsTypeSound depth → (ts : List Token) (x : TypeModel × List Token) → record_behind (type_at depth) ts ≡ Ok x → Read (suc depth) (tokens.Record ∷ ts) x
 unfolding fields_at
 record_takes depth sound ts x e =
     let o = over_ok (λ fields. TypeModel.fields (fields_from fields)) (fields_at (type_at depth) ts) x e in
-    let a = bind_ok (open_bracket_at ts) (fields_behind (type_at depth)) o.0 o.1 in
+    let a = bind_ok (token_at tokens.OpenBracket reasons.NoOpenBracket ts) (fields_behind (type_at depth)) o.0 o.1 in
     let f = fields_behind_take depth sound a.0 o.0.0 o.0.1 a.2 in
     let text = fields_spelling (fields_from o.0.0) ++ tokens.CloseBracket ∷ [] in
-    let inner = Takes-behind tokens.OpenBracket ts a.0 text o.0.1 (open_bracket_is ts a.0 a.1) f.takes in
-    let whole = Takes-behind tokens.Record (tokens.Record ∷ ts) ts (tokens.OpenBracket ∷ text) o.0.1 refl inner in
+    let inner = Takes-behind tokens.OpenBracket (open_bracket_is ts a.0 a.1) f.takes in
+    let whole = Takes-behind tokens.Record refl inner in
     subst (λ (p : TypeModel × List Token). Read (suc depth) (tokens.Record ∷ ts) p) o.2 (whole, (f.few, f.good))
 
 choice_takes : (depth : ℕ) → IsTypeSound depth → (ts : List Token) (x : TypeModel × List Token) → choice_behind (type_at depth) ts ≡ Ok x → Read (suc depth) (tokens.Choice ∷ ts) x
 unfolding choice_behind
 choice_takes depth sound ts x e =
     let a = bind_ok (tag_at ts) _ x e in
-    let b = bind_ok (of_at a.0.1) _ x a.2 in
-    let c = bind_ok (open_brace_at b.0) _ x b.2 in
+    let b = bind_ok (token_at tokens.Of reasons.NoOf a.0.1) _ x a.2 in
+    let c = bind_ok (token_at tokens.OpenBrace reasons.NoOpenBrace b.0) _ x b.2 in
     let d = bind_ok (listed (candidate_at (type_at depth)) most_parts c.0) _ x c.2 in
-    let f = bind_ok (close_brace_at d.0.1) _ x d.2 in
+    let f = bind_ok (token_at tokens.CloseBrace reasons.NoCloseBrace d.0.1) _ x d.2 in
     let tag = tag_takes ts a.0.0 a.0.1 a.1 in
     let l = listed_takes candidate_spelling (GoodCandidate depth) (candidate_at (type_at depth)) (candidate_takes depth sound) most_parts c.0 d.0.0 d.0.1 d.1 in
     let takes : Takes c.0 (candidates_spelling (candidates_from d.0.0)) d.0.1 = subst (λ (t : List Token). Takes c.0 t d.0.1) (sym (candidates_are d.0.0)) l.takes in
     let text = candidates_spelling (candidates_from d.0.0) ++ tokens.CloseBrace ∷ [] in
-    let inner = Takes-then c.0 (candidates_spelling (candidates_from d.0.0)) d.0.1 (tokens.CloseBrace ∷ []) f.0 takes (Takes-one tokens.CloseBrace d.0.1 f.0 (close_brace_is d.0.1 f.0 f.1)) in
-    let braced = Takes-behind tokens.OpenBrace b.0 c.0 text f.0 (open_brace_is b.0 c.0 c.1) inner in
-    let behind : Takes a.0.1 (tokens.Of ∷ tokens.OpenBrace ∷ text) f.0 = Takes-behind tokens.Of a.0.1 b.0 (tokens.OpenBrace ∷ text) f.0 (of_is a.0.1 b.0 b.1) braced in
-    let both = Takes-then ts (tag_spelling a.0.0) a.0.1 (tokens.Of ∷ tokens.OpenBrace ∷ text) f.0 tag behind in
+    let inner = Takes-then takes (Takes-one tokens.CloseBrace (close_brace_is d.0.1 f.0 f.1)) in
+    let braced = Takes-behind tokens.OpenBrace (open_brace_is b.0 c.0 c.1) inner in
+    let behind : Takes a.0.1 (tokens.Of ∷ tokens.OpenBrace ∷ text) f.0 = Takes-behind tokens.Of (of_is a.0.1 b.0 b.1) braced in
+    let both = Takes-then tag behind in
     let regrouped : tag_spelling a.0.0 ++ (tokens.Of ∷ tokens.OpenBrace ∷ text) ≡ (tag_spelling a.0.0 ++ tokens.Of ∷ tokens.OpenBrace ∷ candidates_spelling (candidates_from d.0.0)) ++ tokens.CloseBrace ∷ [] = sym (append_assoc (tag_spelling a.0.0) (tokens.Of ∷ tokens.OpenBrace ∷ candidates_spelling (candidates_from d.0.0)) (tokens.CloseBrace ∷ [])) in
     let spelled = subst (λ (t : List Token). Takes ts t f.0) regrouped both in
-    let whole = Takes-behind tokens.Choice (tokens.Choice ∷ ts) ts ((tag_spelling a.0.0 ++ tokens.Of ∷ tokens.OpenBrace ∷ candidates_spelling (candidates_from d.0.0)) ++ tokens.CloseBrace ∷ []) f.0 refl spelled in
+    let whole = Takes-behind tokens.Choice refl spelled in
     let counted = count_is candidates_from candidate_count refl (λ c cs. refl) d.0.0 in
     subst (λ (p : TypeModel × List Token). Read (suc depth) (tokens.Choice ∷ ts) p) (ok_is (TypeModel.choice a.0.0 (candidates_from d.0.0), f.0) x f.2) (whole, (omega (arith, l.some), omega (arith, l.few), are_good candidates_from (AreCandidates depth) (GoodCandidate depth) tt (λ c cs here others. (here.0, here.1, here.2, others)) d.0.0 l.good))
 

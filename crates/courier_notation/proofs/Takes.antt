@@ -1,8 +1,9 @@
 -- What was read of tokens, and what that says of them.
-use Rattle.std.proofs.Common.{◌≡◌, ◌⊎◌, ℕ, zero, suc, ◌+◌, ◌<◌, ◌≤◌, Bool, true, false, cond, ltb, List, [], ◌∷◌, ◌++◌, length, Option, Some, None, Result, Ok, Err, refl, sym, ap, subst, ◌∙◌, append_assoc, arith, inl, inr}
+use Rattle.std.proofs.Common.{◌≡◌, ◌⊎◌, ℕ, zero, suc, ◌<◌, ◌≤◌, Bool, true, false, cond, ltb, List, [], ◌∷◌, ◌++◌, length, Option, Some, None, Result, Ok, Err, refl, sym, ap, subst, ◌∙◌, append_assoc, arith, inl, inr}
 use Rattle.std.specs.List.{AllByRecursion}
 use Rattle.std.proofs.lemmas.Bool.{ltb-true}
 use Rattle.courier_notation.specs.declared.reason.Reason.{Reason}
+use Rattle.courier_notation.specs.declared.reason.Reason.TheVariants as reasons
 use Rattle.courier_notation.specs.declared.token.Token.{Token}
 use Rattle.courier_notation.specs.declared.token.Token.TheVariants as tokens
 use Rattle.courier_notation.specs.declared.written.Numeric.{Numeric}
@@ -10,8 +11,7 @@ use Rattle.courier_notation.specs.declared.written.Numeric.TheVariants as numeri
 use Rattle.courier_notation.specs.declared.written.Reference.{Reference}
 use Rattle.courier_notation.specs.declared.written.Reference.TheVariants as references
 use Rattle.courier_notation.specs.Written.{Designator}
-use Rattle.courier_notation.specs.Reading.{Fault, ◌>>=◌, Reader, over, behind_comma, others_at, listed, name_at, reference_behind, numeric_at}
-use Rattle.courier_notation.specs.Reading.{of_at, arrow_at, colon_at, open_brace_at, close_brace_at, open_bracket_at, close_bracket_at, open_parenthesis_at, close_parenthesis_at}
+use Rattle.courier_notation.specs.Reading.{Fault, ◌>>=◌, Reader, over, behind_comma, others_at, listed, token_at, name_at, reference_behind, small_or_fault, numeric_at}
 use Rattle.courier_notation.specs.Spelling.{name_spelling, reference_spelling, numeric_spelling, more_spelling, parts_spelling, IsNumeric, IsNumberIfAny}
 
 -- ---- results
@@ -37,14 +37,14 @@ over_ok f (Err d) y e = absurd cc
 pub record Takes (ts text rest : List Token) : Type 0 where
   pub parts : ts ≡ text ++ rest
 
-pub Takes-then : (a x b y c : List Token) → Takes a x b → Takes b y c → Takes a (x ++ y) c
-Takes-then a x b y c p q = record { parts = p.parts ∙ ap (λ (t : List Token). x ++ t) q.parts ∙ sym (append_assoc x y c) }
+pub Takes-then : {a x b y c : List Token} → Takes a x b → Takes b y c → Takes a (x ++ y) c
+Takes-then {x} {y} {c} p q = record { parts = p.parts ∙ ap (λ (t : List Token). x ++ t) q.parts ∙ sym (append_assoc x y c) }
 
-pub Takes-behind : (t : Token) (a b y c : List Token) → a ≡ t ∷ b → Takes b y c → Takes a (t ∷ y) c
-Takes-behind t a b y c e q = record { parts = e ∙ ap (λ (r : List Token). t ∷ r) q.parts }
+pub Takes-behind : (t : Token) {a b y c : List Token} → a ≡ t ∷ b → Takes b y c → Takes a (t ∷ y) c
+Takes-behind t e q = record { parts = e ∙ ap (λ (r : List Token). t ∷ r) q.parts }
 
-pub Takes-one : (t : Token) (a b : List Token) → a ≡ t ∷ b → Takes a (t ∷ []) b
-Takes-one t a b e = record { parts = e }
+pub Takes-one : (t : Token) {a b : List Token} → a ≡ t ∷ b → Takes a (t ∷ []) b
+Takes-one t e = record { parts = e }
 
 -- what a reader reads is spelled so, and is good
 abbrev pub IsSound : {A : Type 0} → (A → List Token) → (A → Type 0) → Reader A → Type 0
@@ -52,36 +52,69 @@ IsSound {A} spell Good one = (ts : List Token) (x : A) (rest : List Token) → o
 
 -- ---- single tokens
 
--- the reader takes this token alone
-abbrev pub TakesOnly : Token → (List Token → Result (List Token) Fault) → Type 0
-TakesOnly t at = (ts rest : List Token) → at ts ≡ Ok rest → ts ≡ t ∷ rest
+behind_same : (t : Token) (ts rest : List Token) → done ts ≡ done rest → t ∷ ts ≡ t ∷ rest
+behind_same t ts rest e = ap (λ (r : List Token). t ∷ r) (ok_is ts rest e)
 
-pub of_is : TakesOnly tokens.Of of_at
-of_is = elim [ tokens.Of ∷ ts ↦ λ rest e. cc | _ ↦ λ rest e. absurd cc ]
+abbrev stopped : Fault → Result (List Token) Fault
+stopped f = Err f
 
-pub arrow_is : TakesOnly tokens.Arrow arrow_at
-arrow_is = elim [ tokens.Arrow ∷ ts ↦ λ rest e. cc | _ ↦ λ rest e. absurd cc ]
+no_fault : (f : Fault) (rest : List Token) → stopped f ≡ Ok rest → ⊥
+no_fault f rest e = cc
 
-pub colon_is : TakesOnly tokens.Colon colon_at
-colon_is = elim [ tokens.Colon ∷ ts ↦ λ rest e. cc | _ ↦ λ rest e. absurd cc ]
+-- the wanted token is taken alone
+abbrev pub TakesOnly : Token → Reason → Type 0
+TakesOnly wanted missing = (ts rest : List Token) → token_at wanted missing ts ≡ Ok rest → ts ≡ wanted ∷ rest
 
-pub open_brace_is : TakesOnly tokens.OpenBrace open_brace_at
-open_brace_is = elim [ tokens.OpenBrace ∷ ts ↦ λ rest e. cc | _ ↦ λ rest e. absurd cc ]
+pub of_is : TakesOnly tokens.Of reasons.NoOf
+of_is = elim [ tokens.Of ∷ ts ↦ λ rest e. behind_same tokens.Of ts rest e | _ ↦ λ rest e. absurd (no_fault _ rest e) ]
 
-pub close_brace_is : TakesOnly tokens.CloseBrace close_brace_at
-close_brace_is = elim [ tokens.CloseBrace ∷ ts ↦ λ rest e. cc | _ ↦ λ rest e. absurd cc ]
+pub arrow_is : TakesOnly tokens.Arrow reasons.NoArrow
+arrow_is = elim [ tokens.Arrow ∷ ts ↦ λ rest e. behind_same tokens.Arrow ts rest e | _ ↦ λ rest e. absurd (no_fault _ rest e) ]
 
-pub open_bracket_is : TakesOnly tokens.OpenBracket open_bracket_at
-open_bracket_is = elim [ tokens.OpenBracket ∷ ts ↦ λ rest e. cc | _ ↦ λ rest e. absurd cc ]
+pub colon_is : TakesOnly tokens.Colon reasons.NoColon
+colon_is = elim [ tokens.Colon ∷ ts ↦ λ rest e. behind_same tokens.Colon ts rest e | _ ↦ λ rest e. absurd (no_fault _ rest e) ]
 
-pub close_bracket_is : TakesOnly tokens.CloseBracket close_bracket_at
-close_bracket_is = elim [ tokens.CloseBracket ∷ ts ↦ λ rest e. cc | _ ↦ λ rest e. absurd cc ]
+pub open_brace_is : TakesOnly tokens.OpenBrace reasons.NoOpenBrace
+open_brace_is = elim [ tokens.OpenBrace ∷ ts ↦ λ rest e. behind_same tokens.OpenBrace ts rest e | _ ↦ λ rest e. absurd (no_fault _ rest e) ]
 
-pub open_parenthesis_is : TakesOnly tokens.OpenParenthesis open_parenthesis_at
-open_parenthesis_is = elim [ tokens.OpenParenthesis ∷ ts ↦ λ rest e. cc | _ ↦ λ rest e. absurd cc ]
+pub close_brace_is : TakesOnly tokens.CloseBrace reasons.NoCloseBrace
+close_brace_is = elim [ tokens.CloseBrace ∷ ts ↦ λ rest e. behind_same tokens.CloseBrace ts rest e | _ ↦ λ rest e. absurd (no_fault _ rest e) ]
 
-pub close_parenthesis_is : TakesOnly tokens.CloseParenthesis close_parenthesis_at
-close_parenthesis_is = elim [ tokens.CloseParenthesis ∷ ts ↦ λ rest e. cc | _ ↦ λ rest e. absurd cc ]
+pub open_bracket_is : TakesOnly tokens.OpenBracket reasons.NoOpenBracket
+open_bracket_is = elim [ tokens.OpenBracket ∷ ts ↦ λ rest e. behind_same tokens.OpenBracket ts rest e | _ ↦ λ rest e. absurd (no_fault _ rest e) ]
+
+pub close_bracket_is : TakesOnly tokens.CloseBracket reasons.NoCloseBracket
+close_bracket_is = elim [ tokens.CloseBracket ∷ ts ↦ λ rest e. behind_same tokens.CloseBracket ts rest e | _ ↦ λ rest e. absurd (no_fault _ rest e) ]
+
+pub open_parenthesis_is : TakesOnly tokens.OpenParenthesis reasons.NoOpenParenthesis
+open_parenthesis_is = elim [ tokens.OpenParenthesis ∷ ts ↦ λ rest e. behind_same tokens.OpenParenthesis ts rest e | _ ↦ λ rest e. absurd (no_fault _ rest e) ]
+
+pub close_parenthesis_is : TakesOnly tokens.CloseParenthesis reasons.NoCloseParenthesis
+close_parenthesis_is = elim [ tokens.CloseParenthesis ∷ ts ↦ λ rest e. behind_same tokens.CloseParenthesis ts rest e | _ ↦ λ rest e. absurd (no_fault _ rest e) ]
+
+pub begin_is : TakesOnly tokens.Begin reasons.NoBegin
+begin_is = elim [ tokens.Begin ∷ ts ↦ λ rest e. behind_same tokens.Begin ts rest e | _ ↦ λ rest e. absurd (no_fault _ rest e) ]
+
+pub end_is : TakesOnly tokens.End reasons.NoEnd
+end_is = elim [ tokens.End ∷ ts ↦ λ rest e. behind_same tokens.End ts rest e | _ ↦ λ rest e. absurd (no_fault _ rest e) ]
+
+pub program_is : TakesOnly tokens.Program reasons.NoProgram
+program_is = elim [ tokens.Program ∷ ts ↦ λ rest e. behind_same tokens.Program ts rest e | _ ↦ λ rest e. absurd (no_fault _ rest e) ]
+
+pub version_is : TakesOnly tokens.Version reasons.NoVersion
+version_is = elim [ tokens.Version ∷ ts ↦ λ rest e. behind_same tokens.Version ts rest e | _ ↦ λ rest e. absurd (no_fault _ rest e) ]
+
+pub upon_is : TakesOnly tokens.Upon reasons.NoUpon
+upon_is = elim [ tokens.Upon ∷ ts ↦ λ rest e. behind_same tokens.Upon ts rest e | _ ↦ λ rest e. absurd (no_fault _ rest e) ]
+
+pub equal_is : TakesOnly tokens.Equal reasons.NoEqual
+equal_is = elim [ tokens.Equal ∷ ts ↦ λ rest e. behind_same tokens.Equal ts rest e | _ ↦ λ rest e. absurd (no_fault _ rest e) ]
+
+pub semicolon_is : TakesOnly tokens.Semicolon reasons.NoSemicolon
+semicolon_is = elim [ tokens.Semicolon ∷ ts ↦ λ rest e. behind_same tokens.Semicolon ts rest e | _ ↦ λ rest e. absurd (no_fault _ rest e) ]
+
+pub dot_is : TakesOnly tokens.Dot reasons.NoDot
+dot_is = elim [ tokens.Dot ∷ ts ↦ λ rest e. behind_same tokens.Dot ts rest e | _ ↦ λ rest e. absurd (no_fault _ rest e) ]
 
 pub comma_is : (ts next : List Token) → behind_comma ts ≡ Some next → ts ≡ tokens.Comma ∷ next
 comma_is = elim [ tokens.Comma ∷ ts ↦ λ next e. cc | _ ↦ λ next e. absurd cc ]
@@ -113,16 +146,25 @@ reference_takes n (tokens.Dot ∷ ts) r rest e =
     subst (λ (p : Reference × List Token). Takes (tokens.Name n ∷ tokens.Dot ∷ ts) (reference_spelling p.0) p.1) o.2 (record { parts = ap (λ (t : List Token). tokens.Name n ∷ tokens.Dot ∷ t) m.0.parts })
 reference_takes n (t ∷ ts) r rest e = subst (λ (p : Reference × List Token). Takes (tokens.Name n ∷ t ∷ ts) (reference_spelling p.0) p.1) (ok_is (references.Own n, t ∷ ts) (r, rest) e) (record { parts = refl })
 
-word_takes : (n : ℕ) (b : Bool) (ts : List Token) (f : Fault) (x : Numeric) (rest : List Token) → ltb n 65536 ≡ b → cond {A = Result (Numeric × List Token) Fault} b (Ok (numerics.Number n, ts)) (Err f) ≡ Ok (x, rest) → Takes (tokens.Number n ∷ ts) (numeric_spelling x) rest × IsNumeric x
-word_takes n false ts f x rest h e = absurd cc
-word_takes n true ts f x rest h e =
-    let lt : n < 65536 = ltb-true n 65536 h in
-    subst (λ (p : Numeric × List Token). Takes (tokens.Number n ∷ ts) (numeric_spelling p.0) p.1 × IsNumeric p.0) (ok_is (numerics.Number n, ts) (x, rest) e) (record { parts = refl }, lt)
+abbrev pub IsSmall : ℕ → Type 0
+IsSmall n = n < 65536
+
+small_is : (n : ℕ) (b : Bool) (ts : List Token) (f : Fault) (x : ℕ × List Token) → ltb n 65536 ≡ b → cond {A = Result (ℕ × List Token) Fault} b (Ok (n, ts)) (Err f) ≡ Ok x → ((n, ts) ≡ x) × IsSmall n
+small_is n false ts f x h e = absurd cc
+small_is n true ts f x h e = (ok_is (n, ts) x e, ltb-true n 65536 h)
+
+-- a number of one word, from the number and the tokens behind it
+pub small_behind_takes : (n : ℕ) (ts : List Token) (x : ℕ × List Token) → small_or_fault n ts ≡ Ok x → Takes (tokens.Number n ∷ ts) (tokens.Number x.0 ∷ []) x.1 × IsSmall x.0
+small_behind_takes n ts x e =
+    let s = small_is n (ltb n 65536) ts _ x refl e in
+    subst (λ (p : ℕ × List Token). Takes (tokens.Number n ∷ ts) (tokens.Number p.0 ∷ []) p.1 × IsSmall p.0) s.0 (record { parts = refl }, s.1)
 
 pub numeric_takes : IsSound numeric_spelling IsNumeric numeric_at
 unfolding numeric_at
 numeric_takes [] x rest e = absurd cc
-numeric_takes (tokens.Number n ∷ ts) x rest e = word_takes n (ltb n 65536) ts (length ts + 1, Reason.LargeNumber) x rest refl e
+numeric_takes (tokens.Number n ∷ ts) x rest e =
+    let o = over_ok numerics.Number (small_or_fault n ts) (x, rest) e in
+    subst (λ (p : Numeric × List Token). Takes (tokens.Number n ∷ ts) (numeric_spelling p.0) p.1 × IsNumeric p.0) o.2 (small_behind_takes n ts o.0 o.1)
 numeric_takes (tokens.Name n ∷ ts) x rest e =
     let o = over_ok numerics.Constant (reference_behind n ts) (x, rest) e in
     subst (λ (p : Numeric × List Token). Takes (tokens.Name n ∷ ts) (numeric_spelling p.0) p.1 × IsNumeric p.0) o.2 (reference_takes n ts o.0.0 o.0.1 o.1, tt)
@@ -162,8 +204,8 @@ listed_takes {A} spell Good one sound (suc most) ts xs rest e =
     elim (others_ok (listed one most) after (behind_comma after) o.0.0 o.0.1 o.1) [
       | inl m ↦
           let l = listed_takes spell Good one sound most m.0 o.0.0 o.0.1 m.2 in
-          let more : Takes after (tokens.Comma ∷ parts_spelling spell o.0.0) o.0.1 = Takes-behind tokens.Comma after m.0 (parts_spelling spell o.0.0) o.0.1 (comma_is after m.0 m.1) l.takes in
-          let both : Takes ts (spell x ++ tokens.Comma ∷ parts_spelling spell o.0.0) o.0.1 = Takes-then ts (spell x) after (tokens.Comma ∷ parts_spelling spell o.0.0) o.0.1 first.0 more in
+          let more : Takes after (tokens.Comma ∷ parts_spelling spell o.0.0) o.0.1 = Takes-behind tokens.Comma (comma_is after m.0 m.1) l.takes in
+          let both : Takes ts (spell x ++ tokens.Comma ∷ parts_spelling spell o.0.0) o.0.1 = Takes-then first.0 more in
           record {
             takes = subst (λ (t : List Token). Takes ts (spell x ++ t) o.0.1) (sym (more_is spell o.0.0 l.some)) both;
             some = omega arith;
@@ -172,7 +214,7 @@ listed_takes {A} spell Good one sound (suc most) ts xs rest e =
           }
       | inr n ↦
           let none : Takes after [] o.0.1 = record { parts = n.2 } in
-          let both : Takes ts (spell x ++ []) o.0.1 = Takes-then ts (spell x) after [] o.0.1 first.0 none in
+          let both : Takes ts (spell x ++ []) o.0.1 = Takes-then first.0 none in
           subst (λ (others : List A). IsList spell Good (suc most) ts (x ∷ others) o.0.1) (sym n.1) (record { takes = both; some = omega arith; few = omega arith; good = (first.1, tt) })
     ] in
     subst (λ (p : List A × List Token). IsList spell Good (suc most) ts p.0 p.1) o.2 found

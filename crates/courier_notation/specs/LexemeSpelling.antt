@@ -1,53 +1,9 @@
 -- How tokens are written, byte by byte (XSIS 038112, Courier).
-use Rattle.std.specs.Prelude.{◌≡◌, ℕ, ◌<◌, ◌≤◌, List, [], ◌∷◌, ◌++◌, length, None, true, codes}
-use Rattle.std.specs.Fmt.{decimal}
+use Rattle.std.specs.Prelude.{◌≡◌, ℕ, ◌<◌, ◌≤◌, List, [], ◌∷◌, ◌++◌, length, None, true}
 use Rattle.std.specs.List.{list_all}
 use Rattle.courier_notation.specs.declared.token.Token.{Token}
 use Rattle.courier_notation.specs.declared.token.Token.TheVariants as tokens
-use Rattle.courier_notation.specs.Lexing.{LexemeModel, Lexing, is_letter, is_name_byte, is_no_quote, keyword_of, most_name, with_lexeme}
-
--- keywords, marks and numbers; a name and a string are written otherwise
-abbrev pub token_spelling : Token → List ℕ
-token_spelling (tokens.Name n) = []
-token_spelling (tokens.Number n) = decimal n
-token_spelling (tokens.Quoted n) = []
-token_spelling tokens.Array = codes "ARRAY"
-token_spelling tokens.Begin = codes "BEGIN"
-token_spelling tokens.Boolean = codes "BOOLEAN"
-token_spelling tokens.Cardinal = codes "CARDINAL"
-token_spelling tokens.Choice = codes "CHOICE"
-token_spelling tokens.Depends = codes "DEPENDS"
-token_spelling tokens.End = codes "END"
-token_spelling tokens.Error = codes "ERROR"
-token_spelling tokens.False = codes "FALSE"
-token_spelling tokens.Integer = codes "INTEGER"
-token_spelling tokens.Long = codes "LONG"
-token_spelling tokens.Of = codes "OF"
-token_spelling tokens.Procedure = codes "PROCEDURE"
-token_spelling tokens.Program = codes "PROGRAM"
-token_spelling tokens.Record = codes "RECORD"
-token_spelling tokens.Reports = codes "REPORTS"
-token_spelling tokens.Returns = codes "RETURNS"
-token_spelling tokens.Sequence = codes "SEQUENCE"
-token_spelling tokens.String = codes "STRING"
-token_spelling tokens.True = codes "TRUE"
-token_spelling tokens.Type = codes "TYPE"
-token_spelling tokens.Unspecified = codes "UNSPECIFIED"
-token_spelling tokens.Upon = codes "UPON"
-token_spelling tokens.Version = codes "VERSION"
-token_spelling tokens.Arrow = codes "=>"
-token_spelling tokens.CloseBrace = codes "}"
-token_spelling tokens.CloseBracket = codes "]"
-token_spelling tokens.CloseParenthesis = codes ")"
-token_spelling tokens.Colon = codes ":"
-token_spelling tokens.Comma = codes ","
-token_spelling tokens.Dot = codes "."
-token_spelling tokens.Equal = codes "="
-token_spelling tokens.Minus = codes "-"
-token_spelling tokens.OpenBrace = codes "{"
-token_spelling tokens.OpenBracket = codes "["
-token_spelling tokens.OpenParenthesis = codes "("
-token_spelling tokens.Semicolon = codes ";"
+use Rattle.courier_notation.specs.Lexing.{LexemeModel, Lexing, is_letter, is_name_byte, is_no_quote, keyword_of, most_name, token_spelling, with_lexeme}
 
 abbrev pub lexeme_spelling : LexemeModel → List ℕ
 lexeme_spelling (LexemeModel.plain token) = token_spelling token

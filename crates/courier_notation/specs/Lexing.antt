@@ -1,6 +1,7 @@
 -- The tokens of a text (XSIS 038112, Courier). That a comment ends at two dashes or with its line is as in Mesa; that a name has
 -- letters and digits alone, and a string no quote, are this project's.
 use Rattle.std.specs.Prelude.{ℕ, zero, suc, ◌+◌, ◌*◌, ◌-◌, ◌==◌, ◌&&◌, ◌||◌, not, List, [], ◌∷◌, ◌++◌, length, map, Bool, false, Option, Some, None, Result, Ok, Err, IsOk, nat_lt, nat_le, if◌then◌else◌, codes}
+use Rattle.std.specs.Fmt.{decimal}
 use Rattle.std.specs.Str.{bytes_eq}
 use Rattle.courier_notation.specs.declared.lexed.Lexed.{Lexed}
 use Rattle.courier_notation.specs.declared.limits.TheConstants.{MOST_NAME, MOST_TEXT, MOST_TOKENS}
@@ -58,33 +59,64 @@ digits_number number (d ∷ digits) = digits_number (10 * number + (d - 48)) dig
 abbrev pub long_of : ℕ → Option ℕ
 long_of number = if nat_lt number 4294967296 then Some number else None
 
+-- keywords, marks and numbers; a name and a string are written otherwise
+abbrev pub token_spelling : Token → List ℕ
+token_spelling (tokens.Name n) = []
+token_spelling (tokens.Number n) = decimal n
+token_spelling (tokens.Quoted n) = []
+token_spelling tokens.Array = codes "ARRAY"
+token_spelling tokens.Begin = codes "BEGIN"
+token_spelling tokens.Boolean = codes "BOOLEAN"
+token_spelling tokens.Cardinal = codes "CARDINAL"
+token_spelling tokens.Choice = codes "CHOICE"
+token_spelling tokens.Depends = codes "DEPENDS"
+token_spelling tokens.End = codes "END"
+token_spelling tokens.Error = codes "ERROR"
+token_spelling tokens.False = codes "FALSE"
+token_spelling tokens.Integer = codes "INTEGER"
+token_spelling tokens.Long = codes "LONG"
+token_spelling tokens.Of = codes "OF"
+token_spelling tokens.Procedure = codes "PROCEDURE"
+token_spelling tokens.Program = codes "PROGRAM"
+token_spelling tokens.Record = codes "RECORD"
+token_spelling tokens.Reports = codes "REPORTS"
+token_spelling tokens.Returns = codes "RETURNS"
+token_spelling tokens.Sequence = codes "SEQUENCE"
+token_spelling tokens.String = codes "STRING"
+token_spelling tokens.True = codes "TRUE"
+token_spelling tokens.Type = codes "TYPE"
+token_spelling tokens.Unspecified = codes "UNSPECIFIED"
+token_spelling tokens.Upon = codes "UPON"
+token_spelling tokens.Version = codes "VERSION"
+token_spelling tokens.Arrow = codes "=>"
+token_spelling tokens.CloseBrace = codes "}"
+token_spelling tokens.CloseBracket = codes "]"
+token_spelling tokens.CloseParenthesis = codes ")"
+token_spelling tokens.Colon = codes ":"
+token_spelling tokens.Comma = codes ","
+token_spelling tokens.Dot = codes "."
+token_spelling tokens.Equal = codes "="
+token_spelling tokens.Minus = codes "-"
+token_spelling tokens.OpenBrace = codes "{"
+token_spelling tokens.OpenBracket = codes "["
+token_spelling tokens.OpenParenthesis = codes "("
+token_spelling tokens.Semicolon = codes ";"
+
+-- the first of these tokens that is written so
+abbrev pub token_among : List Token → List ℕ → Option Token
+token_among [] word = None
+token_among (t ∷ ts) word = if bytes_eq word (token_spelling t) then Some t else token_among ts word
+
+abbrev pub keywords : List Token
+keywords =
+    tokens.Array ∷ tokens.Begin ∷ tokens.Boolean ∷ tokens.Cardinal ∷ tokens.Choice ∷ tokens.Depends ∷ tokens.End ∷
+    tokens.Error ∷ tokens.False ∷ tokens.Integer ∷ tokens.Long ∷ tokens.Of ∷ tokens.Procedure ∷ tokens.Program ∷
+    tokens.Record ∷ tokens.Reports ∷ tokens.Returns ∷ tokens.Sequence ∷ tokens.String ∷ tokens.True ∷ tokens.Type ∷
+    tokens.Unspecified ∷ tokens.Upon ∷ tokens.Version ∷ []
+
 -- the keyword that a word is
 abbrev pub keyword_of : List ℕ → Option Token
-keyword_of word =
-    if bytes_eq word (codes "ARRAY") then Some tokens.Array else
-    if bytes_eq word (codes "BEGIN") then Some tokens.Begin else
-    if bytes_eq word (codes "BOOLEAN") then Some tokens.Boolean else
-    if bytes_eq word (codes "CARDINAL") then Some tokens.Cardinal else
-    if bytes_eq word (codes "CHOICE") then Some tokens.Choice else
-    if bytes_eq word (codes "DEPENDS") then Some tokens.Depends else
-    if bytes_eq word (codes "END") then Some tokens.End else
-    if bytes_eq word (codes "ERROR") then Some tokens.Error else
-    if bytes_eq word (codes "FALSE") then Some tokens.False else
-    if bytes_eq word (codes "INTEGER") then Some tokens.Integer else
-    if bytes_eq word (codes "LONG") then Some tokens.Long else
-    if bytes_eq word (codes "OF") then Some tokens.Of else
-    if bytes_eq word (codes "PROCEDURE") then Some tokens.Procedure else
-    if bytes_eq word (codes "PROGRAM") then Some tokens.Program else
-    if bytes_eq word (codes "RECORD") then Some tokens.Record else
-    if bytes_eq word (codes "REPORTS") then Some tokens.Reports else
-    if bytes_eq word (codes "RETURNS") then Some tokens.Returns else
-    if bytes_eq word (codes "SEQUENCE") then Some tokens.Sequence else
-    if bytes_eq word (codes "STRING") then Some tokens.String else
-    if bytes_eq word (codes "TRUE") then Some tokens.True else
-    if bytes_eq word (codes "TYPE") then Some tokens.Type else
-    if bytes_eq word (codes "UNSPECIFIED") then Some tokens.Unspecified else
-    if bytes_eq word (codes "UPON") then Some tokens.Upon else
-    if bytes_eq word (codes "VERSION") then Some tokens.Version else None
+keyword_of = token_among keywords
 
 -- the token of a mark that is one byte
 abbrev pub mark_of : ℕ → Option Token

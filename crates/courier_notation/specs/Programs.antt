@@ -1,5 +1,5 @@
 -- Reading a program from left to right (XSIS 038112, Courier). Which fault is told is this project's rule.
-use Rattle.std.specs.Prelude.{◌⊎◌, ℕ, zero, suc, ◌+◌, List, [], ◌∷◌, length, Result, Ok, Err, IsOk, Bool, true, false, nat_lt, if◌then◌else◌}
+use Rattle.std.specs.Prelude.{◌⊎◌, ℕ, zero, suc, ◌+◌, List, [], ◌∷◌, length, Result, Ok, Err, IsOk, Bool, true, false, if◌then◌else◌}
 use Rattle.courier_notation.specs.declared.declared.Constant.{Constant}
 use Rattle.courier_notation.specs.declared.declared.Constant.TheVariants as constants
 use Rattle.courier_notation.specs.declared.declared.Dependency.{Dependency}
@@ -10,45 +10,12 @@ use Rattle.courier_notation.specs.declared.token.Token.TheVariants as tokens
 use Rattle.courier_notation.specs.declared.limits.TheConstants.{MOST_DEPTH}
 use Rattle.courier_notation.specs.declared.written.Reference.{Reference}
 use Rattle.courier_notation.specs.ProgramModels.{DeclaredModel, FieldList, ProgramModel}
-use Rattle.courier_notation.specs.Reading.{Fault, ◌>>=◌, Reader, over, listed, most_parts, name_at, reference_behind, fields_at, type_at, Behind, Then, FieldsWant, TypeWants}
-use Rattle.courier_notation.specs.Reading.{colon_at, open_bracket_at, close_bracket_at, open_parenthesis_at, close_parenthesis_at}
+use Rattle.courier_notation.specs.Reading.{Fault, ◌>>=◌, Reader, over, listed, most_parts, name_at, reference_behind, small_or_fault, token_at, fields_at, type_at, Behind, Then, FieldsWant, TypeWants}
 
 abbrev pub most_depth : ℕ
 most_depth = MOST_DEPTH
 
--- ---- single tokens
-
-abbrev pub begin_at : List Token → Result (List Token) Fault
-begin_at (tokens.Begin ∷ ts) = Ok ts
-begin_at ts = Err (length ts, reasons.NoBegin)
-
-abbrev pub end_at : List Token → Result (List Token) Fault
-end_at (tokens.End ∷ ts) = Ok ts
-end_at ts = Err (length ts, reasons.NoEnd)
-
-abbrev pub program_at : List Token → Result (List Token) Fault
-program_at (tokens.Program ∷ ts) = Ok ts
-program_at ts = Err (length ts, reasons.NoProgram)
-
-abbrev pub version_at : List Token → Result (List Token) Fault
-version_at (tokens.Version ∷ ts) = Ok ts
-version_at ts = Err (length ts, reasons.NoVersion)
-
-abbrev pub upon_at : List Token → Result (List Token) Fault
-upon_at (tokens.Upon ∷ ts) = Ok ts
-upon_at ts = Err (length ts, reasons.NoUpon)
-
-abbrev pub equal_at : List Token → Result (List Token) Fault
-equal_at (tokens.Equal ∷ ts) = Ok ts
-equal_at ts = Err (length ts, reasons.NoEqual)
-
-abbrev pub semicolon_at : List Token → Result (List Token) Fault
-semicolon_at (tokens.Semicolon ∷ ts) = Ok ts
-semicolon_at ts = Err (length ts, reasons.NoSemicolon)
-
-abbrev pub dot_at : List Token → Result (List Token) Fault
-dot_at (tokens.Dot ∷ ts) = Ok ts
-dot_at ts = Err (length ts, reasons.NoDot)
+-- ---- numbers
 
 -- a number of two words
 abbrev pub long_at : Reader ℕ
@@ -56,9 +23,6 @@ long_at (tokens.Number n ∷ ts) = Ok (n, ts)
 long_at ts = Err (length ts, reasons.NoNumber)
 
 -- a number of one word
-abbrev pub small_or_fault : ℕ → List Token → Result (ℕ × List Token) Fault
-small_or_fault n ts = if nat_lt n 65536 then Ok (n, ts) else Err (length ts + 1, reasons.LargeNumber)
-
 unfoldable pub small_at : Reader ℕ
 small_at ts = long_at ts >>= λ n. small_or_fault n.0 n.1
 
@@ -95,7 +59,7 @@ unfoldable pub elements_behind : Reader Constant → Reader Constant
 elements_behind one (tokens.CloseBracket ∷ ts) = Ok (constants.Other, ts)
 elements_behind one ts = do
   elements ← listed (element_at one) most_parts ts
-  rest ← close_bracket_at elements.1
+  rest ← token_at tokens.CloseBracket reasons.NoCloseBracket elements.1
   Ok (constants.Other, rest)
 
 -- a constant by its first token
@@ -132,9 +96,9 @@ reference_at ts = name_at ts >>= λ name. reference_behind name.0 name.1
 -- the errors that a procedure reports
 unfoldable pub reports_at : Reader (List Reference)
 reports_at (tokens.Reports ∷ ts) = do
-  inside ← open_bracket_at ts
+  inside ← token_at tokens.OpenBracket reasons.NoOpenBracket ts
   errors ← listed reference_at most_parts inside
-  rest ← close_bracket_at errors.1
+  rest ← token_at tokens.CloseBracket reasons.NoCloseBracket errors.1
   Ok (errors.0, rest)
 reports_at ts = Ok ([], ts)
 
@@ -143,27 +107,27 @@ procedure_behind ts = do
   arguments ← arguments_at ts
   results ← results_at arguments.1
   errors ← reports_at results.1
-  rest ← equal_at errors.1
+  rest ← token_at tokens.Equal reasons.NoEqual errors.1
   number ← small_at rest
   Ok (DeclaredModel.is_procedure arguments.0 results.0 errors.0 number.0, number.1)
 
 unfoldable pub error_behind : Reader DeclaredModel
 error_behind ts = do
   arguments ← arguments_at ts
-  rest ← equal_at arguments.1
+  rest ← token_at tokens.Equal reasons.NoEqual arguments.1
   number ← small_at rest
   Ok (DeclaredModel.is_error arguments.0 number.0, number.1)
 
 unfoldable pub type_declared : Reader DeclaredModel
 type_declared ts = do
-  rest ← equal_at ts
+  rest ← token_at tokens.Equal reasons.NoEqual ts
   type ← type_at most_depth rest
   Ok (DeclaredModel.is_type type.0, type.1)
 
 unfoldable pub constant_declared : Reader DeclaredModel
 constant_declared ts = do
   type ← type_at most_depth ts
-  rest ← equal_at type.1
+  rest ← token_at tokens.Equal reasons.NoEqual type.1
   constant ← constant_at most_depth rest
   Ok (DeclaredModel.is_constant type.0 constant.0, constant.1)
 
@@ -176,9 +140,9 @@ declared_at ts = constant_declared ts
 unfoldable pub declaration_at : Reader (ℕ × DeclaredModel)
 declaration_at ts = do
   name ← name_at ts
-  rest ← colon_at name.1
+  rest ← token_at tokens.Colon reasons.NoColon name.1
   declared ← declared_at rest
-  behind ← semicolon_at declared.1
+  behind ← token_at tokens.Semicolon reasons.NoSemicolon declared.1
   Ok ((name.0, declared.0), behind)
 
 -- whether the declarations end there
@@ -200,18 +164,18 @@ declarations_at (suc n) ts =
 unfoldable pub dependency_at : Reader Dependency
 dependency_at ts = do
   name ← name_at ts
-  inside ← open_parenthesis_at name.1
+  inside ← token_at tokens.OpenParenthesis reasons.NoOpenParenthesis name.1
   number ← long_at inside
-  rest ← close_parenthesis_at number.1
-  behind ← version_at rest
+  rest ← token_at tokens.CloseParenthesis reasons.NoCloseParenthesis number.1
+  behind ← token_at tokens.Version reasons.NoVersion rest
   version ← small_at behind
   Ok (record { name = name.0; number = number.0; version = version.0 }, version.1)
 
 unfoldable pub dependencies_at : Reader (List Dependency)
 dependencies_at (tokens.Depends ∷ ts) = do
-  inside ← upon_at ts
+  inside ← token_at tokens.Upon reasons.NoUpon ts
   dependencies ← listed dependency_at most_parts inside
-  rest ← semicolon_at dependencies.1
+  rest ← token_at tokens.Semicolon reasons.NoSemicolon dependencies.1
   Ok (dependencies.0, rest)
 dependencies_at ts = Ok ([], ts)
 
@@ -228,21 +192,21 @@ Header = ℕ × ℕ × ℕ
 unfoldable pub header_at : Reader Header
 header_at ts = do
   name ← name_at ts
-  t1 ← colon_at name.1
-  t2 ← program_at t1
+  t1 ← token_at tokens.Colon reasons.NoColon name.1
+  t2 ← token_at tokens.Program reasons.NoProgram t1
   number ← long_at t2
-  t3 ← version_at number.1
+  t3 ← token_at tokens.Version reasons.NoVersion number.1
   version ← small_at t3
-  t4 ← equal_at version.1
-  t5 ← begin_at t4
+  t4 ← token_at tokens.Equal reasons.NoEqual version.1
+  t5 ← token_at tokens.Begin reasons.NoBegin t4
   Ok ((name.0, number.0, version.0), t5)
 
 unfoldable pub body_at : Reader (List Dependency × List (ℕ × DeclaredModel))
 body_at ts = do
   dependencies ← dependencies_at ts
   declarations ← declarations_at most_declarations dependencies.1
-  ended ← end_at declarations.1
-  rest ← dot_at ended
+  ended ← token_at tokens.End reasons.NoEnd declarations.1
+  rest ← token_at tokens.Dot reasons.NoDot ended
   Ok ((dependencies.0, declarations.0), rest)
 
 abbrev pub program_with : Header → List Dependency × List (ℕ × DeclaredModel) → ProgramModel
@@ -263,7 +227,7 @@ ResultsWant ts = ⊥
 
 -- a first error is reported
 abbrev pub ReportsWant : List Token → Type 0
-ReportsWant (tokens.Reports ∷ ts) = Then (open_bracket_at ts) (λ inside. IsOk (reference_at inside))
+ReportsWant (tokens.Reports ∷ ts) = Then (token_at tokens.OpenBracket reasons.NoOpenBracket ts) (λ inside. IsOk (reference_at inside))
 ReportsWant ts = ⊥
 
 -- the arguments of a procedure want memory, or behind them its results, or behind those what it reports
@@ -272,13 +236,13 @@ ProcedureWants ts = FieldsWant ts ⊎ Behind (arguments_at ts) (λ rest. Results
 
 -- what is declared wants memory; of a constant its type does
 abbrev pub DeclaredWants : List Token → Type 0
-DeclaredWants (tokens.Type ∷ ts) = Then (equal_at ts) (TypeWants most_depth)
+DeclaredWants (tokens.Type ∷ ts) = Then (token_at tokens.Equal reasons.NoEqual ts) (TypeWants most_depth)
 DeclaredWants (tokens.Procedure ∷ ts) = ProcedureWants ts
 DeclaredWants (tokens.Error ∷ ts) = FieldsWant ts
 DeclaredWants ts = TypeWants most_depth ts
 
 abbrev pub DeclarationWants : List Token → Type 0
-DeclarationWants ts = Behind (name_at ts) (λ rest. Then (colon_at rest) DeclaredWants)
+DeclarationWants ts = Behind (name_at ts) (λ rest. Then (token_at tokens.Colon reasons.NoColon rest) DeclaredWants)
 
 -- a first declaration is read, or wants memory
 abbrev pub DeclarationsWant : List Token → Type 0
@@ -286,7 +250,7 @@ DeclarationsWant ts = DeclarationWants ts ⊎ IsOk (declaration_at ts)
 
 -- a first dependency is read
 abbrev pub DependenciesWant : List Token → Type 0
-DependenciesWant (tokens.Depends ∷ ts) = Then (upon_at ts) (λ rest. IsOk (dependency_at rest))
+DependenciesWant (tokens.Depends ∷ ts) = Then (token_at tokens.Upon reasons.NoUpon ts) (λ rest. IsOk (dependency_at rest))
 DependenciesWant ts = ⊥
 
 abbrev pub BodyWants : List Token → Type 0

@@ -1,6 +1,7 @@
 -- Reading a type from left to right (XSIS 038112, Courier). Which fault is told is this project's rule: the first token that
 -- does not go on as a type does, or a limit that is passed there.
-use Rattle.std.specs.Prelude.{◌≡◌, ◌⊎◌, ℕ, zero, suc, ◌+◌, List, [], ◌∷◌, length, Option, Some, None, Result, Ok, Err, IsOk, nat_lt, if◌then◌else◌}
+use Rattle.std.specs.Prelude.{◌≡◌, ◌⊎◌, ℕ, zero, suc, ◌+◌, List, [], ◌∷◌, length, Option, Some, None, Result, Ok, Err, IsOk, Bool, nat_lt, if◌then◌else◌}
+use Rattle.courier_notation.specs.contracts.token.TokenPartialEq.TheImpl as token_eq
 use Rattle.courier_notation.specs.declared.reason.Reason.{Reason}
 use Rattle.courier_notation.specs.declared.reason.Reason.TheVariants as reasons
 use Rattle.courier_notation.specs.declared.stop.Stop.{Stop}
@@ -71,41 +72,13 @@ most_parts = MOST_PARTS
 
 -- ---- single tokens
 
-abbrev pub of_at : List Token → Result (List Token) Fault
-of_at (tokens.Of ∷ ts) = Ok ts
-of_at ts = Err (length ts, reasons.NoOf)
+abbrev pub is_token : Token → Token → Bool
+is_token = (token_eq.ghosts).eq
 
-abbrev pub arrow_at : List Token → Result (List Token) Fault
-arrow_at (tokens.Arrow ∷ ts) = Ok ts
-arrow_at ts = Err (length ts, reasons.NoArrow)
-
-abbrev pub colon_at : List Token → Result (List Token) Fault
-colon_at (tokens.Colon ∷ ts) = Ok ts
-colon_at ts = Err (length ts, reasons.NoColon)
-
-abbrev pub open_brace_at : List Token → Result (List Token) Fault
-open_brace_at (tokens.OpenBrace ∷ ts) = Ok ts
-open_brace_at ts = Err (length ts, reasons.NoOpenBrace)
-
-abbrev pub close_brace_at : List Token → Result (List Token) Fault
-close_brace_at (tokens.CloseBrace ∷ ts) = Ok ts
-close_brace_at ts = Err (length ts, reasons.NoCloseBrace)
-
-abbrev pub open_bracket_at : List Token → Result (List Token) Fault
-open_bracket_at (tokens.OpenBracket ∷ ts) = Ok ts
-open_bracket_at ts = Err (length ts, reasons.NoOpenBracket)
-
-abbrev pub close_bracket_at : List Token → Result (List Token) Fault
-close_bracket_at (tokens.CloseBracket ∷ ts) = Ok ts
-close_bracket_at ts = Err (length ts, reasons.NoCloseBracket)
-
-abbrev pub open_parenthesis_at : List Token → Result (List Token) Fault
-open_parenthesis_at (tokens.OpenParenthesis ∷ ts) = Ok ts
-open_parenthesis_at ts = Err (length ts, reasons.NoOpenParenthesis)
-
-abbrev pub close_parenthesis_at : List Token → Result (List Token) Fault
-close_parenthesis_at (tokens.CloseParenthesis ∷ ts) = Ok ts
-close_parenthesis_at ts = Err (length ts, reasons.NoCloseParenthesis)
+-- what stands behind the wanted token, which has to stand first
+abbrev pub token_at : Token → Reason → List Token → Result (List Token) Fault
+token_at wanted missing [] = Err (0, missing)
+token_at wanted missing (t ∷ ts) = if is_token t wanted then Ok ts else Err (length (t ∷ ts), missing)
 
 abbrev pub name_at : Reader ℕ
 name_at (tokens.Name n ∷ ts) = Ok (n, ts)
@@ -118,13 +91,13 @@ abbrev pub reference_behind : ℕ → Reader Reference
 reference_behind n (tokens.Dot ∷ ts) = over (references.Other n) (name_at ts)
 reference_behind n ts = Ok (references.Own n, ts)
 
--- a number of one word
-abbrev pub word_of : ℕ → Reader Numeric
-word_of n ts = if nat_lt n 65536 then Ok (numerics.Number n, ts) else Err (length ts + 1, reasons.LargeNumber)
+-- the number, if it is a word; the tokens are those behind it
+abbrev pub small_or_fault : ℕ → Reader ℕ
+small_or_fault n ts = if nat_lt n 65536 then Ok (n, ts) else Err (length ts + 1, reasons.LargeNumber)
 
 -- a number, or the name of a constant
 unfoldable pub numeric_at : Reader Numeric
-numeric_at (tokens.Number n ∷ ts) = word_of n ts
+numeric_at (tokens.Number n ∷ ts) = over numerics.Number (small_or_fault n ts)
 numeric_at (tokens.Name n ∷ ts) = over numerics.Constant (reference_behind n ts)
 numeric_at ts = Err (length ts, reasons.NoNumber)
 
@@ -151,16 +124,16 @@ listed one (suc n) ts = one ts >>= λ first. over (λ others. first.0 ∷ others
 unfoldable pub member_at : Reader (ℕ × Numeric)
 member_at ts = do
   name ← name_at ts
-  inside ← open_parenthesis_at name.1
+  inside ← token_at tokens.OpenParenthesis reasons.NoOpenParenthesis name.1
   number ← numeric_at inside
-  rest ← close_parenthesis_at number.1
+  rest ← token_at tokens.CloseParenthesis reasons.NoCloseParenthesis number.1
   Ok ((name.0, number.0), rest)
 
 -- the number of a designator, where one is written
 unfoldable pub designator_behind : ℕ → Reader Designator
 designator_behind n (tokens.OpenParenthesis ∷ ts) = do
   number ← numeric_at ts
-  rest ← close_parenthesis_at number.1
+  rest ← token_at tokens.CloseParenthesis reasons.NoCloseParenthesis number.1
   Ok ((n, Some number.0), rest)
 designator_behind n ts = Ok ((n, None), ts)
 
@@ -171,7 +144,7 @@ designator_at ts = name_at ts >>= λ name. designator_behind name.0 name.1
 unfoldable pub field_at : Reader TypeModel → Reader (List ℕ × TypeModel)
 field_at one ts = do
   names ← listed name_at most_parts ts
-  rest ← colon_at names.1
+  rest ← token_at tokens.Colon reasons.NoColon names.1
   over (λ type. (names.0, type)) (one rest)
 
 -- components up to a bracket, perhaps none
@@ -179,18 +152,18 @@ unfoldable pub fields_behind : Reader TypeModel → Reader (List (List ℕ × Ty
 fields_behind one (tokens.CloseBracket ∷ ts) = Ok ([], ts)
 fields_behind one ts = do
   fields ← listed (field_at one) most_parts ts
-  rest ← close_bracket_at fields.1
+  rest ← token_at tokens.CloseBracket reasons.NoCloseBracket fields.1
   Ok (fields.0, rest)
 
 -- components in brackets
 unfoldable pub fields_at : Reader TypeModel → Reader (List (List ℕ × TypeModel))
-fields_at one ts = open_bracket_at ts >>= fields_behind one
+fields_at one ts = token_at tokens.OpenBracket reasons.NoOpenBracket ts >>= fields_behind one
 
 -- designators, and their type behind an arrow
 unfoldable pub candidate_at : Reader TypeModel → Reader (List Designator × TypeModel)
 candidate_at one ts = do
   designators ← listed designator_at most_parts ts
-  rest ← arrow_at designators.1
+  rest ← token_at tokens.Arrow reasons.NoArrow designators.1
   over (λ type. (designators.0, type)) (one rest)
 
 -- the enumeration that designators are of, if it is named
@@ -208,7 +181,7 @@ maximum_at ts = over Some (numeric_at ts)
 unfoldable pub enumeration_behind : Reader TypeModel
 enumeration_behind ts = do
   members ← listed member_at most_parts ts
-  rest ← close_brace_at members.1
+  rest ← token_at tokens.CloseBrace reasons.NoCloseBrace members.1
   Ok (TypeModel.enumeration members.0, rest)
 
 abbrev pub long_behind : Reader TypeModel
@@ -219,22 +192,22 @@ long_behind ts = Err (length ts, reasons.NoType)
 unfoldable pub array_behind : Reader TypeModel → Reader TypeModel
 array_behind one ts = do
   number ← numeric_at ts
-  rest ← of_at number.1
+  rest ← token_at tokens.Of reasons.NoOf number.1
   over (TypeModel.array number.0) (one rest)
 
 unfoldable pub sequence_behind : Reader TypeModel → Reader TypeModel
 sequence_behind one ts = do
   most ← maximum_at ts
-  rest ← of_at most.1
+  rest ← token_at tokens.Of reasons.NoOf most.1
   over (TypeModel.sequence most.0) (one rest)
 
 unfoldable pub choice_behind : Reader TypeModel → Reader TypeModel
 choice_behind one ts = do
   tag ← tag_at ts
-  rest ← of_at tag.1
-  inside ← open_brace_at rest
+  rest ← token_at tokens.Of reasons.NoOf tag.1
+  inside ← token_at tokens.OpenBrace reasons.NoOpenBrace rest
   candidates ← listed (candidate_at one) most_parts inside
-  behind ← close_brace_at candidates.1
+  behind ← token_at tokens.CloseBrace reasons.NoCloseBrace candidates.1
   Ok (TypeModel.choice tag.0 (candidates_from candidates.0), behind)
 
 abbrev pub record_behind : Reader TypeModel → Reader TypeModel
@@ -276,15 +249,15 @@ Then (Err e) wants = ⊥
 
 -- a first component is named
 abbrev pub FieldsWant : List Token → Type 0
-FieldsWant ts = Then (open_bracket_at ts) (λ inside. IsOk (name_at inside))
+FieldsWant ts = Then (token_at tokens.OpenBracket reasons.NoOpenBracket ts) (λ inside. IsOk (name_at inside))
 
 -- a first candidate has a designator
 abbrev pub ChoiceWants : List Token → Type 0
-ChoiceWants ts = Behind (tag_at ts) (λ rest. Then (of_at rest) (λ behind. Then (open_brace_at behind) (λ inside. IsOk (designator_at inside))))
+ChoiceWants ts = Behind (tag_at ts) (λ rest. Then (token_at tokens.Of reasons.NoOf rest) (λ behind. Then (token_at tokens.OpenBrace reasons.NoOpenBrace behind) (λ inside. IsOk (designator_at inside))))
 
 -- an element is read, or its type wants memory
 abbrev pub ElementWants : Reader TypeModel → (List Token → Type 0) → List Token → Type 0
-ElementWants one wants ts = Then (of_at ts) (λ rest. wants rest ⊎ IsOk (one rest))
+ElementWants one wants ts = Then (token_at tokens.Of reasons.NoOf ts) (λ rest. wants rest ⊎ IsOk (one rest))
 
 -- a type wants memory behind its first token
 abbrev pub BehindWants : Reader TypeModel → (List Token → Type 0) → Token → List Token → Type 0

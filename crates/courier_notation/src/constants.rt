@@ -8,7 +8,7 @@ ghost use Rattle.courier_notation.specs.Programs.{elements_behind, long_at};
 
 use crate::declared::Constant;
 use crate::limits::MOST_PARTS;
-use crate::marks::{behind_close_bracket, next_part, wrong};
+use crate::marks::{behind, next_part, wrong};
 use crate::parts::{long_of, reference_of};
 use crate::reason::Reason;
 use crate::stop::Stop;
@@ -95,7 +95,7 @@ fn elements_inside(depth: usize, tokens: &[Token]) -> Result<(Constant, &[Token]
         [Token::CloseBracket, rest @ ..] => Ok((Constant::Other, rest)),
         _ => {
             let rest = behind_elements(depth, tokens)?;
-            let rest = behind_close_bracket(rest)?;
+            let rest = behind(Token::CloseBracket, Reason::NoCloseBracket, rest)?;
             Ok((Constant::Other, rest))
         }
     }

@@ -1,19 +1,18 @@
 //! Declarations read from tokens, from left to right.
 
+ghost use Rattle.courier_notation.specs.declared.reason.Reason.TheVariants.{NoEqual};
+ghost use Rattle.courier_notation.specs.declared.token.Token.TheVariants.{Equal};
 ghost use Rattle.courier_notation.specs.ProgramModels.{declaration_view, declaration_views, declared_view};
 ghost use Rattle.courier_notation.specs.Written.{field_models};
-ghost use Rattle.courier_notation.specs.Reading.{FieldsWant, Gives, IfNoMemory, Then, TypeWants};
+ghost use Rattle.courier_notation.specs.Reading.{FieldsWant, Gives, IfNoMemory, Then, TypeWants, token_at};
 ghost use Rattle.courier_notation.specs.Programs.{arguments_at, constant_declared, declaration_at, declarations_at};
-ghost use Rattle.courier_notation.specs.Programs.{declared_at, error_behind, most_declarations, most_depth, equal_at, DeclarationWants, DeclarationsWant, DeclaredWants, ProcedureWants, ReportsWant, ResultsWant, procedure_behind};
+ghost use Rattle.courier_notation.specs.Programs.{declared_at, error_behind, most_declarations, most_depth, DeclarationWants, DeclarationsWant, DeclaredWants, ProcedureWants, ReportsWant, ResultsWant, procedure_behind};
 ghost use Rattle.courier_notation.specs.Programs.{reports_at, results_at, type_declared};
 
 use crate::constants::constant_of;
 use crate::declared::{Constant, Declaration, Declared};
 use crate::limits::{MOST_DECLARATIONS, MOST_DEPTH};
-use crate::marks::{
-    behind_close_bracket, behind_colon, behind_equal, behind_open_bracket, behind_semicolon,
-    is_end, wrong,
-};
+use crate::marks::{behind, is_end, wrong};
 use crate::parts::{name_of, references_of, small_of};
 use crate::reason::Reason;
 use crate::stop::Stop;
@@ -60,9 +59,9 @@ fn reports_of(alloc: Global, tokens: &[Token]) -> Result<(Vec<Reference>, &[Toke
 {
     match tokens {
         [Token::Reports, rest @ ..] => {
-            let inside = behind_open_bracket(rest)?;
+            let inside = behind(Token::OpenBracket, Reason::NoOpenBracket, rest)?;
             let (errors, rest) = references_of(alloc, inside)?;
-            let rest = behind_close_bracket(rest)?;
+            let rest = behind(Token::CloseBracket, Reason::NoCloseBracket, rest)?;
             Ok((errors, rest))
         }
         _ => Ok((Vec::new(alloc), tokens)),
@@ -71,14 +70,14 @@ fn reports_of(alloc: Global, tokens: &[Token]) -> Result<(Vec<Reference>, &[Toke
 
 /// A procedure, behind `PROCEDURE`.
 #[tactic(auto, unfolding(crate::specs::Programs::procedure_behind))]
-fn procedure_of(alloc: Global, tokens: &[Token]) -> Result<(Declared, &[Token]), Stop>
+fn declared_procedure(alloc: Global, tokens: &[Token]) -> Result<(Declared, &[Token]), Stop>
     ensures exact { Gives (λ x. (declared_view x.0, x.1.now)) result (procedure_behind tokens.now) }
     ensures memory { IfNoMemory result (ProcedureWants tokens.now) }
 {
     let (arguments, rest) = arguments_of(alloc, tokens)?;
     let (results, rest) = results_of(alloc, rest)?;
     let (errors, rest) = reports_of(alloc, rest)?;
-    let rest = behind_equal(rest)?;
+    let rest = behind(Token::Equal, Reason::NoEqual, rest)?;
     let (number, rest) = small_of(rest)?;
     Ok((
         Declared::Procedure {
@@ -93,12 +92,12 @@ fn procedure_of(alloc: Global, tokens: &[Token]) -> Result<(Declared, &[Token]),
 
 /// An error, behind `ERROR`.
 #[tactic(auto, unfolding(crate::specs::Programs::error_behind))]
-fn error_of(alloc: Global, tokens: &[Token]) -> Result<(Declared, &[Token]), Stop>
+fn declared_error(alloc: Global, tokens: &[Token]) -> Result<(Declared, &[Token]), Stop>
     ensures exact { Gives (λ x. (declared_view x.0, x.1.now)) result (error_behind tokens.now) }
     ensures memory { IfNoMemory result (FieldsWant tokens.now) }
 {
     let (arguments, rest) = arguments_of(alloc, tokens)?;
-    let rest = behind_equal(rest)?;
+    let rest = behind(Token::Equal, Reason::NoEqual, rest)?;
     let (number, rest) = small_of(rest)?;
     Ok((Declared::Error { arguments, number }, rest))
 }
@@ -107,9 +106,9 @@ fn error_of(alloc: Global, tokens: &[Token]) -> Result<(Declared, &[Token]), Sto
 #[tactic(auto, unfolding(crate::specs::Programs::type_declared))]
 fn declared_type(alloc: Global, tokens: &[Token]) -> Result<(Declared, &[Token]), Stop>
     ensures exact { Gives (λ x. (declared_view x.0, x.1.now)) result (type_declared tokens.now) }
-    ensures memory { IfNoMemory result (Then (equal_at tokens.now) (TypeWants most_depth)) }
+    ensures memory { IfNoMemory result (Then (token_at Equal NoEqual tokens.now) (TypeWants most_depth)) }
 {
-    let rest = behind_equal(tokens)?;
+    let rest = behind(Token::Equal, Reason::NoEqual, tokens)?;
     let (written, rest) = type_of(alloc, MOST_DEPTH, rest)?;
     Ok((Declared::Type(written), rest))
 }
@@ -121,7 +120,7 @@ fn declared_constant(alloc: Global, tokens: &[Token]) -> Result<(Declared, &[Tok
     ensures memory { IfNoMemory result (TypeWants most_depth tokens.now) }
 {
     let (written, rest) = type_of(alloc, MOST_DEPTH, tokens)?;
-    let rest = behind_equal(rest)?;
+    let rest = behind(Token::Equal, Reason::NoEqual, rest)?;
     let (constant, rest) = constant_of(MOST_DEPTH, rest)?;
     Ok((Declared::Constant(written, constant), rest))
 }
@@ -134,8 +133,8 @@ fn declared_of(alloc: Global, tokens: &[Token]) -> Result<(Declared, &[Token]), 
 {
     match tokens {
         [Token::Type, rest @ ..] => declared_type(alloc, rest),
-        [Token::Procedure, rest @ ..] => procedure_of(alloc, rest),
-        [Token::Error, rest @ ..] => error_of(alloc, rest),
+        [Token::Procedure, rest @ ..] => declared_procedure(alloc, rest),
+        [Token::Error, rest @ ..] => declared_error(alloc, rest),
         _ => declared_constant(alloc, tokens),
     }
 }
@@ -147,9 +146,9 @@ fn declaration_of(alloc: Global, tokens: &[Token]) -> Result<(Declaration, &[Tok
     ensures memory { IfNoMemory result (DeclarationWants tokens.now) }
 {
     let (name, rest) = name_of(tokens)?;
-    let rest = behind_colon(rest)?;
+    let rest = behind(Token::Colon, Reason::NoColon, rest)?;
     let (declared, rest) = declared_of(alloc, rest)?;
-    let rest = behind_semicolon(rest)?;
+    let rest = behind(Token::Semicolon, Reason::NoSemicolon, rest)?;
     Ok((Declaration { name, declared }, rest))
 }
 

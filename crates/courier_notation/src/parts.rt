@@ -2,10 +2,10 @@
 ghost use Rattle.std.specs.Prelude.{IsOk};
 ghost use Rattle.courier_notation.specs.Reading.{Gives, IfNoMemory, Reads, designator_at, designator_behind, listed, maximum_at};
 ghost use Rattle.courier_notation.specs.Reading.{member_at, most_parts, name_at, numeric_at, reference_behind};
-ghost use Rattle.courier_notation.specs.Reading.{tag_at, word_of};
-ghost use Rattle.courier_notation.specs.Programs.{long_at, reference_at, small_at, small_or_fault};
+ghost use Rattle.courier_notation.specs.Reading.{small_or_fault, tag_at};
+ghost use Rattle.courier_notation.specs.Programs.{long_at, reference_at, small_at};
 
-use crate::marks::{behind_close_parenthesis, behind_open_parenthesis, wrong};
+use crate::marks::{behind, wrong};
 use crate::part::{Part, parts_of};
 use crate::reason::Reason;
 use crate::stop::Stop;
@@ -37,11 +37,11 @@ pub fn reference_of(name: u32, tokens: &[Token]) -> Result<(Reference, &[Token])
 }
 
 /// The number, if it is a word; the tokens are those behind it.
-fn word_behind(number: u32, tokens: &[Token]) -> Result<(Numeric, &[Token]), Stop>
-    ensures { Reads (λ x. (x.0, x.1.now)) result (word_of number tokens.now) }
+fn small_behind(number: u32, tokens: &[Token]) -> Result<(u16, &[Token]), Stop>
+    ensures { Reads (λ x. (x.0, x.1.now)) result (small_or_fault number tokens.now) }
 {
     if number < 65_536 {
-        Ok((Numeric::Number(number as u16), tokens))
+        Ok((number as u16, tokens))
     } else {
         Err(Stop::Wrong {
             left: tokens.len() + 1,
@@ -56,7 +56,10 @@ pub fn numeric_of(tokens: &[Token]) -> Result<(Numeric, &[Token]), Stop>
     ensures { Reads (λ x. (x.0, x.1.now)) result (numeric_at tokens.now) }
 {
     match tokens {
-        [Token::Number(number), rest @ ..] => word_behind(*number, rest),
+        [Token::Number(number), rest @ ..] => {
+            let (number, rest) = small_behind(*number, rest)?;
+            Ok((Numeric::Number(number), rest))
+        }
         [Token::Name(name), rest @ ..] => {
             let (constant, rest) = reference_of(*name, rest)?;
             Ok((Numeric::Constant(constant), rest))
@@ -89,9 +92,9 @@ impl Part for (u32, Numeric) {
     #[tactic(auto, unfolding(crate::specs::Reading::member_at))]
     fn read(tokens: &[Token]) -> Result<((u32, Numeric), &[Token]), Stop> {
         let (name, rest) = name_of(tokens)?;
-        let inside = behind_open_parenthesis(rest)?;
+        let inside = behind(Token::OpenParenthesis, Reason::NoOpenParenthesis, rest)?;
         let (number, rest) = numeric_of(inside)?;
-        let rest = behind_close_parenthesis(rest)?;
+        let rest = behind(Token::CloseParenthesis, Reason::NoCloseParenthesis, rest)?;
         Ok(((name, number), rest))
     }
 }
@@ -115,7 +118,7 @@ fn designator_of_name(
     match tokens {
         [Token::OpenParenthesis, rest @ ..] => {
             let (number, rest) = numeric_of(rest)?;
-            let rest = behind_close_parenthesis(rest)?;
+            let rest = behind(Token::CloseParenthesis, Reason::NoCloseParenthesis, rest)?;
             Ok(((name, Some(number)), rest))
         }
         _ => Ok(((name, None), tokens)),
@@ -178,20 +181,6 @@ pub fn long_of(tokens: &[Token]) -> Result<(u32, &[Token]), Stop>
     match tokens {
         [Token::Number(number), rest @ ..] => Ok((*number, rest)),
         _ => Err(wrong(tokens, Reason::NoNumber)),
-    }
-}
-
-/// The number, if it is a word; the tokens are those behind it.
-fn small_behind(number: u32, tokens: &[Token]) -> Result<(u16, &[Token]), Stop>
-    ensures { Reads (λ x. (x.0, x.1.now)) result (small_or_fault number tokens.now) }
-{
-    if number < 65_536 {
-        Ok((number as u16, tokens))
-    } else {
-        Err(Stop::Wrong {
-            left: tokens.len() + 1,
-            reason: Reason::LargeNumber,
-        })
     }
 }
 

@@ -8,10 +8,7 @@ ghost use Rattle.courier_notation.specs.Programs.{nothing_at, program_of};
 
 use crate::declarations::declarations_of;
 use crate::declared::{Declaration, Dependency, WrittenProgram};
-use crate::marks::{
-    behind_begin, behind_close_parenthesis, behind_colon, behind_dot, behind_end, behind_equal,
-    behind_open_parenthesis, behind_program, behind_semicolon, behind_upon, behind_version, wrong,
-};
+use crate::marks::{behind, wrong};
 use crate::part::{Part, parts_of};
 use crate::parts::{long_of, name_of, small_of};
 use crate::reason::Reason;
@@ -26,10 +23,10 @@ impl Part for Dependency {
     #[tactic(auto, unfolding(crate::specs::Programs::dependency_at))]
     fn read(tokens: &[Token]) -> Result<(Dependency, &[Token]), Stop> {
         let (name, rest) = name_of(tokens)?;
-        let inside = behind_open_parenthesis(rest)?;
+        let inside = behind(Token::OpenParenthesis, Reason::NoOpenParenthesis, rest)?;
         let (number, rest) = long_of(inside)?;
-        let rest = behind_close_parenthesis(rest)?;
-        let rest = behind_version(rest)?;
+        let rest = behind(Token::CloseParenthesis, Reason::NoCloseParenthesis, rest)?;
+        let rest = behind(Token::Version, Reason::NoVersion, rest)?;
         let (version, rest) = small_of(rest)?;
         Ok((
             Dependency {
@@ -58,9 +55,9 @@ fn dependencies_of(alloc: Global, tokens: &[Token]) -> Result<(Vec<Dependency>, 
 {
     match tokens {
         [Token::Depends, rest @ ..] => {
-            let inside = behind_upon(rest)?;
+            let inside = behind(Token::Upon, Reason::NoUpon, rest)?;
             let (dependencies, rest) = some_dependencies(alloc, inside)?;
-            let rest = behind_semicolon(rest)?;
+            let rest = behind(Token::Semicolon, Reason::NoSemicolon, rest)?;
             Ok((dependencies, rest))
         }
         _ => Ok((Vec::new(alloc), tokens)),
@@ -73,13 +70,13 @@ fn header_of(tokens: &[Token]) -> Result<((u32, u32, u16), &[Token]), Stop>
     ensures { Reads (λ x. (x.0, x.1.now)) result (header_at tokens.now) }
 {
     let (name, rest) = name_of(tokens)?;
-    let rest = behind_colon(rest)?;
-    let rest = behind_program(rest)?;
+    let rest = behind(Token::Colon, Reason::NoColon, rest)?;
+    let rest = behind(Token::Program, Reason::NoProgram, rest)?;
     let (number, rest) = long_of(rest)?;
-    let rest = behind_version(rest)?;
+    let rest = behind(Token::Version, Reason::NoVersion, rest)?;
     let (version, rest) = small_of(rest)?;
-    let rest = behind_equal(rest)?;
-    let rest = behind_begin(rest)?;
+    let rest = behind(Token::Equal, Reason::NoEqual, rest)?;
+    let rest = behind(Token::Begin, Reason::NoBegin, rest)?;
     Ok(((name, number, version), rest))
 }
 
@@ -94,8 +91,8 @@ fn body_of(
 {
     let (dependencies, rest) = dependencies_of(alloc, tokens)?;
     let (declarations, rest) = declarations_of(alloc, rest)?;
-    let ended = behind_end(rest)?;
-    let rest = behind_dot(ended)?;
+    let ended = behind(Token::End, Reason::NoEnd, rest)?;
+    let rest = behind(Token::Dot, Reason::NoDot, ended)?;
     Ok(((dependencies, declarations), rest))
 }
 

@@ -1,5 +1,5 @@
 //! Types read from tokens, from left to right.
-ghost use Rattle.std.specs.Prelude.{◌⊎◌, IsOk};
+ghost use Rattle.std.specs.Prelude.{IsOk};
 ghost use Rattle.courier_notation.specs.Written.{TypeModel, candidate_model, candidate_models, field_model};
 ghost use Rattle.courier_notation.specs.Written.{field_models, type_model};
 ghost use Rattle.courier_notation.specs.Reading.{Gives, Reads, array_behind, member_at, name_at, designator_at, numeric_at, maximum_at, candidate_at, choice_behind};
@@ -8,10 +8,7 @@ ghost use Rattle.courier_notation.specs.Reading.{long_behind, most_parts, over, 
 ghost use Rattle.courier_notation.specs.Reading.{sequence_behind, type_at, type_behind, BehindWants, Behind, ChoiceWants, ElementWants, FieldsWant, IfNoMemory, TypeWants};
 
 use crate::limits::MOST_PARTS;
-use crate::marks::{
-    behind_arrow, behind_close_brace, behind_close_bracket, behind_colon, behind_of,
-    behind_open_brace, behind_open_bracket, next_part, wrong,
-};
+use crate::marks::{behind, next_part, wrong};
 use crate::parts::{
     designators_of, maximum_of, members_of, names_of, numeric_of, reference_of, tag_of,
 };
@@ -28,7 +25,7 @@ fn enumeration_of(alloc: Global, tokens: &[Token]) -> Result<(WrittenType, &[Tok
     ensures memory { IfNoMemory result (IsOk (member_at tokens.now)) }
 {
     let (members, rest) = members_of(alloc, tokens)?;
-    let rest = behind_close_brace(rest)?;
+    let rest = behind(Token::CloseBrace, Reason::NoCloseBrace, rest)?;
     Ok((WrittenType::Enumeration(members), rest))
 }
 
@@ -55,7 +52,7 @@ fn field_of(
     ensures memory { IfNoMemory result (IsOk (name_at tokens.now)) }
 {
     let (names, rest) = names_of(alloc, tokens)?;
-    let rest = behind_colon(rest)?;
+    let rest = behind(Token::Colon, Reason::NoColon, rest)?;
     let (written, rest) = type_of(alloc, depth, rest)?;
     Ok(((names, written), rest))
 }
@@ -98,7 +95,7 @@ fn fields_inside(
         [Token::CloseBracket, rest @ ..] => Ok((Vec::new(alloc), rest)),
         _ => {
             let (fields, rest) = fields_of(alloc, depth, tokens)?;
-            let rest = behind_close_bracket(rest)?;
+            let rest = behind(Token::CloseBracket, Reason::NoCloseBracket, rest)?;
             Ok((fields, rest))
         }
     }
@@ -115,7 +112,7 @@ pub fn bracketed(
     ensures exact { Gives (λ x. (field_models x.0.items, x.1.now)) result (fields_at (type_at depth) tokens.now) }
     ensures memory { IfNoMemory result (FieldsWant tokens.now) }
 {
-    let inside = behind_open_bracket(tokens)?;
+    let inside = behind(Token::OpenBracket, Reason::NoOpenBracket, tokens)?;
     fields_inside(alloc, depth, inside)
 }
 
@@ -131,7 +128,7 @@ fn candidate_of(
     ensures memory { IfNoMemory result (IsOk (designator_at tokens.now)) }
 {
     let (designators, rest) = designators_of(alloc, tokens)?;
-    let rest = behind_arrow(rest)?;
+    let rest = behind(Token::Arrow, Reason::NoArrow, rest)?;
     let (written, rest) = type_of(alloc, depth, rest)?;
     Ok(((designators, written), rest))
 }
@@ -168,7 +165,7 @@ fn array_of(alloc: Global, depth: usize, tokens: &[Token]) -> Result<(WrittenTyp
     ensures memory { IfNoMemory result (Behind (numeric_at tokens.now) (ElementWants (type_at depth) (TypeWants depth))) }
 {
     let (number, rest) = numeric_of(tokens)?;
-    let rest = behind_of(rest)?;
+    let rest = behind(Token::Of, Reason::NoOf, rest)?;
     let (element, rest) = type_of(alloc, depth, rest)?;
     Ok((WrittenType::Array(number, Box::new(alloc, element)?), rest))
 }
@@ -185,7 +182,7 @@ fn sequence_of(
     ensures memory { IfNoMemory result (Behind (maximum_at tokens.now) (ElementWants (type_at depth) (TypeWants depth))) }
 {
     let (most, rest) = maximum_of(tokens)?;
-    let rest = behind_of(rest)?;
+    let rest = behind(Token::Of, Reason::NoOf, rest)?;
     let (element, rest) = type_of(alloc, depth, rest)?;
     Ok((WrittenType::Sequence(most, Box::new(alloc, element)?), rest))
 }
@@ -208,10 +205,10 @@ fn choice_of(alloc: Global, depth: usize, tokens: &[Token]) -> Result<(WrittenTy
     ensures memory { IfNoMemory result (ChoiceWants tokens.now) }
 {
     let (tag, rest) = tag_of(tokens)?;
-    let rest = behind_of(rest)?;
-    let inside = behind_open_brace(rest)?;
+    let rest = behind(Token::Of, Reason::NoOf, rest)?;
+    let inside = behind(Token::OpenBrace, Reason::NoOpenBrace, rest)?;
     let (candidates, rest) = candidates_of(alloc, depth, inside)?;
-    let rest = behind_close_brace(rest)?;
+    let rest = behind(Token::CloseBrace, Reason::NoCloseBrace, rest)?;
     Ok((WrittenType::Choice(tag, candidates), rest))
 }
 
