@@ -218,7 +218,7 @@ pub put : (p : Pair) (side : Side) (d : Connection) → connection_at (with_conn
 put p A d = refl
 put p B d = refl
 
-put_back : (p : Pair) (side : Side) (d : Connection) → d ≡ connection_at p side → with_connection p side d ≡ p
+pub put_back : (p : Pair) (side : Side) (d : Connection) → d ≡ connection_at p side → with_connection p side d ≡ p
 put_back p A d e = ap (λ (k : Connection). record p { a = k }) e
 put_back p B d e = ap (λ (k : Connection). record p { b = k }) e
 

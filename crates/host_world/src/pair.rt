@@ -13,7 +13,7 @@ ghost use Rattle.xns_spp.specs.State.{State};
 ghost use Rattle.xns_spp.specs.declared.dropped.Dropped.{Dropped};
 ghost use Rattle.xns_connection.specs.Calls.{call_model};
 ghost use Rattle.xns_connection.specs.Connecting.{is_dead};
-ghost use Rattle.xns_connection.specs.Deeds.{acted, asked, gave, made};
+ghost use Rattle.xns_connection.specs.Deeds.{acted, asked, gave, heard, made};
 ghost use Rattle.xns_connection.specs.Reasons.{call_fault_of, answer_fault_of};
 ghost use Rattle.xns_connection.specs.Refusing.{Answers};
 ghost use Rattle.xns_connection.specs.Step.{GivesNext, Hands, IsMade, Step, is_ours_by, parts_of};
@@ -208,8 +208,8 @@ impl Pair {
         self.at(side).next_packet(alloc, now)
     }
 
-    /// Takes in bytes that came to this side, and returns whether they are a packet of the connection there. The only error is want of memory:
-    /// the bytes then count as lost.
+    /// Takes in bytes that came to this side, and returns whether they are a packet of the connection there. Bytes that are none change
+    /// nothing. The only error is want of memory: the bytes then count as lost.
     pub fn receive(
         &mut self,
         alloc: Global,
@@ -219,12 +219,13 @@ impl Pair {
     ) -> Result<bool, AllocError>
         ensures takes_in { OnOk result (StepsByBytes self.old self.new side bytes.now) }
         ensures hears { OnOk result ((p : SppPacketModel) → spp_packet_of bytes.now ≡ Ok p
-            → Hears (connection_at self.old side).conversation (connection_at self.new side).conversation bytes.now) }
-        ensures waits { OnOk result ((p : SppPacketModel) → spp_packet_of bytes.now ≡ Ok p
-            → HearsAt now (connection_at self.old side).wait (connection_at self.new side).wait) }
+            → Hears (connection_at self.old side).conversation (connection_at self.new side).conversation bytes.now
+            × HearsAt now (connection_at self.old side).wait (connection_at self.new side).wait) }
         ensures ours { (s : State) (p : SppPacketModel) → StandsFor (connection_at self.old side).conversation.endpoint s
             → spp_packet_of bytes.now ≡ Ok p → is_ours_at s.ends p ≡ is_ours_by result }
-        ensures nothing { (why : Dropped) → spp_packet_of bytes.now ≡ Err why → (self.new ≡ self.old) × (result ≡ Ok false) }
+        ensures step { result ≡ Ok true → Step now (heard bytes.now) (connection_at self.old side) (connection_at self.new side) }
+        ensures foreign { (result ≡ Ok false → self.new ≡ self.old)
+            × ((why : Dropped) → spp_packet_of bytes.now ≡ Err why → result ≡ Ok false) }
         ensures unchanged { OnErr result ((self.new ≡ self.old) × ((s : State)
             → StandsFor (connection_at self.old side).conversation.endpoint s → StoresBytes s bytes.now)) }
     {
