@@ -44,7 +44,7 @@ use Rattle.host_world.specs.Meeting.{Meeting}
 use Rattle.host_world.specs.Pairing.{no_more, one_message_more}
 use Rattle.host_world.specs.Seen.{number_of}
 use Rattle.host_world.proofs.Guests.{announced, answers, calls, closes, hands, hears_it, not_served, tells}
-use Rattle.host_world.proofs.Numbers.{at_place, beside, may_be_told, same_or_other, since_stranger, since_told}
+use Rattle.host_world.proofs.Numbers.{at_place, beside, may_be_told, none_is, same_or_other, since_stranger, since_told}
 use Rattle.host_world.proofs.Reporting.{event_number, later_is, newly_event, why_by}
 use Rattle.host_world.proofs.Untold.{another_id, handed_told, heard_id, unserved_told}
 use Rattle.host_world.proofs.Following.{Led, led, left, Goes, Still, TellsOn, gives_on, tells_on, at_once, same_goes, still, still_then, then_does, EachStill, each_then, still_if, turns_still, all_act, no_packet, gives_none, in_vain, follows, followed, did_same, did_other, one_guest, not_equal}
@@ -192,7 +192,7 @@ may_go_away gs (of_closed k t f full there since first) g e =
     subst (MayBeForgotten false) (one_guest f g (sym there ∙ e)) (inr (inl (since_told (is_some f.connection.closed) f.connection.told (due_time f.connection.wait.due) t since)))
 may_go_away gs (of_stranger k t f full none there since first) g e =
     let x = since_stranger (is_some (opener_of f.connection)) f.confirmed f.heard_of (is_some f.connection.closed) (has_news f.connection) t f.connection.wait.heard_at since in
-    subst (MayBeForgotten false) (one_guest f g (sym there ∙ e)) (inr (inr (x.0, x.1)))
+    subst (MayBeForgotten false) (one_guest f g (sym there ∙ e)) (inr (inr (x.0, x.1, none_is f.connection.closed x.2)))
 
 -- a connection of another identifier is in the place then: the next one, which none that was there has
 gives_way : (may : Meeting → Side → Type 0) (register : Register) (gs : List (Option Guest)) {n : ℕ} (place : Option (Option Guest)) (h : Guest) → IsAllRegistered register gs

@@ -267,7 +267,7 @@ some_is : {X : Type 0} (o : Option X) → is_some o ≡ true → is_none o ≡ f
 some_is None e = absurd (cc)
 some_is (Some x) e = refl
 
-none_is : {X : Type 0} (o : Option X) → is_some o ≡ false → o ≡ None
+pub none_is : {X : Type 0} (o : Option X) → is_some o ≡ false → o ≡ None
 none_is None e = refl
 none_is (Some x) e = absurd (cc)
 

@@ -31,10 +31,11 @@ use Rattle.host_world.specs.Station.{IsStation}
 use Rattle.host_world.specs.declared.station.Station.{Station}
 
 -- a host may forget a connection when a function is called: the connection is over for the program by this function, which tells it so or by
--- which it abandons the connection; or the program was told before that it is closed; or a peer opened it, and the program was handed no
--- call of it
+-- which it abandons the connection; or the program was told before that it is closed; or a peer opened it, it is not closed, and the program
+-- was handed no call of it
 abbrev pub MayBeForgotten : (over : Bool) → Guest → Type 0
-MayBeForgotten over g = (over ≡ true) ⊎ ((g.connection.told ≡ true) ⊎ ((is_some (opener_of g.connection) ≡ true) × (g.heard_of ≡ false)))
+MayBeForgotten over g =
+    (over ≡ true) ⊎ ((g.connection.told ≡ true) ⊎ ((is_some (opener_of g.connection) ≡ true) × (g.heard_of ≡ false) × (g.connection.closed ≡ None)))
 
 -- a connection is not in this place: nobody is, or one that has another identifier of ours
 abbrev pub IsGone : Guest → Option (Option Guest) → Type 0

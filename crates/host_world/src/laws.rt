@@ -84,12 +84,12 @@ pub fn what_a_host_does_is_a_step_of_the_meeting()
     xns_connection::laws::a_step_keeps_its_promises();
 }
 
-/// Whatever is called of a host, it goes on with the meetings that its connections are in: by what the program does (`done`), by a packet that
-/// goes out, which one of them gave or none (`gives`), and by bytes that come, where they may come to the connection (`hears`). At each
-/// number the connection is led on by steps of the meeting, and is in its place then; or the host forgot it behind them, and it is gone from
-/// its place. A host forgets a connection only if the function tells the program that it is closed, or the program abandons it by the
-/// function or was told before, or a peer opened it and the program was handed no call of it. Where the program abandons one, each other
-/// one stays (`abandons`).
+/// Whatever is called of a host, it goes on with the meetings that its connections are in: by what the program does (`done`), by a packet
+/// that goes out, which one of them gave or none (`gives`), and by bytes that come, where they may come to the connection (`hears`). At
+/// each number the connection is led on by steps of the meeting, and is in its place then; or the host forgot it behind them, and it is
+/// gone from its place. A host forgets a connection only if the function tells the program that it is closed, or the program abandons it by
+/// the function or was told before, or a peer opened it, it is not closed, and the program was handed no call of it. Where the program
+/// abandons one, each other one stays (`abandons`).
 pub fn a_host_goes_on_with_its_meetings()
     ensures done { (h j : Host) (did : ℕ → Deeds → Deeds) (over : ℕ → Bool) → ProgramHasDone h j did over
         → EachFollowed (MayTake None) did gave_none over h j }
