@@ -50,10 +50,6 @@ handed_told now old new (none_waits none same) = ap (λ (c : Connection). c.told
 handed_told now old new (calmly waits calm is) = ap (λ (p : Parts). p.told) is
 handed_told now old new (moving_on waits moves step) = step.told
 
-pub heard_told : (now : ℕ) (bytes : List ℕ) (confirming : Bool) (g h : Guest) → GuestHears now bytes confirming g h → h.connection.told ≡ g.connection.told
-heard_told now bytes confirming g h (hears step) = step.step.told
-heard_told now bytes confirming g h (lost stores) = refl
-
 -- ---- which identifier it has
 
 pub kept_id : (g h : Guest) → KeepsEnd g.connection h.connection → id_of h ≡ id_of g

@@ -50,7 +50,7 @@ pub record HasCalled (h : Host) (here : ℕ) (own peer : Address) : Type 0 where
 abbrev pub IsSentFrom : Station → List ℕ → Type 0
 IsSentFrom a bytes = (p : SppPacketModel) → spp_packet_of bytes ≡ Ok p → (p.source ≡ a.address) × (p.header.source_id ≡ a.id)
 
--- host k can make no connection: it has no room, or no identifier, or memory was refused to it, which l has noted
+-- host k can make no connection: it has no room, or no identifier; or l has noted that memory was refused, for this packet or one before
 abbrev pub CannotOpen : (k l : Host) → Type 0
 CannotOpen k l = HasNoRoom k.guests.items ⊎ (IsAllInUse k.register.identifiers ⊎ (l.strays ≡ lost_stray k.strays))
 

@@ -74,10 +74,9 @@ pub fn a_given_packet_may_come_while_it_lives()
 }
 
 /// What a host does at a connection of a meeting leads on to a meeting that has the connection as it is then; no clause counts the steps
-/// between the two. The host puts out a call (`calls`) or an answer
-/// (`answers`), closes, hands a message (`hands`), tells why the connection is closed (`tells`) or that it is open (`announces`), does what is
-/// due (`acts`), hears an Error packet about a packet of the connection (`not_served`), gives a packet or none (`gives`), and takes in bytes
-/// that may come (`hears`).
+/// between the two. The host puts out a call (`calls`) or an answer (`answers`), closes, hands a message (`hands`), tells why the
+/// connection is closed (`tells`) or that it is open (`announces`), does what is due (`acts`), hears an Error packet about a packet of the
+/// connection (`not_served`), gives a packet or none (`gives`), and takes in bytes that may come (`hears`).
 pub fn what_a_host_does_is_a_step_of_the_meeting()
     ensures { WhatAHostDoesIsAStepOfTheMeeting }
 {
@@ -125,11 +124,12 @@ pub fn two_hosts_agree()
     two_connections_over_a_network_agree();
 }
 
-/// How two hosts come to such a meeting. A host that connects awaits its peer's connection, whichever that will be (`connects`), and goes on
-/// to, whatever is called of it, until it forgets its own (`goes_on`). Each packet that its connection gave says that it comes from there
-/// (`names`). Another host takes in a packet that says so and opens a connection. It makes that one, the packet comes to it, and if it may,
-/// the two hosts stand for a meeting; or it has no room or no memory, and its connections stay as they were (`opens`). Where a place that
-/// was free has a connection then, the packet opened that one so (`fills`).
+/// Two hosts come to a meeting by the first connection's packet. A host that connects awaits its peer's connection, whichever that will be
+/// (`connects`), and still awaits it, whatever is called of the host, until it forgets its own connection (`goes_on`). Each packet that
+/// this connection gave names it as the sender (`names`). Where another host takes in a packet that names that sender and opens a
+/// connection, the host makes the connection and the packet comes to it; if the packet may come, the two hosts stand for a meeting. Or the
+/// host has no room, no identifier or no memory, and its connections stay as they were (`opens`). Where a place that was free has a
+/// connection afterwards, the packet made it in this way (`fills`).
 ///
 /// Which connection the peer makes is known only once the packet comes. So what is said before holds of each that it can be, at the address
 /// that the host connected to.
