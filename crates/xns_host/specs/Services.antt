@@ -1,5 +1,5 @@
 -- The sockets at which connections are answered, and for which programs; and those from which connections were made.
-use Rattle.std.specs.Prelude.{◌≡◌, ◌≢◌, ℕ, Bool, false, List, Option, Some, option_map, slice_index_or}
+use Rattle.std.specs.Prelude.{◌≡◌, ◌≢◌, ◌⊎◌, ◌<◌, ℕ, Bool, false, List, length, Option, Some, None, option_map, slice_index_or}
 use Rattle.std.specs.BTreeMap.{BTreeMap, get}
 use Rattle.std.specs.Ordering.{nat_cmp}
 use Rattle.std.specs.declared.vec.Vec.{Vec}
@@ -18,6 +18,10 @@ programs_at services socket = option_map (λ v. v.items) (get nat_cmp services s
 pub record Serves (old new : BTreeMap ℕ (Vec Program Global)) (socket : ℕ) (programs : List Program) : Type 0 where
   pub here : programs_at new socket ≡ Some programs
   pub others : (other : ℕ) → other ≢ socket → programs_at new other ≡ programs_at old other
+
+-- memory is wanted to serve these programs at a socket: for a copy of them, where there is one, or for a socket that is not served yet
+abbrev pub WantsMemory : BTreeMap ℕ (Vec Program Global) → ℕ → List Program → Type 0
+WantsMemory services socket programs = (0 < length programs) ⊎ (programs_at services socket ≡ None)
 
 -- sockets have 16 bits
 abbrev pub sockets : ℕ

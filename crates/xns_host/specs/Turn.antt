@@ -11,7 +11,7 @@ use Rattle.xns_host.specs.Identifiers.{StaysInOrder, TurnsOver}
 use Rattle.xns_host.specs.Places.{ActsAll, NextEvent, NextPacket, Places, Turns, places_with, taken_by, vacated}
 use Rattle.xns_host.specs.Refusing.{wrong_service}
 use Rattle.xns_host.specs.Registered.{HasLeft}
-use Rattle.xns_host.specs.Services.{Serves}
+use Rattle.xns_host.specs.Services.{Serves, WantsMemory}
 use Rattle.xns_host.specs.Standing.{StaysSetUpAt}
 use Rattle.xns_host.specs.Went.{GuestTagged, Went}
 use Rattle.xns_host.specs.Whole.{Whole}
@@ -138,10 +138,11 @@ pub record ServesAt (socket : ℕ) (programs : List Program) (result : Result (U
   pub rest : whole_of new ≡ record (whole_of old) { services = new.services }
   pub clock : new.clock ≡ old.clock
 
--- a service is refused where it is wrong, for that reason, or else for want of memory
+-- a service is refused where it is wrong, for that reason, or else for want of memory, and then memory was wanted
 pub record ServesNot (old : Host) (socket : ℕ) (programs : List Program) (result : Result (Unit {0}) HostFault) : Type 0 where
   pub wrong : (f : HostFault) → wrong_service old.services.programs socket programs ≡ Some f → result ≡ Err f
-  pub memory : OnErr result (wrong_service old.services.programs socket programs ≡ None → result ≡ Err NoMemory)
+  pub memory : OnErr result (wrong_service old.services.programs socket programs ≡ None
+      → (result ≡ Err NoMemory) × WantsMemory old.services.programs socket programs)
 
 -- ---- a connection of ours
 

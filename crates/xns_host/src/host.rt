@@ -140,7 +140,8 @@ impl Host {
     /// handed. If the socket is served already, its list is replaced for new connections.
     ///
     /// An `Err`, which leaves all as it was, is [`HostFault::EchoSocket`] for socket 2, [`HostFault::NoVersion`] where the lowest version of
-    /// a program is above its highest, [`HostFault::TooManyServices`] where 16 other sockets are served, or [`HostFault::NoMemory`].
+    /// a program is above its highest, [`HostFault::TooManyServices`] where 16 other sockets are served, or [`HostFault::NoMemory`] where
+    /// memory is refused for a program, or for a socket that was not served.
     pub fn serve(&mut self, socket: u16, programs: &[Program]) -> Result<(), HostFault>
         ensures serves { ServesAt socket programs.now result self.old self.new }
         ensures refused { ServesNot self.old socket programs.now result }

@@ -1,9 +1,9 @@
 //! The sockets of a host: those at which connections are answered, and those from which it made some.
 
-ghost use Rattle.std.specs.Prelude.{◌≡◌, ◌≤◌, ℕ, length, true, false, IfOk, OnOk, OnErr, Some, None, Err, option_map, slice_set};
+ghost use Rattle.std.specs.Prelude.{◌≡◌, ◌<◌, ◌≤◌, ℕ, length, true, false, IfOk, OnOk, OnErr, Some, None, Err, option_map, slice_set};
 ghost use Rattle.std.specs.BTreeMap.{IsEmpty, btree_map_len};
 ghost use Rattle.xns_host.specs.Refusing.{wrong_service};
-ghost use Rattle.xns_host.specs.Services.{Serves, has_called, most_services, programs_at, sockets};
+ghost use Rattle.xns_host.specs.Services.{Serves, WantsMemory, has_called, most_services, programs_at, sockets};
 ghost use Rattle.xns_host.specs.declared.host_fault.HostFault.{HostFault};
 ghost use Rattle.xns_host.specs.declared.host_fault.HostFault.TheVariants.{NoMemory};
 
@@ -40,6 +40,16 @@ fn no_callers(alloc: Global, count: usize) -> Result<Vec<bool>, AllocError>
     Ok(callers)
 }
 
+/// A copy of programs. Memory is refused only where there is a program.
+fn copied(alloc: Global, programs: &[Program]) -> Result<Vec<Program>, AllocError>
+    ensures items { IfOk result (λ v. v.items ≡ programs.now) }
+    ensures memory { OnErr result (0 < length programs.now) }
+{
+    let mut copy = Vec::with_capacity(alloc, programs.len())?;
+    copy.extend_from_slice(programs)?;
+    Ok(copy)
+}
+
 impl Services {
     /// No socket is served, and no connection was made. The only error is want of memory.
     pub fn new(alloc: Global) -> Result<Services, AllocError>
@@ -72,8 +82,8 @@ impl Services {
     /// served already, its list is replaced.
     ///
     /// An `Err`, which leaves all as it was, is [`HostFault::EchoSocket`] for socket 2, [`HostFault::NoVersion`] where the lowest version of
-    /// a program is above its highest, [`HostFault::TooManyServices`] where 16 other sockets are served, and [`HostFault::NoMemory`] after
-    /// an allocation failure.
+    /// a program is above its highest, [`HostFault::TooManyServices`] where 16 other sockets are served, and [`HostFault::NoMemory`] where
+    /// memory is refused for a program, or for a socket that was not served.
     #[tactic(auto, using(crate::proofs::Serving::serves))]
     pub fn serve(
         &mut self,
@@ -83,14 +93,15 @@ impl Services {
     ) -> Result<(), HostFault>
         ensures served { OnOk result (Serves self.old.programs self.new.programs socket programs.now) }
         ensures wrong { (f : HostFault) → wrong_service self.old.programs socket programs.now ≡ Some f → result ≡ Err f }
-        ensures memory { OnErr result (wrong_service self.old.programs socket programs.now ≡ None → result ≡ Err NoMemory) }
+        ensures memory { OnErr result (wrong_service self.old.programs socket programs.now ≡ None
+            → (result ≡ Err NoMemory) × WantsMemory self.old.programs socket programs.now) }
         ensures unchanged { OnErr result (self.new.programs.entries ≡ self.old.programs.entries) }
         ensures callers { self.new.callers ≡ self.old.callers }
     {
         if let Some(fault) = self.wrong(socket, programs) {
             return Err(fault);
         }
-        let Ok(programs) = Vec::from_slice(alloc, programs) else {
+        let Ok(programs) = copied(alloc, programs) else {
             return Err(HostFault::NoMemory);
         };
         match self.programs.insert(socket, programs) {
