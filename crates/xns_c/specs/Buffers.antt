@@ -7,8 +7,8 @@ use Rattle.xns_c.specs.Results.{ok, nothing, no_memory, short_buffer, too_long}
 abbrev pub IsUnwritten : {A : Type 0} → (old new : List A) → (had told : ℕ) → Type 0
 IsUnwritten old new had told = (new ≡ old) × (told ≡ had)
 
--- these, so many, are written, and how many they are is told. With no room for all of them none is written, and how many they are is told.
--- Memory is refused only where it is wanted, and then nothing is written
+-- the items, so many, are written, and how many they are is told. With no room for all of them none is written, and how many they are is
+-- told. Memory is refused only where it is wanted, and then nothing is written
 pub record Writes {A : Type 0} (IsWanted : Type 0) (items : List A) (size : ℕ) (old new : List A) (had told result : ℕ) : Type 0 where
   pub put : size ≤ length old → result ≢ no_memory → (result ≡ ok) × IsPut items old new told
   pub short : length old < size → result ≢ no_memory → (result ≡ short_buffer) × (told ≡ size) × (new ≡ old)
