@@ -13,56 +13,58 @@ use Rattle.courier_texts.proofs.Printed.{drop_past}
 
 -- ---- components
 
-pub more_components : (e : Env) (one : TypeModel → ℕ → Result (NamedModel × ℕ) NameFault) (seen all : List ℕ) (st next : Components × ℕ) (groups : List (Vec ℕ Global × WrittenType)) (i : ℕ) (g : Vec ℕ Global × WrittenType) (total : Result (Components × ℕ) NameFault) → drop i groups ≡ g ∷ drop (i + 1) groups
-    → steps (once e) seen g.0.items ≡ Ok all → steps (component_step e (one (type_model g.1))) st g.0.items ≡ Ok next
-    → components_meant e one seen st (fields_from (field_models (drop i groups))) ≡ total → components_meant e one all next (fields_from (field_models (drop (i + 1) groups))) ≡ total
+-- what is meant by the groups from here on, behind what was taken, is what is meant by all
+pub record ComponentsTo (e : Env) (one : TypeModel → ℕ → Result (NamedModel × ℕ) NameFault) (seen : List ℕ) (st : Components × ℕ) (groups : List (Vec ℕ Global × WrittenType)) (i : ℕ) (total : Result (Components × ℕ) NameFault) : Type 0 where
+  pub so_far : components_meant e one seen st (fields_from (field_models (drop i groups))) ≡ total
+
+pub more_components : {e : Env} {one : TypeModel → ℕ → Result (NamedModel × ℕ) NameFault} {seen all : List ℕ} {st next : Components × ℕ} {groups : List (Vec ℕ Global × WrittenType)} {i : ℕ} {g : Vec ℕ Global × WrittenType} {total : Result (Components × ℕ) NameFault} → ComponentsTo e one seen st groups i total → drop i groups ≡ g ∷ drop (i + 1) groups
+    → steps (once e) seen g.0.items ≡ Ok all → steps (component_step e (one (type_model g.1))) st g.0.items ≡ Ok next → ComponentsTo e one all next groups (i + 1) total
 unfolding components_meant
-more_components e one seen all st next groups i g total here names parts so_far =
+more_components {e} {one} {seen} {all} {st} {next} {groups} {i} {g} r here names parts =
     let step : components_meant e one seen st (fields_from (field_models (g ∷ drop (i + 1) groups))) ≡ components_meant e one all next (fields_from (field_models (drop (i + 1) groups))) = rw (names, parts) refl in
-    sym step ∙ ap (λ gs. components_meant e one seen st (fields_from (field_models gs))) (sym here) ∙ so_far
+    record { so_far = sym step ∙ ap (λ gs. components_meant e one seen st (fields_from (field_models gs))) (sym here) ∙ r.so_far }
 
-pub names_stop : (r : Refusal) (e : Env) (one : TypeModel → ℕ → Result (NamedModel × ℕ) NameFault) (seen : List ℕ) (st : Components × ℕ) (groups : List (Vec ℕ Global × WrittenType)) (i : ℕ) (g : Vec ℕ Global × WrittenType) (total : Result (Components × ℕ) NameFault) → drop i groups ≡ g ∷ drop (i + 1) groups
-    → Refuses r (steps (once e) seen g.0.items) → components_meant e one seen st (fields_from (field_models (drop i groups))) ≡ total → Refuses r total
+pub names_stop : {e : Env} {one : TypeModel → ℕ → Result (NamedModel × ℕ) NameFault} {seen : List ℕ} {st : Components × ℕ} {groups : List (Vec ℕ Global × WrittenType)} {i : ℕ} {g : Vec ℕ Global × WrittenType} {total : Result (Components × ℕ) NameFault} → (r : Refusal) → ComponentsTo e one seen st groups i total → drop i groups ≡ g ∷ drop (i + 1) groups
+    → Refuses r (steps (once e) seen g.0.items) → Refuses r total
 unfolding components_meant
-names_stop refusals.NoMemory e one seen st groups i g total here names so_far = tt
-names_stop (refusals.Wrong name reason) e one seen st groups i g total here names so_far =
+names_stop refusals.NoMemory c here names = tt
+names_stop {e} {one} {seen} {st} {groups} {i} {g} (refusals.Wrong name reason) c here names =
     let step : components_meant e one seen st (fields_from (field_models (g ∷ drop (i + 1) groups))) ≡ Err (name, reason) = rw names refl in
-    sym so_far ∙ ap (λ gs. components_meant e one seen st (fields_from (field_models gs))) here ∙ step
+    sym c.so_far ∙ ap (λ gs. components_meant e one seen st (fields_from (field_models gs))) here ∙ step
 
-pub components_stop : (r : Refusal) (e : Env) (one : TypeModel → ℕ → Result (NamedModel × ℕ) NameFault) (seen all : List ℕ) (st : Components × ℕ) (groups : List (Vec ℕ Global × WrittenType)) (i : ℕ) (g : Vec ℕ Global × WrittenType) (total : Result (Components × ℕ) NameFault) → drop i groups ≡ g ∷ drop (i + 1) groups
-    → steps (once e) seen g.0.items ≡ Ok all → Refuses r (steps (component_step e (one (type_model g.1))) st g.0.items)
-    → components_meant e one seen st (fields_from (field_models (drop i groups))) ≡ total → Refuses r total
+pub components_stop : {e : Env} {one : TypeModel → ℕ → Result (NamedModel × ℕ) NameFault} {seen all : List ℕ} {st : Components × ℕ} {groups : List (Vec ℕ Global × WrittenType)} {i : ℕ} {g : Vec ℕ Global × WrittenType} {total : Result (Components × ℕ) NameFault} → (r : Refusal) → ComponentsTo e one seen st groups i total → drop i groups ≡ g ∷ drop (i + 1) groups
+    → steps (once e) seen g.0.items ≡ Ok all → Refuses r (steps (component_step e (one (type_model g.1))) st g.0.items) → Refuses r total
 unfolding components_meant
-components_stop refusals.NoMemory e one seen all st groups i g total here names parts so_far = tt
-components_stop (refusals.Wrong name reason) e one seen all st groups i g total here names parts so_far =
+components_stop refusals.NoMemory c here names parts = tt
+components_stop {e} {one} {seen} {st} {groups} {i} {g} (refusals.Wrong name reason) c here names parts =
     let step : components_meant e one seen st (fields_from (field_models (g ∷ drop (i + 1) groups))) ≡ Err (name, reason) = rw (names, parts) refl in
-    sym so_far ∙ ap (λ gs. components_meant e one seen st (fields_from (field_models gs))) here ∙ step
+    sym c.so_far ∙ ap (λ gs. components_meant e one seen st (fields_from (field_models gs))) here ∙ step
 
-pub no_more_components : (e : Env) (one : TypeModel → ℕ → Result (NamedModel × ℕ) NameFault) (seen : List ℕ) (st : Components × ℕ) (groups : List (Vec ℕ Global × WrittenType)) (i : ℕ) (total : Result (Components × ℕ) NameFault) → length groups ≤ i
-    → components_meant e one seen st (fields_from (field_models (drop i groups))) ≡ total → total ≡ Ok st
+pub no_more_components : {e : Env} {one : TypeModel → ℕ → Result (NamedModel × ℕ) NameFault} {seen : List ℕ} {st : Components × ℕ} {groups : List (Vec ℕ Global × WrittenType)} {i : ℕ} {total : Result (Components × ℕ) NameFault} → ComponentsTo e one seen st groups i total → length groups ≤ i → total ≡ Ok st
 unfolding components_meant
-no_more_components e one seen st groups i total le so_far = sym so_far ∙ ap (λ gs. components_meant e one seen st (fields_from (field_models gs))) (drop_past groups i le)
+no_more_components {e} {one} {seen} {st} {groups} {i} r le = sym r.so_far ∙ ap (λ gs. components_meant e one seen st (fields_from (field_models gs))) (drop_past groups i le)
 
 -- ---- candidates
 
-pub more_candidates : (e : Env) (tag : Option Members) (one : TypeModel → ℕ → Result (NamedModel × ℕ) NameFault) (taken : Members) (d : Members × (Candidates × ℕ)) (st : Candidates × ℕ) (groups : List (Vec Designator Global × WrittenType)) (i : ℕ) (g : Vec Designator Global × WrittenType) (total : Result (Candidates × ℕ) NameFault) → drop i groups ≡ g ∷ drop (i + 1) groups
-    → candidate_group e tag (one (type_model g.1)) taken st g.0.items ≡ Ok d
-    → candidates_meant e tag one taken st (candidates_from (candidate_models (drop i groups))) ≡ total → candidates_meant e tag one d.0 d.1 (candidates_from (candidate_models (drop (i + 1) groups))) ≡ total
-unfolding candidates_meant
-more_candidates e tag one taken d st groups i g total here parts so_far =
-    let step : candidates_meant e tag one taken st (candidates_from (candidate_models (g ∷ drop (i + 1) groups))) ≡ candidates_meant e tag one d.0 d.1 (candidates_from (candidate_models (drop (i + 1) groups))) = rw parts refl in
-    sym step ∙ ap (λ gs. candidates_meant e tag one taken st (candidates_from (candidate_models gs))) (sym here) ∙ so_far
+-- the same of candidates
+pub record CandidatesTo (e : Env) (tag : Option Members) (one : TypeModel → ℕ → Result (NamedModel × ℕ) NameFault) (taken : Members) (st : Candidates × ℕ) (groups : List (Vec Designator Global × WrittenType)) (i : ℕ) (total : Result (Candidates × ℕ) NameFault) : Type 0 where
+  pub so_far : candidates_meant e tag one taken st (candidates_from (candidate_models (drop i groups))) ≡ total
 
-pub candidates_stop : (r : Refusal) (e : Env) (tag : Option Members) (one : TypeModel → ℕ → Result (NamedModel × ℕ) NameFault) (taken : Members) (st : Candidates × ℕ) (groups : List (Vec Designator Global × WrittenType)) (i : ℕ) (g : Vec Designator Global × WrittenType) (total : Result (Candidates × ℕ) NameFault) → drop i groups ≡ g ∷ drop (i + 1) groups
-    → Refuses r (candidate_group e tag (one (type_model g.1)) taken st g.0.items)
-    → candidates_meant e tag one taken st (candidates_from (candidate_models (drop i groups))) ≡ total → Refuses r total
+pub more_candidates : {e : Env} {tag : Option Members} {one : TypeModel → ℕ → Result (NamedModel × ℕ) NameFault} {taken all : Members} {st next : Candidates × ℕ} {groups : List (Vec Designator Global × WrittenType)} {i : ℕ} {g : Vec Designator Global × WrittenType} {total : Result (Candidates × ℕ) NameFault} → CandidatesTo e tag one taken st groups i total → drop i groups ≡ g ∷ drop (i + 1) groups
+    → candidate_group e tag (one (type_model g.1)) taken st g.0.items ≡ Ok (all, next) → CandidatesTo e tag one all next groups (i + 1) total
 unfolding candidates_meant
-candidates_stop refusals.NoMemory e tag one taken st groups i g total here parts so_far = tt
-candidates_stop (refusals.Wrong name reason) e tag one taken st groups i g total here parts so_far =
+more_candidates {e} {tag} {one} {taken} {all} {st} {next} {groups} {i} {g} r here parts =
+    let step : candidates_meant e tag one taken st (candidates_from (candidate_models (g ∷ drop (i + 1) groups))) ≡ candidates_meant e tag one all next (candidates_from (candidate_models (drop (i + 1) groups))) = rw parts refl in
+    record { so_far = sym step ∙ ap (λ gs. candidates_meant e tag one taken st (candidates_from (candidate_models gs))) (sym here) ∙ r.so_far }
+
+pub candidates_stop : {e : Env} {tag : Option Members} {one : TypeModel → ℕ → Result (NamedModel × ℕ) NameFault} {taken : Members} {st : Candidates × ℕ} {groups : List (Vec Designator Global × WrittenType)} {i : ℕ} {g : Vec Designator Global × WrittenType} {total : Result (Candidates × ℕ) NameFault} → (r : Refusal) → CandidatesTo e tag one taken st groups i total → drop i groups ≡ g ∷ drop (i + 1) groups
+    → Refuses r (candidate_group e tag (one (type_model g.1)) taken st g.0.items) → Refuses r total
+unfolding candidates_meant
+candidates_stop refusals.NoMemory c here parts = tt
+candidates_stop {e} {tag} {one} {taken} {st} {groups} {i} {g} (refusals.Wrong name reason) c here parts =
     let step : candidates_meant e tag one taken st (candidates_from (candidate_models (g ∷ drop (i + 1) groups))) ≡ Err (name, reason) = rw parts refl in
-    sym so_far ∙ ap (λ gs. candidates_meant e tag one taken st (candidates_from (candidate_models gs))) here ∙ step
+    sym c.so_far ∙ ap (λ gs. candidates_meant e tag one taken st (candidates_from (candidate_models gs))) here ∙ step
 
-pub no_more_candidates : (e : Env) (tag : Option Members) (one : TypeModel → ℕ → Result (NamedModel × ℕ) NameFault) (taken : Members) (st : Candidates × ℕ) (groups : List (Vec Designator Global × WrittenType)) (i : ℕ) (total : Result (Candidates × ℕ) NameFault) → length groups ≤ i
-    → candidates_meant e tag one taken st (candidates_from (candidate_models (drop i groups))) ≡ total → total ≡ Ok st
+pub no_more_candidates : {e : Env} {tag : Option Members} {one : TypeModel → ℕ → Result (NamedModel × ℕ) NameFault} {taken : Members} {st : Candidates × ℕ} {groups : List (Vec Designator Global × WrittenType)} {i : ℕ} {total : Result (Candidates × ℕ) NameFault} → CandidatesTo e tag one taken st groups i total → length groups ≤ i → total ≡ Ok st
 unfolding candidates_meant
-no_more_candidates e tag one taken st groups i total le so_far = sym so_far ∙ ap (λ gs. candidates_meant e tag one taken st (candidates_from (candidate_models gs))) (drop_past groups i le)
+no_more_candidates {e} {tag} {one} {taken} {st} {groups} {i} r le = sym r.so_far ∙ ap (λ gs. candidates_meant e tag one taken st (candidates_from (candidate_models gs))) (drop_past groups i le)

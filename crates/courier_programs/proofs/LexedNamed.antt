@@ -1,11 +1,11 @@
 -- The names that are lexed are plain, and so the types of a program that is read are named.
-use Rattle.std.proofs.Common.{◌≡◌, ℕ, zero, suc, ◌==◌, ◌&&◌, ◌||◌, Bool, true, false, cond, List, [], ◌∷◌, ◌++◌, length, Option, Some, None, Result, Ok, Err, refl, ap, subst, nat_le, codes, arith}
+use Rattle.std.proofs.Common.{◌≡◌, ℕ, zero, suc, ◌==◌, ◌&&◌, ◌||◌, Bool, true, false, cond, List, [], ◌∷◌, ◌++◌, length, Option, Some, None, Result, Ok, Err, refl, ap, subst, nat_le, arith}
 use Rattle.std.proofs.lemmas.Bool.Decides.{nat_tests}
 use Rattle.std.specs.List.{list_all}
 use Rattle.std.specs.Str.{bytes_eq}
 use Rattle.courier_notation.specs.declared.token.Token.{Token}
 use Rattle.courier_notation.specs.declared.token.Token.TheVariants as tokens
-use Rattle.courier_notation.specs.Lexing.{LexemeModel, LexemeRead, Lexing, behind_front, digits_number, equal_at, front_of, is_digit, is_letter, is_name_byte, is_no_quote, keyword_of, keyword_or_name, lexed_at, lexed_from, lexeme_at, lexeme_in, lexing_of, long_of, mark_at, mark_of, most_name, most_text, most_tokens, nothing_read, number_or_fault, quoted_ended, skipped, with_lexeme}
+use Rattle.courier_notation.specs.Lexing.{LexemeModel, LexemeRead, Lexing, behind_front, digits_number, equal_at, front_of, is_digit, is_letter, is_name_byte, is_no_quote, keyword_of, keyword_or_name, keywords, lexed_at, lexed_from, lexeme_at, lexeme_in, lexing_of, long_of, mark_at, mark_of, most_name, most_text, most_tokens, nothing_read, number_or_fault, quoted_ended, skipped, token_among, token_spelling, with_lexeme}
 use Rattle.courier_notation.specs.ProgramModels.{ProgramModel}
 use Rattle.courier_notation.specs.Programs.{program_of}
 use Rattle.courier_notation.specs.Reading.{Fault}
@@ -61,12 +61,14 @@ first_is_no_name (x ∷ xs) h =
     let p = and_both (is_no_name x.1) (list_all (λ y. is_no_name y.1) xs) h in
     either x.0 x.1 (first_of xs) p.0 (first_is_no_name xs p.1)
 
+among_is_no_name : (ts : List Token) (word : List ℕ) → list_all is_no_name ts ≡ true → IfNoName (token_among ts word)
+among_is_no_name [] word h = tt
+among_is_no_name (t ∷ ts) word h =
+    let p = and_both (is_no_name t) (list_all is_no_name ts) h in
+    either (bytes_eq word (token_spelling t)) t (token_among ts word) p.0 (among_is_no_name ts word p.1)
+
 keyword_is_no_name : (word : List ℕ) → IfNoName (keyword_of word)
-unfolding first_of
-keyword_is_no_name word =
-    first_is_no_name
-    ((bytes_eq word (codes "ARRAY"), tokens.Array) ∷ (bytes_eq word (codes "BEGIN"), tokens.Begin) ∷ (bytes_eq word (codes "BOOLEAN"), tokens.Boolean) ∷ (bytes_eq word (codes "CARDINAL"), tokens.Cardinal) ∷ (bytes_eq word (codes "CHOICE"), tokens.Choice) ∷ (bytes_eq word (codes "DEPENDS"), tokens.Depends) ∷ (bytes_eq word (codes "END"), tokens.End) ∷ (bytes_eq word (codes "ERROR"), tokens.Error) ∷ (bytes_eq word (codes "FALSE"), tokens.False) ∷ (bytes_eq word (codes "INTEGER"), tokens.Integer) ∷ (bytes_eq word (codes "LONG"), tokens.Long) ∷ (bytes_eq word (codes "OF"), tokens.Of) ∷ (bytes_eq word (codes "PROCEDURE"), tokens.Procedure) ∷ (bytes_eq word (codes "PROGRAM"), tokens.Program) ∷ (bytes_eq word (codes "RECORD"), tokens.Record) ∷ (bytes_eq word (codes "REPORTS"), tokens.Reports) ∷ (bytes_eq word (codes "RETURNS"), tokens.Returns) ∷ (bytes_eq word (codes "SEQUENCE"), tokens.Sequence) ∷ (bytes_eq word (codes "STRING"), tokens.String) ∷ (bytes_eq word (codes "TRUE"), tokens.True) ∷ (bytes_eq word (codes "TYPE"), tokens.Type) ∷ (bytes_eq word (codes "UNSPECIFIED"), tokens.Unspecified) ∷ (bytes_eq word (codes "UPON"), tokens.Upon) ∷ (bytes_eq word (codes "VERSION"), tokens.Version) ∷ [])
-    refl
+keyword_is_no_name word = among_is_no_name keywords word refl
 
 mark_is_no_name : (byte : ℕ) → IfNoName (mark_of byte)
 unfolding first_of

@@ -1,13 +1,10 @@
-use Rattle.std.proofs.Common.{[], ◌<◌, length, option_map, refl, ap, ◌∙◌, arith}
+use Rattle.std.proofs.Common.{◌<◌, length, refl, ap, ◌∙◌, arith}
 use Rattle.std.proofs.lemmas.Result.{err_from_is_err_and}
-use Rattle.courier_notation.specs.Written.{candidate_models, candidates_from, field_models, fields_from, type_model}
+use Rattle.courier_notation.specs.Written.{field_models, fields_from, type_model}
 use Rattle.courier_notation.proofs.Models.{model_choice as written_choice, model_record as written_record}
-use Rattle.courier_texts.specs.Named.{members_seen}
 use Rattle.courier_texts.proofs.Printed.{item_here}
-use Rattle.courier_programs.specs.Meanings.{components_seen}
 use Rattle.courier_programs.specs.Memory.{HasFields}
-use Rattle.courier_programs.specs.Scopes.{env}
-use Rattle.courier_programs.specs.Types.{candidates_meant, candidates_seen, choice_meant, components_meant, fields_meant, type_level_meant, type_meant}
+use Rattle.courier_programs.specs.Types.{choice_meant, fields_meant, type_level_meant}
 use Rattle.courier_programs.proofs.Groups.{candidates_stop, components_stop, more_candidates, more_components, names_stop, no_more_candidates, no_more_components}
 use Rattle.courier_programs.proofs.Models.{model_choice, model_record}
 use Rattle.courier_programs.proofs.Wants.{has_fields, wants_more}
@@ -16,31 +13,15 @@ use Rattle.courier_programs.proofs.types.+types.Goals as goal
 pub components_of-returns-in_err-all_once-clause-exact : goal.components_of-returns-in_err-all_once-clause-exact
 components_of-returns-in_err-all_once-clause-exact t c =
     let p = err_from_is_err_and c.from_residual.result c.from_residual.ensures.1 in
-    let l = c.loop-group in
-    let e = env c.args.scope.now in
-    let one = type_meant e c.args.depth in
-    let groups = c.args.groups.now in
-    let g = c.group-item.result in
-    let here = item_here groups l.group-index g (omega arith) c.group-item.is in
+    let here = item_here c.args.groups.now c.loop-group.group-index c.group-item.result (omega arith) c.group-item.is in
     let names = rw c.deref.ensures.value at c.in_err-all_once.ensures.exact in
-    rw (p.1, p.2) (names_stop c.in_err-all_once.field-0.0 e one l.seen.items (components_seen l.parts.items, l.left) groups l.group-index g (components_meant e one [] ([], c.args.room) (fields_from (field_models groups))) here names l.invariant)
+    rw (p.1, p.2) (names_stop c.in_err-all_once.field-0.0 c.loop-group.invariant here names)
 
 pub components_of-returns-clause-exact : goal.components_of-returns-clause-exact
-components_of-returns-clause-exact t c =
-    let l = c.loop-group in
-    let e = env c.args.scope.now in
-    let one = type_meant e c.args.depth in
-    let groups = c.args.groups.now in
-    no_more_components e one l.seen.items (components_seen l.parts.items, l.left) groups l.group-index (components_meant e one [] ([], c.args.room) (fields_from (field_models groups))) c.loop-group-test.false l.invariant
+components_of-returns-clause-exact t c = no_more_components c.loop-group.invariant c.loop-group-test.false
 
 pub take_groups-returns-clause-exact : goal.take_groups-returns-clause-exact
-take_groups-returns-clause-exact t c =
-    let l = c.loop-group in
-    let e = env c.args.scope.now in
-    let one = type_meant e c.args.depth in
-    let groups = c.args.groups.now in
-    let tag = option_map (λ m. members_seen m.now) c.args.tag in
-    no_more_candidates e tag one (members_seen l.taken.items) (candidates_seen l.parts.items, l.left) groups l.group-index (candidates_meant e tag one (members_seen c.args.taken.now.items) (candidates_seen c.args.parts.now.items, c.args.room) (candidates_from (candidate_models groups))) c.loop-group-test.false l.invariant
+take_groups-returns-clause-exact t c = no_more_candidates c.loop-group.invariant c.loop-group-test.false
 
 pub record_of-returns-clause-exact : goal.record_of-returns-clause-exact
 unfolding fields_meant
@@ -65,52 +46,30 @@ type_by-returns-in-Choice-clause-exact t c =
 pub components_of-returns-in_err-left-clause-exact : goal.components_of-returns-in_err-left-clause-exact
 components_of-returns-in_err-left-clause-exact t c =
     let p = err_from_is_err_and c.from_residual-in_err-left.result c.from_residual-in_err-left.ensures.1 in
-    let l = c.loop-group in
-    let e = env c.args.scope.now in
-    let one = type_meant e c.args.depth in
-    let groups = c.args.groups.now in
-    let g = c.group-item.result in
-    let here = item_here groups l.group-index g (omega arith) c.group-item.is in
+    let here = item_here c.args.groups.now c.loop-group.group-index c.group-item.result (omega arith) c.group-item.is in
     let names = rw c.deref.ensures.value at c.in_ok-all_once.ensures.exact in
     let parts = rw c.deref-in-loop-group.ensures.value at c.in_err-left.ensures.exact in
-    rw (p.1, p.2) (components_stop c.in_err-left.field-0.0 e one l.seen.items c.all_once.new.seen.items (components_seen l.parts.items, l.left) groups l.group-index g (components_meant e one [] ([], c.args.room) (fields_from (field_models groups))) here names parts l.invariant)
+    rw (p.1, p.2) (components_stop c.in_err-left.field-0.0 c.loop-group.invariant here names parts)
 
 pub components_of-loop-group-preserved : goal.components_of-loop-group-preserved
 components_of-loop-group-preserved t c =
-    let l = c.loop-group in
-    let e = env c.args.scope.now in
-    let one = type_meant e c.args.depth in
-    let groups = c.args.groups.now in
-    let g = c.group-item.result in
-    let here = item_here groups l.group-index g (omega arith) c.group-item.is in
+    let here = item_here c.args.groups.now c.loop-group.group-index c.group-item.result (omega arith) c.group-item.is in
     let names = rw c.deref.ensures.value at c.in_ok-all_once.ensures.exact in
     let parts = rw c.deref-in-loop-group.ensures.value at c.in_ok-left.ensures.exact in
-    more_components e one l.seen.items c.all_once.new.seen.items (components_seen l.parts.items, l.left) (components_seen c.take_components.new.parts.items, c.in_ok-left.left) groups l.group-index g (components_meant e one [] ([], c.args.room) (fields_from (field_models groups))) here names parts l.invariant
+    more_components c.loop-group.invariant here names parts
 
 pub take_groups-returns-in_err-left-clause-exact : goal.take_groups-returns-in_err-left-clause-exact
 take_groups-returns-in_err-left-clause-exact t c =
     let p = err_from_is_err_and c.from_residual.result c.from_residual.ensures.1 in
-    let l = c.loop-group in
-    let e = env c.args.scope.now in
-    let one = type_meant e c.args.depth in
-    let groups = c.args.groups.now in
-    let tag = option_map (λ m. members_seen m.now) c.args.tag in
-    let g = c.group-item.result in
-    let here = item_here groups l.group-index g (omega arith) c.group-item.is in
+    let here = item_here c.args.groups.now c.loop-group.group-index c.group-item.result (omega arith) c.group-item.is in
     let parts = rw c.deref.ensures.value at c.in_err-left.ensures.exact in
-    rw (p.1, p.2) (candidates_stop c.in_err-left.field-0.0 e tag one (members_seen l.taken.items) (candidates_seen l.parts.items, l.left) groups l.group-index g (candidates_meant e tag one (members_seen c.args.taken.now.items) (candidates_seen c.args.parts.now.items, c.args.room) (candidates_from (candidate_models groups))) here parts l.invariant)
+    rw (p.1, p.2) (candidates_stop c.in_err-left.field-0.0 c.loop-group.invariant here parts)
 
 pub take_groups-loop-group-preserved : goal.take_groups-loop-group-preserved
 take_groups-loop-group-preserved t c =
-    let l = c.loop-group in
-    let e = env c.args.scope.now in
-    let one = type_meant e c.args.depth in
-    let groups = c.args.groups.now in
-    let tag = option_map (λ m. members_seen m.now) c.args.tag in
-    let g = c.group-item.result in
-    let here = item_here groups l.group-index g (omega arith) c.group-item.is in
+    let here = item_here c.args.groups.now c.loop-group.group-index c.group-item.result (omega arith) c.group-item.is in
     let parts = rw c.deref.ensures.value at c.in_ok-left.ensures.exact in
-    more_candidates e tag one (members_seen l.taken.items) (members_seen c.take_group.new.taken.items, (candidates_seen c.take_group.new.parts.items, c.in_ok-left.left)) (candidates_seen l.parts.items, l.left) groups l.group-index g (candidates_meant e tag one (members_seen c.args.taken.now.items) (candidates_seen c.args.parts.now.items, c.args.room) (candidates_from (candidate_models groups))) here parts l.invariant
+    more_candidates c.loop-group.invariant here parts
 
 pub type_by-returns-in-Record-clause-memory : goal.type_by-returns-in-Record-clause-memory
 type_by-returns-in-Record-clause-memory t c =

@@ -5,6 +5,7 @@ use Rattle.courier_programs.specs.Meanings.{components_seen}
 use Rattle.courier_programs.specs.Refused.{steps}
 use Rattle.courier_programs.specs.Scopes.{env}
 use Rattle.courier_programs.specs.Types.{candidate_step, candidates_meant, candidates_seen, component_step, components_meant, type_meant}
+use Rattle.courier_programs.proofs.Groups.{CandidatesTo, ComponentsTo}
 use Rattle.courier_programs.proofs.types.+types.Given as goal
 
 abbrev pub invariant-take_components-loop-name : goal.invariant-take_components-loop-name
@@ -19,14 +20,16 @@ invariant-take_candidates-loop-designator l =
 
 abbrev pub invariant-components_of-loop-group : goal.invariant-components_of-loop-group
 invariant-components_of-loop-group l =
-    components_meant (env l.scope) (type_meant (env l.scope) l.depth) l.seen.items (components_seen l.parts.items, l.left) (fields_from (field_models (drop l.group-index l.groups)))
-    ≡ components_meant (env l.scope) (type_meant (env l.scope) l.depth) [] ([], l.fn.room) (fields_from (field_models l.groups))
+    let one = type_meant (env l.scope) l.depth in
+    ComponentsTo (env l.scope) one l.seen.items (components_seen l.parts.items, l.left) l.groups l.group-index
+    (components_meant (env l.scope) one [] ([], l.fn.room) (fields_from (field_models l.groups)))
 
 abbrev pub invariant-take_groups-loop-group : goal.invariant-take_groups-loop-group
 invariant-take_groups-loop-group l =
     let tag = option_map (λ m. members_seen m.now) l.tag in
-    candidates_meant (env l.scope) tag (type_meant (env l.scope) l.depth) (members_seen l.taken.items) (candidates_seen l.parts.items, l.left) (candidates_from (candidate_models (drop l.group-index l.groups)))
-    ≡ candidates_meant (env l.scope) tag (type_meant (env l.scope) l.depth) (members_seen l.fn.taken.items) (candidates_seen l.fn.parts.items, l.fn.room) (candidates_from (candidate_models l.groups))
+    let one = type_meant (env l.scope) l.depth in
+    CandidatesTo (env l.scope) tag one (members_seen l.taken.items) (candidates_seen l.parts.items, l.left) l.groups l.group-index
+    (candidates_meant (env l.scope) tag one (members_seen l.fn.taken.items) (candidates_seen l.fn.parts.items, l.fn.room) (candidates_from (candidate_models l.groups)))
 
 abbrev pub decreases-type_of : goal.decreases-type_of
 decreases-type_of l = 8 * l.depth
