@@ -1,9 +1,9 @@
 //! Reading an answer.
-ghost use Rattle.std.specs.Prelude.{◌≡◌, Ok};
+ghost use Rattle.std.specs.Prelude.{◌≡◌, ℕ, List, Ok};
 ghost use Rattle.courier_calls.specs.Table.{table_model, IsCheckedTable};
-ghost use Rattle.courier_messages.specs.Head.{words_in};
+ghost use Rattle.courier_messages.specs.Head.{with_words, words_in};
 ghost use Rattle.courier_calls.specs.Calls.{SeenModel, found};
-ghost use Rattle.courier_calls.specs.Caller.{abort_in, answer_to, IsReadAs, results_in, unasked};
+ghost use Rattle.courier_calls.specs.Caller.{abort_in, answer_to, head_fault, is_listed, IsReadAs, results_in, unasked};
 
 use crate::call::Seen;
 use crate::table::Table;
@@ -107,6 +107,52 @@ pub fn read_answer(
             }
             read_abort(alloc, table, target, error, message)
         }
+    }
+}
+
+/// Whether the table lists what a message with this head brings as the answer to the call: results of its procedure, or
+/// an error of its program.
+fn is_listed(table: &Table, target: Target, head: Head) -> bool
+    ensures { (words : List ℕ) → result ≡ is_listed (found (table_model table.now) target.program target.version target.procedure)
+        (with_words head words) }
+{
+    let listed = table.find(target.program, target.version, target.procedure);
+    match head {
+        Head::Call { .. } => false,
+        Head::Reject { .. } => true,
+        Head::Return { .. } => listed.is_ok(),
+        Head::Abort { error, .. } => match listed {
+            Ok((entry, _)) => entry.error(error).is_some(),
+            Err(_) => false,
+        },
+    }
+}
+
+/// Why a message with this head is no answer to the call that waits, if one does, whatever the message's words are;
+/// `None` where it may be one.
+pub fn head_fault(
+    table: &Table,
+    expects: u16,
+    waiting: Option<Target>,
+    head: Head,
+) -> Option<SessionFault>
+    ensures { (words : List ℕ) → result ≡ head_fault (table_model table.now) expects waiting (with_words head words) }
+{
+    let transaction = match head {
+        Head::Call { .. } => return Some(SessionFault::BadReply),
+        Head::Reject { transaction, .. } => transaction,
+        Head::Return { transaction } => transaction,
+        Head::Abort { transaction, .. } => transaction,
+    };
+    let Some(target) = waiting else {
+        return Some(SessionFault::WrongTransaction);
+    };
+    if transaction != expects {
+        Some(SessionFault::WrongTransaction)
+    } else if is_listed(table, target, head) {
+        None
+    } else {
+        Some(SessionFault::BadReply)
     }
 }
 
