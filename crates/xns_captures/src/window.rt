@@ -53,7 +53,8 @@ impl Window {
     }
 
     /// Reads the next piece of the file behind the bytes, and says how many bytes the piece has. A piece has none only at
-    /// the end of the file. The room grows, and memory is refused, only where there is no room for a byte more.
+    /// the end of the file, and 65,536 bytes at most. The room grows, by a piece, and memory is refused, only where there is
+    /// no room for a byte more.
     pub(crate) fn read_piece<R: Read>(&mut self, reader: &mut R) -> Result<usize, RunFault>
         requires { length self.old.bytes ≤ most_block_bytes }
         ensures ok { IfOk result (λ count. (piece : List ℕ) × (self.new.bytes ≡ self.old.bytes ++ piece)
@@ -63,6 +64,8 @@ impl Window {
         ensures err { IfErr result (λ fault. ((fault ≡ RunFault.NoMemory) ⊎ (fault ≡ RunFault.Read))
             × Keeps (R.remaining reader.old) (R.remaining reader.new)) }
         ensures room { length self.old.bytes < self.old.room → self.new.room ≡ self.old.room }
+        ensures grows { (self.new.room ≤ max self.old.room (length self.old.bytes + MOST_PIECE_BYTES))
+            × IfOk result (λ count. count ≤ MOST_PIECE_BYTES) }
         ensures memory { IfErr result (λ fault. IfWants fault (self.old.room ≡ length self.old.bytes)) }
     {
         let Ok(()) = make_room(&mut self.room, self.filled) else {
