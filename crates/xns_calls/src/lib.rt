@@ -22,7 +22,7 @@ mod given;
 mod heading;
 mod heard;
 mod item_number;
-mod kept_side;
+mod kept_track;
 pub mod laws;
 mod line_end;
 mod lines_printer;
