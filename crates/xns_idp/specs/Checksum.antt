@@ -16,7 +16,7 @@ weighted_sum (w ∷ ws) = w * 2 ^ length (w ∷ ws) + weighted_sum ws
 unfoldable pub cycle_checksum : List ℕ → ℕ
 cycle_checksum ws = weighted_sum ws % 65535
 
--- ---- the checksum as the standard describes it; a law of this crate shows that both are the same
+-- ---- the checksum as the standard describes it; a law of this crate shows that it is the one above
 
 -- the sum of 16 bits whose carry out of the top is added at the bottom
 abbrev pub add_with_end_around_carry : ℕ → ℕ → ℕ
@@ -35,7 +35,7 @@ added_and_rotated sum (w ∷ ws) = added_and_rotated (rotated_left (add_with_end
 abbrev pub zero_for_all_ones : ℕ → ℕ
 zero_for_all_ones n = if n == 65535 then 0 else n
 
--- ---- what a sum tells, and how it is summed piece by piece
+-- ---- words that no sum tells apart, and a sum that is made piece by piece
 
 -- two words are the same, or one is 0 and the other 65535
 abbrev pub AreAlike : ℕ → ℕ → Type 0

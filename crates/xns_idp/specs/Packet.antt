@@ -46,17 +46,17 @@ pub record IsPacket (p : PacketModel) : Type 0 where
 abbrev pub broadcast : List ℕ
 broadcast = replicate 6 255
 
--- one host and one socket, whatever the networks
+-- the addresses name one host and one socket, whatever their networks
 abbrev pub same_place : Address → Address → Bool
 same_place a b = bytes_eq a.host b.host && a.socket == b.socket
 
 -- ---- the bytes of a packet
 
--- a packet has at most so many bytes of data (the limit is this project's, to bound memory; its number stands in the code)
+-- how many bytes of data a packet has at most (the limit is this project's, to bound memory; its number stands in the code)
 abbrev pub most_data : ℕ
 most_data = MOST_DATA
 
--- a packet has at most so many bytes, those of its header and its data without the garbage byte (the limit is this project's)
+-- how many bytes a packet has at most, those of its header and its data without the garbage byte (the limit is this project's)
 abbrev pub most_packet : ℕ
 most_packet = MOST_PACKET
 
@@ -64,13 +64,14 @@ most_packet = MOST_PACKET
 abbrev pub address_bytes : Address → List ℕ
 address_bytes a = to_be_bytes w32 a.network ++ a.host ++ to_be_bytes w16 a.socket
 
--- all after the checksum field: length of header and data, transport control, packet type, destination, source, data, garbage byte
+-- the bytes of a packet after its checksum field, behind its data this garbage: length of header and data, transport control, packet type,
+-- destination, source, data, garbage byte
 unfoldable pub after_checksum : PacketModel → List ℕ → List ℕ
 after_checksum p garbage =
     to_be_bytes w16 (30 + length p.body) ++ (p.control ∷ p.kind ∷ []) ++ address_bytes p.target ++ address_bytes p.source ++ p.body
     ++ garbage
 
--- the packet with this garbage behind its data: in front is the checksum of all words after that field, or 65535 for none
+-- the bytes of the packet with this garbage behind its data: in front stands the checksum of all words behind it, or 65535 for none
 unfoldable pub packet_bytes : PacketModel → List ℕ → List ℕ
 packet_bytes p garbage =
     to_be_bytes w16 (if p.summed then cycle_checksum (words (after_checksum p garbage)) else 65535) ++ after_checksum p garbage

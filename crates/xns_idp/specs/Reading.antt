@@ -39,7 +39,7 @@ packet_fault bytes =
     else if word_at bytes 0 == computed_sum bytes then None
     else Some (BadSum (word_at bytes 0) (computed_sum bytes))
 
--- what stands in the fields' places
+-- the packet that stands in the places of the fields
 unfoldable pub packet_fields : List ℕ → PacketModel
 packet_fields bytes = record {
   summed = not (word_at bytes 0 == 65535);

@@ -6,15 +6,15 @@ ghost use Rattle.xns_idp.specs.Checksum.{words, cycle_checksum, sum_from};
 
 use std::simd::prelude::*;
 
-/// A block has so many bytes, which are 16 words. Doubled 16 times, a word weighs what it weighed before, modulo 65535.
+/// How many bytes a block has: those of 16 words. Doubled 16 times, a word weighs what it weighed before, modulo 65535.
 const BLOCK: usize = 32;
 
-/// At most so many bytes are summed at once. In their 64 blocks no lane of 16 bits overflows, and what all lanes weigh
-/// fits into 32 bits.
+/// How many bytes are summed at once at most. In their 64 blocks no lane of 16 bits overflows, and the weight of all
+/// lanes fits into 32 bits.
 const CHUNK: usize = 2048;
 
-/// What the bytes of a block weigh, modulo 65535: the first byte of a pair is the high one, and a word is doubled once for itself and once
-/// for each word after it.
+/// The weight of each byte of a block, modulo 65535: the first byte of a pair is the high one, and a word is doubled once for itself and
+/// once for each word after it.
 const WEIGHTS: [u32; BLOCK] = [
     256, 1, 128, 32768, 64, 16384, 32, 8192, 16, 4096, 8, 2048, 4, 1024, 2, 512, 1, 256, 32768,
     128, 16384, 64, 8192, 32, 4096, 16, 2048, 8, 1024, 4, 512, 2,

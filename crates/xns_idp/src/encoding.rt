@@ -31,7 +31,7 @@ pub fn encode(alloc: Global, packet: &Packet<'_>, out: &mut Vec<u8>) -> Result<(
 }
 
 /// Appends the bytes of a packet whose data are `packet.body` and then `rest`, as `encode` does for the packet with
-/// both of them joined. It serves a protocol that puts a header of its own before bytes that lie elsewhere.
+/// both of these joined. It serves a protocol that puts a header of its own before bytes that lie elsewhere.
 ///
 /// The only error is want of memory, after which `out` is as it was.
 #[inline(always)]
@@ -120,7 +120,7 @@ fn pad(size: usize, out: &mut Vec<u8>) -> Result<(), AllocError>
 }
 
 /// Puts the checksum field into a packet, in the place of its first two bytes: the checksum of the words after them, or 65535
-/// where the packet isn't summed.
+/// where the packet is not summed.
 #[inline(always)]
 pub(crate) fn put_checksum(packet: &mut [u8], summed: bool)
     requires even { length packet.now % 2 ≡ 0 }

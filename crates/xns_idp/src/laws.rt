@@ -14,12 +14,12 @@ pub fn another_word_shows()
     ensures { AnotherWordShows }
 {}
 
-/// Two neighbouring words the other way round give another checksum, but for equal ones, or 0 and 65535.
+/// The checksum changes where two neighbouring words change places, unless they are equal, or 0 and 65535.
 pub fn an_exchange_shows()
     ensures { AnExchangeShows }
 {}
 
-/// What is written spells its packet, and is read again as that packet, whatever follows it.
+/// The bytes that are written for a packet spell it, and are read again as that packet, whatever follows them.
 pub fn written_packet_is_read_again()
     ensures { WrittenPacketIsReadAgain }
 {}

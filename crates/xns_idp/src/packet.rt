@@ -8,14 +8,14 @@ use crate::known::known_bytes;
 /// The length field of a packet that is a header alone.
 pub(crate) const HEADER: u16 = 30;
 
-/// A header has so many bytes.
+/// How many bytes a header has.
 pub const HEADER_BYTES: usize = HEADER as usize;
 
-/// A packet has at most so many bytes of data (XSIS 028112, Internet Datagram Protocol; the limit is this project's, to bound memory).
+/// How many bytes of data a packet has at most (XSIS 028112, Internet Datagram Protocol; the limit is this project's, to bound memory).
 pub const MOST_DATA: usize = 546;
 
-/// A packet has at most so many bytes, those of its header and its data without the garbage byte (XSIS 028112, Internet Datagram
-/// Protocol; the limit is this project's, to bound memory).
+/// How many bytes a packet has at most, those of its header and its data without the garbage byte (XSIS 028112, Internet
+/// Datagram Protocol; the limit is this project's, to bound memory).
 pub const MOST_PACKET: usize = HEADER_BYTES + MOST_DATA;
 
 /// The checksum field of a packet without a checksum.
