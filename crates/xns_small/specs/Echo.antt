@@ -25,7 +25,7 @@ echo_spelling v = to_be_bytes w16 (if v.reply then 2 else 1) ++ v.body
 abbrev pub SpellsEcho : EchoModel → List ℕ → Type 0
 SpellsEcho v bytes = bytes ≡ echo_spelling v
 
--- what the bytes are by the place of the operation word, or their first fault
+-- the Echo that the bytes are by their operation word, or their first fault
 unfoldable pub echo_of : List ℕ → Result EchoModel SmallFault
 echo_of bytes =
     if nat_lt (length bytes) 2 then Err (Short (length bytes))
@@ -46,7 +46,7 @@ pub record IsAnswered (own : Address) (p : PacketModel) : Type 0 where
 unfoldable pub echo_reply : Address → PacketModel → List ℕ
 echo_reply own p = sent_packet 2 own p.source (echo_spelling (record { reply = true; body = drop 2 p.body }))
 
--- the packet is the reply to a request: it comes from the one that was asked, goes to the one that asked, and carries the same bytes
+-- the packet is the reply to a request: it comes from `own`, goes to the address that the request came from, and carries the same bytes
 pub record IsReplyTo (own : Address) (request reply : PacketModel) : Type 0 where
   pub kind : reply.kind ≡ 2
   pub source : reply.source ≡ own

@@ -39,7 +39,7 @@ most_quoted = 42
 abbrev pub with_front_quoted : ErrorReportModel → ErrorReportModel
 with_front_quoted v = record v { quoted = take most_quoted v.quoted }
 
--- what the bytes are by the places of their fields, or their first fault
+-- the report that stands in the places of the fields, or the first fault of the bytes
 unfoldable pub error_of : List ℕ → Result ErrorReportModel SmallFault
 error_of bytes = unless_short 4 bytes (record { number = word_at bytes 0; parameter = word_at bytes 2; quoted = drop 4 bytes })
 

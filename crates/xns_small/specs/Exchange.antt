@@ -31,7 +31,7 @@ pub record IsExchange (v : ExchangeModel) : Type 0 where
   pub id : v.id < 2 ^ 32
   pub client : v.client < 2 ^ 16
 
--- what the bytes are by the places of their fields, or their first fault
+-- the request or response that stands in the places of the fields, or the first fault of the bytes
 unfoldable pub exchange_of : List ℕ → Result ExchangeModel SmallFault
 exchange_of bytes = unless_short 6 bytes (record { id = long_at bytes 0; client = word_at bytes 4; body = drop 6 bytes })
 

@@ -1,4 +1,4 @@
-//! Bytes at the end of a vector, all or none.
+//! Appends bytes to a vector, all or none.
 
 ghost use Rattle.std.specs.Prelude.{◌≡◌, ◌+◌, ◌<◌, ◌≤◌, ◌^◌, ◌++◌, length, OnOk, OnErr, vec_len, vec_capacity};
 

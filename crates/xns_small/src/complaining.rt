@@ -45,7 +45,7 @@ pub fn complain(
     Ok(Some(bytes))
 }
 
-/// Whom a complaint of these bytes goes to, if one may complain of them.
+/// The address that a complaint about these bytes goes to, if one may complain of them.
 fn complained_to(offending: &[u8]) -> Option<Address>
     ensures { MatchOption result (MayBeComplainedOf offending.now → ⊥)
         (λ source. MayBeComplainedOf offending.now × (source ≡ address_at offending.now 18)) }

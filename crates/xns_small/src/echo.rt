@@ -67,7 +67,7 @@ pub fn write_echo(_alloc: Global, echo: &Echo<'_>, out: &mut Vec<u8>) -> Result<
     ensures err { OnErr result (out.new.items ≡ out.old.items) }
     // Memory is refused only where `out` has no room for the bytes.
     ensures memory { OnErr result (vec_capacity out.old < vec_len out.old + (2 + length echo.now.body.now)) }
-    // No room is given back.
+    // `out` has no less room than before.
     ensures room { vec_capacity out.old ≤ vec_capacity out.new }
 {
     let operation = if echo.reply { REPLY } else { REQUEST };

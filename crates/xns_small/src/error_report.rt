@@ -17,7 +17,7 @@ const QUOTED: usize = 42;
 /// An Error report, lent from a packet's body (XSIS 028112, Error Protocol).
 #[derive(Clone, Copy, Debug, PartialEq, Eq)]
 pub struct ErrorReport<'a> {
-    /// What is wrong: one of [`crate::error_number`], or another number.
+    /// The error number: one of [`crate::error_number`], or another number.
     pub number: u16,
     /// The error parameter, which some numbers have, such as a greatest length in bytes; else 0.
     pub parameter: u16,
@@ -72,7 +72,7 @@ pub fn write_error(
     ensures err { OnErr result (out.new.items ≡ out.old.items) }
     // Memory is refused only where `out` has no room for the bytes.
     ensures memory { OnErr result (vec_capacity out.old < vec_len out.old + (4 + length (take most_quoted report.now.quoted.now))) }
-    // No room is given back.
+    // `out` has no less room than before.
     ensures room { vec_capacity out.old ≤ vec_capacity out.new }
 {
     let [n0, n1] = report.number.to_be_bytes();

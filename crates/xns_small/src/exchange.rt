@@ -68,7 +68,7 @@ pub fn write_exchange(
     ensures err { OnErr result (out.new.items ≡ out.old.items) }
     // Memory is refused only where `out` has no room for the bytes.
     ensures memory { OnErr result (vec_capacity out.old < vec_len out.old + (6 + length exchange.now.body.now)) }
-    // No room is given back.
+    // `out` has no less room than before.
     ensures room { vec_capacity out.old ≤ vec_capacity out.new }
 {
     let [i0, i1, i2, i3] = exchange.id.to_be_bytes();

@@ -5,17 +5,17 @@ ghost use Rattle.xns_small.specs.Laws.{AnAnsweredEchoCarriesTheRequest, ErrorNum
 
 use xns_idp::laws::written_packet_is_read_again;
 
-/// What is written of an Echo is read again.
+/// The bytes that are written for an Echo are read again as that Echo.
 pub fn written_echo_is_read_again()
     ensures { WrittenEchoIsReadAgain }
 {}
 
-/// What is written of an Error report is read again.
+/// The bytes that are written for an Error report are read again as that report.
 pub fn written_error_is_read_again()
     ensures { WrittenErrorIsReadAgain }
 {}
 
-/// What is written of a packet exchange is read again.
+/// The bytes that are written for a packet exchange are read again as that packet exchange.
 pub fn written_exchange_is_read_again()
     ensures { WrittenExchangeIsReadAgain }
 {}
