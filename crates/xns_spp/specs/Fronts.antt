@@ -1,4 +1,4 @@
--- What it is that one list begins another, and what holds of all of both: for the proofs of this crate and those above it.
+-- Lemmas on lists of which one begins the other, for the proofs of this crate and of those above it.
 use Rattle.std.specs.Prelude.{◌≡◌, ◌≤◌, ℕ, ◌+◌, List, [], ◌∷◌, ◌++◌, length, map, take, drop, slice_get, Some}
 use Rattle.std.specs.List.{flat_map, AllByRecursion}
 use Rattle.std.proofs.Common.{refl, sym, ◌∙◌, ap, subst, append_assoc, append-nil, length-append, take-append-drop}
@@ -24,7 +24,7 @@ begins_map f xs ys p = (map f p.0, sym (map-append f xs p.0) ∙ ap (map f) p.1)
 pub begins_flat_map : {X Y : Type 0} (f : X → List Y) (xs ys : List X) → Begins xs ys → Begins (flat_map f xs) (flat_map f ys)
 begins_flat_map f xs ys p = (flat_map f p.0, sym (flat_map-append f xs p.0) ∙ ap (flat_map f) p.1)
 
--- what holds of all of a list holds of all of a list that begins it
+-- P holds of each element of a list's front where it holds of each element of the list
 pub all_front : {X : Type 0} (P : X → Type 0) (xs more : List X) → AllByRecursion P (xs ++ more) → AllByRecursion P xs
 all_front P [] more h = tt
 all_front P (x ∷ xs) more h = (h.0, all_front P xs more h.1)

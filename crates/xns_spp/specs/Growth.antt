@@ -75,7 +75,7 @@ pub record IsSystemPacket (s : State) (p : SppPacketModel) : Type 0 where
   pub system : has_bit control system_bit ≡ true
   pub is : p ≡ system_packet s control
 
--- the packet of an accepted item that isn't acknowledged, and that was sent once s has gone on as t
+-- the packet of an accepted item that is not acknowledged, and that was sent once s has gone on as t
 pub record IsItemPacket (s t : State) (p : SppPacketModel) : Type 0 where
   pub number : ℕ
   pub item : Item

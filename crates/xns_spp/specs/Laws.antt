@@ -78,7 +78,7 @@ pub record OwnPacketsSayWhatIsMeant : Type 0 where
   pub none : (s : State) (control : ℕ) → has_bit control system_bit ≡ true → is_system (system_packet s control).header ≡ true
   pub no_data : (s : State) (control : ℕ) → (system_packet s control).body ≡ []
   pub system_fields : (s : State) (control : ℕ) → IsReduced (system_packet s control).header (own_meant s s.sent)
-  -- a system packet of an open end is owed a reply where it asks for one, and only there
+  -- a reply is owed to a system packet of an open end exactly where the packet asks for one
   pub asks : (s : State) (asks : Bool) → is_open s.ends ≡ true → wants_reply (system_packet s (system_control asks)).header ≡ asks
 
 pub record RoomIsNearWhatWasTaken : Type 0 where
@@ -176,7 +176,7 @@ pub record TheFirstItemGoesOutAgain : Type 0 where
   pub sent : (s : State) → is_open s.ends ≡ true → s.acknowledged < send_limit s → (after_resend s).sent ≡ max s.sent (s.acknowledged + 1)
   pub same : (s : State) → s.acknowledged < s.sent → after_resend s ≡ s
 
--- what an end sends is from it to its peer, which takes such a packet for the connection's
+-- each packet of an end goes from it to its peer, which takes the packet for one of the connection
 pub record PacketsOfThePeerAreOurs : Type 0 where
   pub system : (s : State) (control : ℕ) → IsNamed s.ends (system_packet s control)
   pub item : (s : State) (i : ℕ) (x : Item) → IsNamed s.ends (data_packet s i x)
@@ -191,7 +191,7 @@ pub record ATickAsksUntilAllIsAcknowledged : Type 0 where
   pub asks : (s : State) → s.acknowledged < length s.accepted → Asks s
   pub sent : (s : State) → is_open s.ends ≡ true → s.acknowledged < send_limit s → (after_tick s).sent ≡ send_limit s
 
--- of the end no part but how many items were sent changes
+-- no part of the end changes but the number of items that were sent
 pub record WhatGoesOutChangesWhatWasSentAlone : Type 0 where
   pub flush : (s : State) → after_flush s ≡ record s { sent = (after_flush s).sent }
   pub tick : (s : State) → after_tick s ≡ record s { sent = (after_tick s).sent }

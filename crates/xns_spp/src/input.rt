@@ -1,10 +1,10 @@
-//! What became of a packet that was taken in without a reply.
+//! The result of taking in a packet without making a reply.
 
 ghost use Rattle.std.specs.Prelude.{◌≡◌, Some, false};
 
 use crate::dropped::Dropped;
 
-/// What became of a packet that was taken in without a reply.
+/// The result of taking in a packet without making a reply.
 #[derive(Clone, Copy, Debug, PartialEq, Eq)]
 pub struct Input {
     /// How many items were taken: the packet's, with the early ones that follow it, or none.
@@ -16,7 +16,7 @@ pub struct Input {
 }
 
 impl Input {
-    /// What becomes of a packet that is not looked at.
+    /// The result for a packet that is not looked at.
     #[inline(always)]
     pub(crate) fn of_dropped(reason: Dropped) -> Input
         ensures { result ≡ record { took = 0; owes_reply = false; dropped = Some reason } }

@@ -1,4 +1,4 @@
-//! What an end tells its user of itself. Nothing is changed.
+//! What an end tells its user about itself: no function here changes the end.
 
 ghost use Rattle.std.specs.Prelude.{◌≡◌, ℕ, List, Ok, IfSome, option_copied};
 
@@ -70,7 +70,7 @@ impl Endpoint {
         (left as u64).min(more) as usize
     }
 
-    /// How many of the items that were accepted the peer has not acknowledged, sent or not.
+    /// How many of the accepted items, sent or not, the peer has not acknowledged.
     pub fn unacknowledged(&self) -> usize
         ensures { (s : State) → StandsFor self.now s → result ≡ unacknowledged_count s }
     {
@@ -115,7 +115,7 @@ impl Endpoint {
         }
     }
 
-    /// Whether a packet that was read already belongs to the connection, as `is_ours` says of its bytes.
+    /// Whether a packet that was read already belongs to the connection: `is_ours` returns the same for its bytes.
     #[inline(always)]
     pub fn is_packet_ours(&self, packet: &SppPacket) -> bool
         ensures packet { (s : State) → StandsFor self.now s → result ≡ is_ours_at s.ends packet.now }
