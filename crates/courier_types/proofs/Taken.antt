@@ -33,7 +33,7 @@ drop_step front back total n h e =
 pub enough_step : (front back : List ℕ) (n : ℕ) → length front ≤ n → n ≤ length (front ++ back) → n - length front ≤ length back
 enough_step front back n h le = let e = length-append front back in omega (arith, e, h, le)
 
--- there was room
+-- memory is not refused where the vector has room
 pub extended : {T E X : Type 0} (result : Result T E) (capacity len more : ℕ) (new longer same : X) → len + more ≤ capacity → OnErr result (capacity < len + more) → new ≡ (if is_ok result then longer else same) → new ≡ longer
 extended (Ok t) capacity len more new longer same le full e = e
 extended (Err t) capacity len more new longer same le full e = absurd (omega (arith, le, full))
@@ -96,7 +96,7 @@ pub bytes_taken : (n : ℕ) (bytes old new : List ℕ) → 2 * n ≤ length byte
 bytes_taken n bytes old new le e h =
     e ∙ ap (λ (l : List ℕ). old ++ l) (bytes_taken_of n (2 * n) refl bytes le (last_bytes old (take (2 * n) bytes) (subst AreBytes e h)))
 
--- so many bytes, read at once
+-- bytes of a text, read at once
 
 pub bytes_short : (n : ℕ) (ws : List ℕ) → length ws < n / 2 + n % 2 → front_bytes n ws ≡ Err (0, Truncated)
 unfolding front_bytes

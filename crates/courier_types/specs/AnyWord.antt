@@ -1,4 +1,4 @@
--- Shapes whose values are spelled by any one word.
+-- Shapes of which any one word spells a value.
 use Rattle.std.specs.Prelude.{ℕ}
 use Rattle.std.specs.Int.{w16, cast_signed}
 use Rattle.courier_types.specs.declared.any_word.AnyWord.{AnyWord}

@@ -1,4 +1,5 @@
--- Where reading may be refused memory: this project's rule. Reading comes there from the left with no fault before it.
+-- Where reading may be refused memory: this project's rule. Reading goes from the left, and met no fault before that
+-- place.
 use Rattle.std.specs.Prelude.{◌≡◌, ◌≢◌, ◌⊎◌, ℕ, ◌+◌, ◌/◌, ◌%◌, ◌<◌, ◌≤◌, List, [], ◌∷◌, length, IsOk}
 use Rattle.courier_types.specs.Shape.{ShapeModel, ShapeModels, no_shapes, shape_and, MemberModels, no_members, member_and}
 use Rattle.courier_types.specs.Reading.{reading}
@@ -21,12 +22,12 @@ abbrev pub CountedWant : ℕ → List ℕ → Type 0
 CountedWant most [] = ⊥
 CountedWant most (n ∷ ws) = (n ≤ most) × ElementsWant n ws
 
--- a record's components are not none
+-- a want of memory to read a record: it has a component
 abbrev pub PartsWant : ShapeModels → Type 0
 PartsWant no_shapes = ⊥
 PartsWant (shape_and _ _) = Unit {0}
 
--- a designator, then what is wanted behind it
+-- a want of memory to read a choice: its designator, then what its value wants
 abbrev pub ChoiceWants : (ℕ → List ℕ → Type 0) → List ℕ → Type 0
 ChoiceWants wants [] = ⊥
 ChoiceWants wants (d ∷ ws) = wants d ws

@@ -1,4 +1,4 @@
-//! Shapes whose values are spelled by any one word.
+//! Shapes of which any one word spells a value.
 
 ghost use Rattle.std.specs.Prelude.{◌≡◌, ◌≢◌, IfSome, IfNone, IsTrue};
 ghost use Rattle.courier_types.specs.declared.any_word.AnyWord.{AnyWord};
@@ -11,7 +11,7 @@ use crate::known::known_value;
 use crate::shape::Shape;
 use crate::value::Value;
 
-/// A shape whose values are spelled by any one word: who goes over many such values matches the shape once.
+/// A shape of which any one word spells a value. A loop over many such values matches the shape once.
 #[derive(Clone, Copy)]
 pub enum AnyWord {
     Cardinal,
@@ -20,7 +20,7 @@ pub enum AnyWord {
 }
 
 impl AnyWord {
-    /// The shape, if it is one of these.
+    /// The shape, if any one word spells a value of it.
     pub fn of(shape: &Shape) -> Option<AnyWord>
         ensures some { IfSome result (λ kind. shape_model shape.now ≡ shape_of kind) }
         ensures none { IfNone result ((kind : AnyWord) → shape_model shape.now ≢ shape_of kind) }
