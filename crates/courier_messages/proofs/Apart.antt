@@ -105,7 +105,7 @@ ends_fewer (m ∷ ms) f r e less =
           omega (arith, ends_fewer ms g.more r g.behind left, g.ends)
     ]
 
--- ---- both
+-- ---- a prefix says fewer messages than the whole
 
 says_less_by : (fed : List Item) (ms : List Message) (r : List Item) → fed ++ r ≡ items_of ms → length fed < length (items_of ms) → 0 < length ms → length (conversation fed) < length ms
 says_less_by [] ms r e less some = omega (arith, nothing_said, some)

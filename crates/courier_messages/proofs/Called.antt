@@ -52,7 +52,7 @@ heard_by : (b : Bool) (q : Result Phase SessionFault) (p : Phase) → (if b then
 heard_by true q p h = (refl, h)
 heard_by false q p h = cc
 
--- one more item
+-- a server that is fed one more item
 
 pub goes : (F : List Item) (p : Phase) (x : Item) → server_ending F ≡ Ok p → GoesOn F p x
 goes F p x h =

@@ -84,7 +84,7 @@ front_head (a ∷ b ∷ c ∷ d ∷ []) h = absurd (omega arith)
 front_head (a ∷ b ∷ c ∷ d ∷ f ∷ []) h = absurd (omega arith)
 front_head (k ∷ t ∷ a ∷ b ∷ c ∷ d ∷ ws) h = by_kind k t a b c d ws (k == 0) (k == 1) (k == 2) (k == 3)
 
--- of the whole message
+-- the head of the whole message
 
 short_head : (bytes : List ℕ) (r : Result Message MessageFault) → length bytes ≤ 131072 → heads_in (unless_long bytes r) ≡ heads_in r
 short_head bytes (Ok m) h = ap heads_in (short_message bytes m h)

@@ -83,7 +83,7 @@ unsaid_by false x p e h = said_stream p x.stream
 pub unsaid : (x : Item) (p : Phase) (e : SessionFault) → run p (signs x) ≡ Err e → said p (signs x) ≡ []
 unsaid x p e h = unsaid_by (x.stream == 0) x p e h
 
--- ---- one more call
+-- ---- a caller that makes one more call
 
 pub items_more : (k : ℕ) (cs : List RawCall) (c : RawCall) → call_items k (cs ++ c ∷ []) ≡ call_items k cs ++ cut (call_message (transaction_of (k + length cs)) c)
 unfolding call_items

@@ -1,5 +1,5 @@
 -- What the side that is called makes of its peer's messages (XSIS 038112, Courier, Remote procedures and errors). A
--- message that isn't a call is a fault, and comes before the faults behind it: that is this project's rule.
+-- message that is not a call is a fault, and comes before the faults behind it: that is this project's rule.
 use Rattle.std.specs.Prelude.{ℕ, List, [], ◌∷◌, map, Bool, true, false, if◌then◌else◌, Result, Err}
 use Rattle.xns_spp.specs.declared.item.Item.{Item}
 use Rattle.courier_messages.specs.declared.fault.SessionFault.{SessionFault}
@@ -9,7 +9,7 @@ use Rattle.courier_messages.specs.declared.message.Message.TheVariants.{Call}
 use Rattle.courier_messages.specs.Conversation.{Phase, conversation, ending}
 use Rattle.courier_messages.specs.RawCalls.{RawCall}
 
--- the calls up to the first message that isn't one, each with its transaction
+-- the calls up to the first message that is not one, each with its transaction
 unfoldable pub calls_of : List Message → List (ℕ × RawCall)
 calls_of [] = []
 calls_of (Call transaction program version procedure words ∷ ms) =
@@ -26,10 +26,11 @@ all_calls (m ∷ ms) = false
 abbrev pub raws : List (ℕ × RawCall) → List RawCall
 raws cs = map (λ c. c.1) cs
 
--- messages as a server takes them: one that isn't a call comes before the faults of the text behind it
+-- the end of a conversation as a server takes it: a message that is not a call is a fault, which comes before those of
+-- the text behind it
 abbrev pub heard : List Message → Result Phase SessionFault → Result Phase SessionFault
 heard ms q = if all_calls ms then q else Err BadReply
 
--- what is kept of the conversation, or the first fault
+-- the phase of a server in the conversation, or the first fault
 abbrev pub server_ending : List Item → Result Phase SessionFault
 server_ending items = heard (conversation items) (ending items)

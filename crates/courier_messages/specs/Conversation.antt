@@ -82,7 +82,7 @@ abbrev pub first_of : Result Message MessageFault → Option SessionFault → Op
 first_of (Ok m) later = later
 first_of (Err e) later = Some (BadMessage e)
 
--- why the first of the pieces that is no message isn't one, or else the fault behind them
+-- why the first piece that is no message is none, or else the fault behind the pieces
 unfoldable pub fault_in : List (List ℕ) → Option SessionFault → Option SessionFault
 fault_in [] later = later
 fault_in (piece ∷ more) later = first_of (said_by piece) (fault_in more later)
@@ -113,9 +113,9 @@ conversation items = messages_of (version_range (written items))
 unfoldable pub conversation_fault : List Item → Option SessionFault
 conversation_fault items = fault_of (version_range (written items))
 
--- what is to be kept
+-- what a session keeps
 
--- What a session keeps of the text. `opening`: the bytes of a version range that isn't read yet. `fresh`: no bytes,
+-- What a session keeps of the text. `opening`: the bytes of a version range that is not read yet. `fresh`: no bytes,
 -- since nothing stands behind the version range. `inside`: the bytes behind the last mark, or behind the range before
 -- any mark.
 pub data Phase : Type 0 where
@@ -136,6 +136,6 @@ abbrev pub or_fault : Option SessionFault → Phase → Result Phase SessionFaul
 or_fault (Some e) p = Err e
 or_fault None p = Ok p
 
--- what is kept of a conversation, or its first fault
+-- the phase at the end of a conversation, or its first fault
 unfoldable pub ending : List Item → Result Phase SessionFault
 ending items = or_fault (conversation_fault items) (phase_of (version_range (written items)))

@@ -23,8 +23,7 @@ abbrev pub heads_in : Result Message MessageFault → Result Head MessageFault
 heads_in (Ok m) = Ok (head_in m)
 heads_in (Err e) = Err e
 
--- a head was read, which with the words that are left is the message that was to be read; or the fault of that message
--- was met
+-- a head was read, which with the words that are left makes the message; or the fault of the message was met
 abbrev pub ReadsHead : Result Head MessageFault → List ℕ → Result Message MessageFault → Type 0
 ReadsHead (Ok head) left read = read ≡ Ok (with_words head left)
 ReadsHead (Err e) left read = read ≡ Err e

@@ -32,7 +32,7 @@ IsHeld Opening skipped bytes = (skipped ≡ 0) × (length bytes < range_bytes)
 IsHeld Fresh skipped bytes = (skipped ≡ 0) × (bytes ≡ [])
 IsHeld Inside skipped bytes = IsSkipped skipped bytes × (length bytes ≤ most_bytes + skipped)
 
--- what is kept at a stage of the bytes that came
+-- the bytes that are kept at a stage, of those that came
 abbrev pub kept_at : Stage → List ℕ → List ℕ
 kept_at Opening bytes = bytes
 kept_at Fresh bytes = []

@@ -1,4 +1,4 @@
--- What the laws of messages speak of, and their statements.
+-- What the definitions imply: the statements of the laws, and the words that they need.
 use Rattle.std.specs.Prelude.{◌≡◌, ◌<◌, ◌≤◌, ◌+◌, ◌%◌, [], ◌∷◌, ◌++◌, ◌↔◌, ℕ, List, map, length, false, Some, None, Result, Ok, Err}
 use Rattle.std.specs.List.{All, AllByRecursion, flat_map}
 use Rattle.xns_spp.specs.declared.item.Item.{Item}
@@ -51,12 +51,12 @@ pub record Stays (fed : List Item) (item : Item) (fault : SessionFault) : Type 0
   pub calls : calls_of (conversation (fed ++ item ∷ [])) ≡ calls_of (conversation fed)
   pub ending : server_ending (fed ++ item ∷ []) ≡ Err fault
 
--- what was heard begins messages that were sent, and has no fault
+-- the messages that were heard begin those that were sent, and no fault was met
 pub record Hears (fed : List Item) (sent : List Message) : Type 0 where
   pub front : Begins (conversation fed) sent
   pub well : IsFaultless (ending fed)
 
--- what a server heard begins calls that were made, each with its transaction, and has no fault
+-- the calls that a server heard begin those that were made, each with its transaction, and no fault was met
 pub record HearsCalls (fed : List Item) (made : List RawCall) : Type 0 where
   pub messages : Begins (conversation fed) (map numbered_message (numbered 1 made))
   pub calls : Begins (calls_of (conversation fed)) (numbered 1 made)
@@ -134,7 +134,7 @@ abbrev pub CallsAreHeard : Type 0
 CallsAreHeard = (fed : List Item) (made : List RawCall) → AllByRecursion IsShortCall made → Begins fed (caller_items made)
     → HearsCalls fed made
 
--- a prefix of what messages are cut into, but for the whole, says fewer messages
+-- a shorter prefix of the items of messages says fewer messages
 abbrev pub APartSaysLess : Type 0
 APartSaysLess = (fed : List Item) (sent : List Message) → Begins fed (items_of sent) → length fed < length (items_of sent)
     → 0 < length sent → length (conversation fed) < length sent

@@ -49,7 +49,7 @@ IsMessage (Reject transaction reason words) = (transaction < 2 ^ 16) × (reason 
 IsMessage (Return transaction words) = (transaction < 2 ^ 16) × AreWords words
 IsMessage (Abort transaction error words) = (transaction < 2 ^ 16) × (error < 2 ^ 16) × AreWords words
 
--- the message is said by the words, from the first to the last
+-- all of the words together say the message
 pub record SpellsMessage (m : Message) (words : List ℕ) : Type 0 where
   pub spells : words ≡ message_words m
   pub numbers : IsMessage m

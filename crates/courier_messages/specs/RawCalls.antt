@@ -40,7 +40,7 @@ numbered k (c ∷ cs) = (transaction_of k, c) ∷ numbered (k + 1) cs
 unfoldable pub numbered_message : ℕ × RawCall → Message
 numbered_message n = call_message n.0 n.1
 
--- what goes out
+-- the items that go out
 
 -- the items of the k-th call and of those after it, each with its transaction
 unfoldable pub call_items : ℕ → List RawCall → List Item

@@ -1,4 +1,4 @@
--- Faults, and wants of memory in their stead.
+-- Faults, and refused memory in their place.
 use Rattle.std.specs.Prelude.{◌≡◌, ◌≢◌, ◌+◌, ◌<◌, ℕ, List, [], length, map, Option, Result, Ok, Err, IsOk}
 use Rattle.std.specs.Option.{option_to_list}
 use Rattle.xns_spp.specs.declared.item.Item.{Item}
@@ -47,24 +47,24 @@ Stops Failed M P = ⊥
 abbrev pub UnlessMemory : SessionFault → Type 0 → Type 0
 UnlessMemory e P = Stops e (Unit {0}) P
 
--- what a function returns: it came to `new`, where q leads; or it met the fault of q; or it met a want of memory
+-- a function came to `new`, to which q leads; or it returned the fault of q; or memory was refused
 abbrev pub Follows : {X A : Type 0} → Result X SessionFault → Result A SessionFault → A → Type 0
 Follows (Ok x) q new = q ≡ Ok new
 Follows (Err e) q new = UnlessMemory e (q ≡ Err e)
 
--- what a function returns: it came to `new`, where q leads, and ms is the message that it returns, if any; or it met
--- the fault of q, and ms is empty; or it met a want of memory
+-- a function came to `new`, to which q leads, and ms is the message that it returned, if any; or it returned the fault
+-- of q, and ms is empty; or memory was refused
 abbrev pub Takes : {A : Type 0} → Result (Option Message) SessionFault → Result A SessionFault → List Message → A → Type 0
 Takes (Ok m) q ms new = (q ≡ Ok new) × (ms ≡ option_to_list m)
 Takes (Err e) q ms new = UnlessMemory e ((q ≡ Err e) × (ms ≡ []))
 
--- what is told of an item before it is taken: the heads of the messages that it ends, of which there is at most one, or the fault that a
--- peer makes
+-- what a function returns of an item before it is taken: the head of the message that it ends, if it ends one, or the fault that a peer
+-- makes
 abbrev pub Foresees : {A : Type 0} → Result (Option Head) SessionFault → Result A SessionFault → List Message → Type 0
 Foresees (Ok head) q ms = IsOk q × (map head_in ms ≡ option_to_list head)
 Foresees (Err e) q ms = Stops e ⊥ ((q ≡ Err e) × (ms ≡ []))
 
--- nothing is wrong with the bytes where they come: they bring no fault
+-- the bytes bring no fault in this phase
 abbrev pub AreRight : Phase → List ℕ → Type 0
 AreRight p bytes = (e : SessionFault) → run p (map byte bytes) ≡ Err e → ⊥
 
@@ -75,7 +75,7 @@ MakeSecondPiece (opening bytes) more = (0 < length bytes) × (length bytes + len
 MakeSecondPiece fresh more = ⊥
 MakeSecondPiece (inside bytes) more = 0 < length bytes
 
--- nothing is kept of what came
+-- none of the bytes that came are kept
 abbrev pub KeepsNothing : Phase → Type 0
 KeepsNothing (opening bytes) = bytes ≡ []
 KeepsNothing fresh = Unit {0}

@@ -1,4 +1,4 @@
--- What is answered to a call whose program or version is not listed (XSIS 038112, Courier, Reject message).
+-- The reject that answers a call whose program or version is not listed (XSIS 038112, Courier, Reject message).
 use Rattle.std.specs.Prelude.{ℕ, List, [], ◌∷◌, Bool, ◌||◌, nat_lt}
 
 -- the reason of a reject: there is no such program

@@ -17,7 +17,7 @@ use xns_spp::{Bytes, Item, MOST_BODY};
 /// How many words the body of an item has at most.
 const WORDS_AN_ITEM: usize = MOST_BODY / 2;
 
-/// The item of a part of a message; `last`: of its last part.
+/// The item of a part of a message; `last` says whether the part is the last one.
 #[inline(always)]
 fn item_with(last: bool, body: Vec<u8>) -> Item
     ensures { result ≡ message_item last body.items }
@@ -41,7 +41,7 @@ fn make_item(alloc: Global, last: bool, words: &[u16]) -> Result<Item, AllocErro
     Ok(item_with(last, body))
 }
 
-/// The items that the words of a message go out in.
+/// The items that the words of a message are cut into.
 #[tactic(auto, using(crate::proofs::Cuts::last_item, crate::proofs::Cuts::one_more_item))]
 pub fn cut(alloc: Global, words: &[u16]) -> Result<VecDeque<Item>, AllocError>
     ensures items { IfOk result (λ q. q.items ≡ cut_bytes (bytes_of words.now)) }
@@ -58,15 +58,15 @@ pub fn cut(alloc: Global, words: &[u16]) -> Result<VecDeque<Item>, AllocError>
     Ok(items)
 }
 
-/// What each side puts out first: the item that says its lowest and highest version. The only error is want of memory.
+/// The item that each side puts out first, which says its lowest and highest version. The only error is want of memory.
 pub fn versions(alloc: Global) -> Result<VecDeque<Item>, AllocError>
     ensures { IfOk result (λ q. q.items ≡ versions_item ∷ []) }
 {
     cut(alloc, &[VERSION; 2])
 }
 
-/// Puts the items that the words of a message go out in behind those that are out. The only error is want of
-/// memory, after which `out` holds what it held.
+/// Cuts the words of a message into items, and puts these behind the items in `out`. The only error is want of memory,
+/// after which `out` holds what it held.
 #[tactic(auto, using(crate::proofs::Cuts::last_item))]
 #[inline(always)]
 pub fn put_out(alloc: Global, words: &[u16], out: &mut VecDeque<Item>) -> Result<(), AllocError>
@@ -96,7 +96,7 @@ fn whole_bytes(alloc: Global, head: Head, words: &[u16]) -> Result<Vec<u8>, Allo
     Ok(bytes)
 }
 
-/// The item of a head and these words, which one item holds; `last`: of a whole message.
+/// The item of a head and these words, which one item holds; `last` says whether the message ends with them.
 #[inline(always)]
 fn head_item(alloc: Global, last: bool, head: Head, words: &[u16]) -> Result<Item, AllocError>
     requires { 2 * (head_size head + length words.now) ≤ most_body }
@@ -106,8 +106,8 @@ fn head_item(alloc: Global, last: bool, head: Head, words: &[u16]) -> Result<Ite
     Ok(item_with(last, body))
 }
 
-/// Puts the item of a message with this head and these words, which one item holds, behind those that are out. The only error is want of
-/// memory, after which `out` holds what it held.
+/// Puts the item of a message with this head and these words behind the items in `out`. One item holds the message. The only error is
+/// want of memory, after which `out` holds what it held.
 #[tactic(auto, using(crate::proofs::Puts::whole_cut))]
 pub fn put_whole(
     alloc: Global,
@@ -124,8 +124,8 @@ pub fn put_whole(
     Ok(())
 }
 
-/// Puts the items of a message with this head and these words, which one item does not hold, behind those that are out. The only error is
-/// want of memory, after which `out` holds what it held.
+/// Puts the items of a message with this head and these words behind the items in `out`. One item does not hold the message. The only
+/// error is want of memory, after which `out` holds what it held.
 pub fn put_long(
     alloc: Global,
     head: Head,

@@ -10,13 +10,13 @@ pub enum MessageFault {
     /// The number of bytes is odd.
     #[error("the message has an odd number of bytes")]
     OddLength,
-    /// There are fewer than two words, or fewer than the kind needs.
+    /// The words are fewer than two, or fewer than the kind needs.
     #[error("the message is shorter than its head")]
     ShortMessage,
     /// The first word, `found`, is none of 0 for a call, 1 for a reject, 2 for a return and 3 for an abort.
     #[error("the message is of kind {found}, and there are the kinds 0 to 3")]
     UnknownKind { found: u16 },
-    /// There are more than 131,072 bytes.
+    /// The message has more than 131,072 bytes.
     #[error("the message has more than 131072 bytes")]
     TooLong,
 }
@@ -27,7 +27,7 @@ pub enum MessageRefusal {
     /// The bytes are no message.
     #[error(transparent)]
     Fault(MessageFault),
-    /// A growth was refused.
+    /// Memory was refused.
     #[error("no memory")]
     NoMemory,
 }
@@ -60,10 +60,10 @@ pub enum SessionFault {
     /// A server was sent an answer, or a caller a call, or results or an error that do not fit its call in the table.
     #[error("the peer's message is not one that fits here")]
     BadReply,
-    /// An item came of the datastream `kind`, which is not 0.
+    /// An item of the datastream `kind`, which is not 0, came.
     #[error("an item is of datastream {kind}, and calls are of datastream 0")]
     Stream { kind: u8 },
-    /// A growth was refused.
+    /// Memory was refused.
     #[error("no memory")]
     NoMemory,
     /// The session had stopped before.

@@ -1,4 +1,5 @@
-//! The front of the bytes that are kept and of those that come behind them: the version range, or the head of a message. Nothing is changed.
+//! Reads the front of the bytes that are kept and of those that come behind them: the version range, or the head of a message. No function
+//! here changes what is kept.
 ghost use Rattle.std.specs.Prelude.{◌≡◌, ◌<◌, ◌≤◌, ◌+◌, ◌*◌, ◌/◌, ◌++◌, length, drop, slice_get, get_or, MatchOption};
 ghost use Rattle.courier_types.specs.Pieces.{words_of};
 ghost use Rattle.courier_messages.specs.Conversation.{range_bytes};
@@ -16,7 +17,7 @@ use courier_types::PieceWords;
 /// How many bytes the version range has.
 pub const RANGE_BYTES: usize = 4;
 
-/// The byte at a place of what is kept and of what comes behind it; `None` behind the last.
+/// The byte at a place of the pieces, followed by `body`; `None` behind the last.
 #[tactic(auto, using(crate::proofs::Joins::byte_kept, crate::proofs::Joins::byte_that_comes))]
 fn byte_at(pieces: &Pieces, body: &[u8], place: usize) -> Option<u8>
     ensures { result ≡ slice_get (pieces.now ++ body.now) place }
@@ -27,7 +28,7 @@ fn byte_at(pieces: &Pieces, body: &[u8], place: usize) -> Option<u8>
     }
 }
 
-/// The lowest and the highest version, which what is kept and what comes behind it begin with; `None` for fewer than four bytes.
+/// The lowest and the highest version, with which the bytes of the pieces, followed by `body`, begin; `None` for fewer than four bytes.
 #[tactic(auto, using(crate::proofs::Ranges::range_bytes, crate::proofs::Ranges::range_cut))]
 pub fn range_in(pieces: &Pieces, body: &[u8]) -> Option<(u16, u16)>
     ensures { MatchOption result (length pieces.now + length body.now < range_bytes)
@@ -72,7 +73,7 @@ pub fn read_head_in(pieces: &Pieces, skipped: usize) -> Result<Head, MessageFaul
     read_head(&mut words)
 }
 
-/// The word at a place behind the bytes that are skipped, of what is kept and of what comes behind it; 0 behind the last.
+/// The word at a place of the pieces, without the bytes that are skipped, followed by `body`; 0 behind the last.
 #[tactic(auto, using(crate::proofs::Fronts::word_is, crate::proofs::Fronts::no_word, crate::proofs::Fronts::no_high))]
 fn word_at(pieces: &Pieces, skipped: usize, body: &[u8], place: usize) -> u16
     requires { skipped + 2 * place < 256 }
@@ -87,7 +88,7 @@ fn word_at(pieces: &Pieces, skipped: usize, body: &[u8], place: usize) -> u16
     u16::from(high) * 256 + u16::from(low)
 }
 
-/// The head of a message whose bytes are those that are kept and those that come, without those that are skipped; or
+/// The head of the message whose bytes are those of the pieces, without those that are skipped, followed by `body`; or
 /// what is wrong with the message.
 #[tactic(auto, using(crate::proofs::Fronts::front_taken, crate::proofs::Fronts::front_head, crate::proofs::Fronts::even_head, crate::proofs::Heads::odd_message, crate::proofs::Wholes::half, crate::proofs::Heads::dropped_length))]
 fn head_behind(pieces: &Pieces, skipped: usize, body: &[u8]) -> Result<Head, MessageFault>
@@ -127,8 +128,8 @@ fn head_alone(bytes: &[u8]) -> Result<Head, MessageFault>
     read_head(&mut words)
 }
 
-/// The head of a message whose bytes are those that are kept and those that come, without those that are skipped; or
-/// what is wrong with the message. Where none are kept, those that come are read where they lie.
+/// The head of the message whose bytes are those of the pieces, without those that are skipped, followed by `body`; or
+/// what is wrong with the message. Where the pieces have no bytes, `body` is read where it lies.
 #[tactic(auto, using(crate::proofs::Fronts::alone, crate::proofs::Heads::dropped_length))]
 pub fn head_in(pieces: &Pieces, skipped: usize, body: &[u8]) -> Result<Head, MessageFault>
     requires skipped { IsSkipped skipped (pieces.now ++ body.now) }

@@ -115,7 +115,7 @@ impl Head {
         }
     }
 
-    /// Appends the words of the head, two bytes each, for which there is room.
+    /// Appends the words of the head, two bytes each, to `out`, which has room for them.
     pub fn put(self, out: &mut Vec<u8>)
         requires { HasRoom out.old (length (bytes_of (head_words self))) }
         ensures items { out.new.items ≡ out.old.items ++ bytes_of (head_words self) }

@@ -34,7 +34,7 @@ pub enum Stage {
     Inside,
 }
 
-/// What came since the last message.
+/// The bytes that came since the last message.
 ///
 /// The first message may begin in the piece that the version range ends in: the range then stands in front of it, and
 /// is skipped.
@@ -66,8 +66,8 @@ fn agree(low: u16, high: u16) -> Result<(), SessionFault>
     }
 }
 
-/// Where a session is once more bytes have come, which begin in the version range, and how many bytes are to be
-/// skipped; or what is wrong with the bytes. Nothing is changed.
+/// The stage of a session once more bytes have come, which begin in the version range, and how many bytes are to be
+/// skipped from then on; or what is wrong with the bytes. Nothing is changed.
 #[tactic(auto, using(crate::proofs::Ranges::still_opening, crate::proofs::Ranges::range_faulty, crate::proofs::Ranges::range_alone, crate::proofs::Ranges::range_and_more, crate::proofs::Ranges::range_and_too_much))]
 fn behind_range(pieces: &Pieces, body: &[u8]) -> Result<(Stage, usize), SessionFault>
     requires { length pieces.now < range_bytes }
@@ -91,8 +91,8 @@ fn behind_range(pieces: &Pieces, body: &[u8]) -> Result<(Stage, usize), SessionF
     Ok((Stage::Inside, RANGE_BYTES))
 }
 
-/// Takes in more bytes, which begin in the version range: where the session is then, and how many bytes are to be
-/// skipped.
+/// Takes in more bytes, which begin in the version range. Returns the stage of the session then, and how many bytes are
+/// to be skipped from then on.
 fn take_range(pieces: &mut Pieces, body: Vec<u8>) -> Result<(Stage, usize), SessionFault>
     requires { length pieces.old < range_bytes }
     ensures runs { IfOk result (λ x. run (opening pieces.old) (map byte body.items) ≡ Ok (phase_in x.0 (drop x.1 pieces.new))) }
@@ -109,7 +109,7 @@ fn take_range(pieces: &mut Pieces, body: Vec<u8>) -> Result<(Stage, usize), Sess
     Ok((stage, skipped))
 }
 
-/// Whether a message may have so many bytes more. `TooLong` where it would have over 131,072.
+/// Returns `TooLong` where a message would have over 131,072 bytes with these.
 #[tactic(auto, using(crate::proofs::Ranges::more_bytes, crate::proofs::Ranges::too_many_bytes))]
 #[inline(always)]
 fn behind_more(pieces: &Pieces, skipped: usize, body: &[u8]) -> Result<(), SessionFault>
@@ -142,8 +142,8 @@ fn take_more(pieces: &mut Pieces, skipped: usize, body: Vec<u8>) -> Result<(), S
     Ok(())
 }
 
-/// Takes in bytes directly behind the version range: where the session is then. Where there are no bytes, nothing is
-/// changed.
+/// Takes in bytes directly behind the version range, and returns the stage of the session then. Where there are no
+/// bytes, nothing is changed.
 #[tactic(auto, using(crate::proofs::Ranges::fresh_bytes, crate::proofs::Ranges::no_more_bytes))]
 #[inline(always)]
 fn take_first(pieces: &mut Pieces, body: Vec<u8>) -> Result<Stage, SessionFault>
@@ -162,8 +162,8 @@ fn take_first(pieces: &mut Pieces, body: Vec<u8>) -> Result<Stage, SessionFault>
     Ok(Stage::Inside)
 }
 
-/// Where a session is once more bytes have come, and how many bytes are to be skipped; or what is wrong with the bytes.
-/// Nothing is changed.
+/// The stage of a session once more bytes have come, and how many bytes are to be skipped from then on; or what is
+/// wrong with the bytes. Nothing is changed.
 #[tactic(auto, using(crate::proofs::Ranges::fresh_bytes, crate::proofs::Ranges::no_more_bytes))]
 fn behind(
     stage: Stage,
@@ -247,7 +247,7 @@ impl Incoming {
         }
     }
 
-    /// Does nothing: what is kept is bounded.
+    /// Does nothing; says to a proof that the bytes that are kept are bounded.
     #[tactic(auto, using(crate::proofs::Bounds::held_bound))]
     pub fn known(&self)
         ensures { IsBounded self.now }
@@ -277,8 +277,8 @@ impl Incoming {
         }
     }
 
-    /// What an item of these parts would bring: the head of the message that it would end, or what is wrong. Nothing of
-    /// the item is kept.
+    /// The head of the message that an item of these parts would end, if it would end one; or what is wrong with the
+    /// item. Nothing of the item is kept.
     pub fn look(&self, stream: u8, last: bool, body: &[u8]) -> Result<Option<Head>, SessionFault>
         ensures { Foresees result (run self.now (signs (item_of stream last body.now)))
             (said self.now (signs (item_of stream last body.now))) }
@@ -294,9 +294,9 @@ impl Incoming {
         }
     }
 
-    /// Takes in an item of datastream 0 that has these bytes and a mark, where it brings a whole message of which
-    /// nothing was kept before: the message. `None` changes nothing: [`take`](Incoming::take) then says what the item
-    /// brings.
+    /// Takes in an item of datastream 0 that has these bytes and a mark, where the item brings a whole message of which
+    /// nothing was kept before, and returns that message. `None` changes nothing: [`take`](Incoming::take) then returns
+    /// what the item brings.
     pub fn take_whole<'a>(&mut self, body: &'a [u8]) -> Option<WholeMessage<'a>>
         ensures runs { IfSome result (λ message. run self.old (signs (item_of 0 true body.now)) ≡ Ok self.new) }
         ensures said { IfSome result (λ message. said self.old (signs (item_of 0 true body.now)) ≡ message ∷ []) }
@@ -317,7 +317,7 @@ impl Incoming {
         Some(message)
     }
 
-    /// Takes in a mark: the message that it ends, if it ends one.
+    /// Takes in a mark, and returns the message that it ends, if it ends one.
     #[inline(always)]
     fn take_mark(&mut self, alloc: Global) -> Result<Option<PiecedMessage>, SessionFault>
         ensures takes { Takes result (step self.old mark) (ended self.old mark) self.new }

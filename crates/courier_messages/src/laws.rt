@@ -7,8 +7,8 @@ ghost use Rattle.courier_messages.specs.Laws.{MoreCallsGoOut, AFrontIsHeard, Cal
 
 use courier_types::laws::words_are_read_whole;
 
-/// Bytes are read as a message exactly where their words say it: here, that what is said is read; `read_message` tells
-/// the other way. A message that is read has at most 131,072 bytes.
+/// Bytes whose words say a message are read as that message; the contract of `read_message` says the converse. A
+/// message that is read has at most 131,072 bytes.
 pub fn message_is_spelled()
     ensures { MessageIsSpelled }
 {}
@@ -21,17 +21,17 @@ pub fn whole_value_is_spelled()
     words_are_read_whole();
 }
 
-/// A text without items of other datastreams is its pieces, each with its mark, and what is left.
+/// A text without items of other datastreams is its pieces, each with its mark, and the bytes behind the last mark.
 pub fn text_is_its_pieces()
     ensures { TextIsItsPieces }
 {}
 
-/// A conversation is what its signs end, taken one by one.
+/// The messages of a conversation are those that its signs end, taken one by one; the phase at its end is the one to which the signs lead.
 pub fn conversation_is_read_sign_by_sign()
     ensures { ConversationIsReadSignBySign }
 {}
 
-/// What a session keeps of the items is at most a message, or less than a version range.
+/// A session keeps of its items at most one message, or less than a version range.
 #[tactic(auto, using(crate::proofs::Bounds::ending_bound))]
 pub fn what_is_kept_is_bounded()
     ensures { WhatIsKeptIsBounded }
@@ -43,7 +43,7 @@ pub fn message_items_can_be_sent()
     ensures { MessageItemsCanBeSent }
 {}
 
-/// The messages of items of bytes have numbers within their types' bounds.
+/// The messages that items of bytes say have numbers within their types' bounds.
 #[tactic(auto, using(crate::proofs::Numbers::conversation_numbers))]
 pub fn what_is_heard_has_numbers()
     ensures { WhatIsHeardHasNumbers }
@@ -59,12 +59,13 @@ pub fn what_is_sent_is_heard()
     ensures { WhatIsSentIsHeard }
 {}
 
-/// What is heard first stays, whatever comes later.
+/// The messages that are heard first stay, whatever comes later.
 pub fn a_conversation_only_grows()
     ensures { AConversationOnlyGrows }
 {}
 
-/// Where the signs of two texts lead, one behind the other, and what messages they end.
+/// The signs of two texts, one behind the other: the second lead on from where the first lead, and end their messages behind those of the
+/// first.
 pub fn signs_run_on()
     ensures { SignsRunOn }
 {}
@@ -74,7 +75,7 @@ pub fn one_item_more()
     ensures { OneItemMore }
 {}
 
-/// What one item more makes of a conversation in which a message that isn't a call is a fault: the first fault stays,
+/// What one item more makes of a conversation in which a message that is not a call is a fault: the first fault stays,
 /// and no call comes with it or behind it.
 pub fn a_server_hears_one_item_more()
     ensures { AServerHearsOneItemMore }
@@ -85,18 +86,18 @@ pub fn more_calls_go_out()
     ensures { MoreCallsGoOut }
 {}
 
-/// Of a prefix of what was sent a prefix is heard, without a fault.
+/// Of a prefix of the items that were sent a prefix of the messages is heard, without a fault.
 pub fn a_front_is_heard()
     ensures { AFrontIsHeard }
 {}
 
-/// Of a prefix of what a caller puts out its first calls are heard, each with its transaction, without a fault.
+/// Of a prefix of the items that a caller puts out its first calls are heard, each with its transaction, without a fault.
 pub fn calls_are_heard()
     ensures { CallsAreHeard }
 {}
 
-/// A prefix of what messages are cut into says fewer messages than the whole, since the last item of each message ends it. So once all
-/// messages were heard, all items were.
+/// A shorter prefix of the items of messages says fewer messages than all the items, since the last item of each message ends it. So
+/// once all messages were heard, all items were.
 pub fn a_part_says_less()
     ensures { APartSaysLess }
 {}

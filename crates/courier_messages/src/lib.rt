@@ -1,5 +1,5 @@
-//! Courier's messages: how they are written and read, how they are cut into items, and what items say by them
-//! (XSIS 038112, Courier, Message stream). What can be called is not looked at.
+//! Courier's messages: how they are written and read, how they are cut into items, and what items say by them (XSIS
+//! 038112, Courier, Message stream). No function here looks at what can be called.
 #![tactic(auto)]
 
 mod cutting;

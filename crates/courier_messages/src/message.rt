@@ -31,7 +31,7 @@ pub enum Message {
 }
 
 impl Message {
-    /// What stands behind the message's head: arguments, results, or what a reject or an error tells.
+    /// The words behind the message's head: arguments, results, or the words of a reject or of an error.
     pub fn words(&self) -> &[u16]
         ensures { result.now ≡ words_in self.now }
     {

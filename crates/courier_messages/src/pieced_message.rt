@@ -53,7 +53,7 @@ impl PiecedMessage {
         self.head
     }
 
-    /// The message's words, written out once.
+    /// A copy of the message's words, in one list.
     #[inline(always)]
     pub fn words(&self, alloc: Global) -> Result<Words, AllocError>
         ensures words { IfOk result (λ w. w ≡ words_in self.now) }

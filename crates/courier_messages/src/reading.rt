@@ -17,7 +17,7 @@ use std::alloc::{AllocError, Global};
 /// How many bytes a message has at most.
 pub const MOST_BYTES: usize = 131_072;
 
-/// The next word, where there is one.
+/// Takes the next word of a source that has one.
 #[inline(always)]
 pub fn take_word<S: WordSource>(source: &mut S) -> u16
     requires { 0 < length (S.words_left source.old) }
@@ -115,7 +115,7 @@ pub fn head_of(words: &[u16]) -> Result<Head, MessageFault>
     }
 }
 
-/// The words that are left, written out once. Memory is refused only where there are some.
+/// A copy of the words that are left, in one list. Memory is refused only where there are some.
 #[inline(always)]
 pub fn words_left<S: WordSource>(alloc: Global, source: &mut S) -> Result<Words, AllocError>
     ensures words { IfOk result (λ w. w ≡ S.words_left source.old) }
@@ -149,9 +149,9 @@ fn read_exactly(alloc: Global, bytes: &[u8]) -> Result<Message, MessageRefusal>
 
 /// The message that the bytes are.
 ///
-/// The first fault is told: `OddLength`; `ShortMessage` under 2 words; `UnknownKind`; `ShortMessage` where there are
-/// fewer than the kind needs; `TooLong` over 131,072 bytes. `NoMemory` comes only where the bytes are a message that has
-/// words of its own, for which room is made once.
+/// The fault is the first of these: `OddLength`; `ShortMessage` under 2 words; `UnknownKind`; `ShortMessage` where there
+/// are fewer than the kind needs; `TooLong` over 131,072 bytes. `NoMemory` comes only where the bytes are a message that
+/// has words of its own, for which room is made once.
 pub fn read_message(alloc: Global, bytes: &[u8]) -> Result<Message, MessageRefusal>
     ensures exact { Reads result (message_of bytes.now) }
     ensures spells { IfOk result (λ m. SpellsMessage m (words_of bytes.now)) }

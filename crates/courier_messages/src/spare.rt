@@ -9,8 +9,8 @@ use std::mem::replace;
 /// How many words a message that is made has room for at first. Most messages need no more.
 const FIRST_ROOM: usize = 16;
 
-/// The room that the words of a message were made in, kept for those of the next one where it is no more
-/// than was made at first: 16 words, 32 bytes.
+/// The room in which the words of a message were made, kept for the words of the next one. It is kept where it has no
+/// more than 16 words, which are 32 bytes.
 #[derive(Debug, Drop)]
 pub struct Spare {
     room: Vec<u16>,
@@ -25,7 +25,7 @@ impl Spare {
         }
     }
 
-    /// No words, in the room that is kept or in new room.
+    /// A vector of no words, in the room that is kept or in new room.
     #[inline(always)]
     pub fn take(&mut self, alloc: Global) -> Result<Vec<u16>, AllocError>
         ensures { IfOk result (λ w. w.items ≡ []) }

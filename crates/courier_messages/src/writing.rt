@@ -9,7 +9,7 @@ use crate::head::Head;
 use crate::message::Message;
 use std::alloc::{AllocError, Global};
 
-/// Appends the words, two bytes each, for which there is room.
+/// Appends the words, two bytes each, to `out`, which has room for them.
 #[tactic(auto, using(crate::proofs::Puts::word_put))]
 pub fn put_words(words: &[u16], out: &mut Vec<u8>)
     requires { HasRoom out.old (length (bytes_of words.now)) }
@@ -24,7 +24,7 @@ pub fn put_words(words: &[u16], out: &mut Vec<u8>)
     }
 }
 
-/// How many bytes the head and so many words have; `None` where a `usize` can't hold it.
+/// How many bytes the head and so many words have; `None` where a `usize` cannot hold it.
 fn byte_count(head: Head, words: usize) -> Option<usize>
     ensures some { IfSome result (λ count. count ≡ 2 * (head_size head + words)) }
     ensures none { IfNone result (2 ^ 64 ≤ 2 * (head_size head + words)) }
@@ -35,7 +35,8 @@ fn byte_count(head: Head, words: usize) -> Option<usize>
 /// Appends the message's words, two bytes each.
 ///
 /// The bytes grow by their own allocator, once, before the first byte is written; `alloc` only shows that they may.
-/// Where the growth is refused, the bytes are as they were. Bytes that have room for the message are never refused.
+/// Where memory is refused, the bytes are as they were. Memory is never refused to bytes that have room for the
+/// message.
 #[tactic(auto, using(crate::proofs::Puts::message_is_its_parts, crate::proofs::Puts::head_bytes, crate::proofs::Cuts::bytes_length))]
 pub fn write_message(alloc: Global, message: &Message, out: &mut Vec<u8>) -> Result<(), AllocError>
     ensures ok { OnOk result (out.new.items ≡ out.old.items ++ message_bytes message.now) }
