@@ -30,7 +30,7 @@ pub delivers_now : (w : World) (side : Side) (s p : State) (k : ℕ) (bytes : Li
 delivers_now w side s p k bytes x i =
     delivers_lands w k ∙ (ap (flushed w) (lands_there w side s p k bytes x i) ∙ ap (λ (v : World). flushes v (other side)) (sym (lands_now w side s p k bytes x i)))
 
--- the ends of a world once a packet that was just sent came and was answered
+-- the ends of a world once a packet that was just sent came, and the reply to it, if one is owed, was sent
 pub delivered : Kept → (w : World) (side : Side) (s p : State) (k : ℕ) (bytes : List ℕ) → Pair w side s p
     → IsNew w side s p k bytes → Pair (delivers w k) side s (after_flush (after_receive p bytes))
 delivered kept w side s p k bytes x i =
@@ -92,7 +92,7 @@ pub record AdvancesBy (w : World) (side : Side) (handed : ℕ) : Type 0 where
 one_by : (n : ℕ) (e : Event) → IsFurther n e → All (IsFurther n) (e ∷ [])
 one_by n e h = All-cons (IsFurther n) e [] h (All-nil (IsFurther n))
 
--- by whether the packet of the first tick brought an item
+-- a side advances, by whether the packet of its first tick brought an item
 by_item : Kept → (w : World) (side : Side) (s p : State) → Pair w side s p → p.handed ≡ length p.taken
     → p.handed < length s.accepted → (a : AskedBy w side s p) (b : Bool)
     → nat_lt (after_flush (after_receive p a.a.bytes)).handed (length (after_flush (after_receive p a.a.bytes)).taken) ≡ b

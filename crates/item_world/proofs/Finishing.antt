@@ -191,7 +191,7 @@ reaches_all : Kept → (w : World) (side : Side) (d : ℕ)
     → length (end_of w side).accepted ≤ (end_of w (other side)).handed + d → Both w → Reaches w side d
 reaches_all k w side d le h = reaches k d w side (nat_lt (end_of w (other side)).handed (length (end_of w side).accepted)) refl h le
 
--- ---- both ways
+-- ---- items go both ways
 
 -- a list that begins another and is as long is the other
 same_list : (xs ys : List Item) → Begins xs ys → length ys ≤ length xs → xs ≡ ys

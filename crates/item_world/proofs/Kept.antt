@@ -253,7 +253,7 @@ begins_always laws setup events side fits good given = laws.order (run (start se
 
 -- ---- the deliveries of an event
 
--- the world once the end that a packet came to has answered it, and has flushed then
+-- the world once the end that a packet came to has received it, replied where a reply is owed, and flushed then
 abbrev pub flushed : World → Option (Side × World) → World
 flushed w None = w
 flushed w (Some l) = flushes l.1 l.0

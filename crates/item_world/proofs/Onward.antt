@@ -1,4 +1,4 @@
--- Two ends of a world: one asks, the other answers, and the next item goes over.
+-- Two ends of a world: one asks, the other replies, and the next item goes over.
 use Rattle.xns_spp.specs.declared.ends.Ends.{Ends}
 use Rattle.std.proofs.Common.{◌≡◌, ℕ, ◌+◌, ◌-◌, ◌<◌, ◌≤◌, Bool, true, false, List, [], ◌∷◌, ◌++◌, length, map, nat_lt, Option, Some, None, refl, sym, ◌∙◌, ap, subst, arith, append-nil, lit<}
 use Rattle.std.specs.Prelude.{slice_get, if◌then◌else◌, ◌||◌}
@@ -176,7 +176,7 @@ proper_heard laws t p q m to back i ours =
 
 -- ---- an end asks, and is told
 
--- after a tick of an end, the first packet of the tick comes to the peer, which answers the packet
+-- after a tick of an end, the first packet of the tick comes to the peer, which replies to the packet
 pub record Asked (w : World) (side : Side) (s p : State) : Type 0 where
   pub bytes : List ℕ
   pub new : IsNew (ticks w side) side (after_tick s) p (length w.bag) bytes

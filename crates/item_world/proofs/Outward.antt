@@ -67,9 +67,10 @@ stirs_out k w side holds linked left =
           );
     }
 
--- ---- as small steps
+-- ---- the three packets as small steps
 
--- by whether an item waits once the first packet came, and whether one is still to come then
+-- the ticks and the three packets as small steps, by whether an item waits once the first packet came, and whether one
+-- is still to come then
 stirs_when : EndLaws → (w : World) (side : Side) (b c : Bool) → StirsOut w side
     → nat_lt (end_of (came_first w side) (other side)).handed (length (end_of (came_first w side) (other side)).taken) ≡ b
     → nat_lt (length (end_of (came_first w side) (other side)).taken) (length (end_of w side).accepted) ≡ c

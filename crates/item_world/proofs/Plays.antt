@@ -154,7 +154,7 @@ stand_rest w i x xs stand = λ j y is. subst (λ (n : ℕ). slice_get w.bag n �
 stand_all : (w : World) → StandAt w 0 w.bag
 stand_all w = λ j x is. subst (λ (n : ℕ). slice_get w.bag n ≡ Some x) (omega arith) is
 
--- ---- which numbers are left out
+-- ---- the numbers that a rest leaves out
 
 lands_alive : (p : Bool) (l : Side × World) → is_some (if p then None else Some l) ≡ not p
 lands_alive true l = refl

@@ -27,7 +27,7 @@ use Rattle.item_world.specs.declared.side.Side.TheVariants.{A, B}
 
 -- ---- the third round: the next item goes out, and is taken
 
--- by whether more than that was taken before it came
+-- an end has taken more than n items after a packet, where it had before, or where it takes one from the packet
 takes_next : Kept → (p : State) (bytes : List ℕ) (n : ℕ) (b : Bool) → nat_lt n (length p.taken) ≡ b → n ≤ length p.taken
     → (length p.taken ≤ n → length p.taken < length (after_receive p bytes).taken) → n < length (after_receive p bytes).taken
 takes_next k p bytes n true h le takes =
@@ -156,7 +156,7 @@ three_by kept w side false h b left =
     (omega (arith, (first.ends (other side)).grows.handed, (second.ends (other side)).grows.handed))
     (omega (arith, left, ap (length {A = Item}) (first.ends side).accepted, ap (length {A = Item}) (second.ends side).accepted))
 
--- ---- so many rounds
+-- ---- one round after another
 
 turns : ℕ → World → World
 turns zero w = w

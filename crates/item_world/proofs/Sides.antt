@@ -55,7 +55,7 @@ placed w B s bs R h = h
 
 -- ---- a packet lands
 
--- packet k lives, and comes to the other end, which answers it
+-- packet k lives, and comes to the other end, which replies where a reply is owed
 pub record Landed (w : World) (k : ℕ) (l : Side × World) : Type 0 where
   pub packet : Emitted
   pub is : slice_get w.bag k ≡ Some packet
@@ -73,7 +73,7 @@ landed_by w k l (Some x) is e =
 pub has_landed : (w : World) (k : ℕ) (l : Side × World) → landing w k ≡ Some l → Landed w k l
 has_landed w k l e = landed_by w k l (slice_get w.bag k) refl e
 
--- the end at this side answers packet k, which is x
+-- the end at this side receives packet k, which is x, and replies where a reply is owed
 pub comes_as : (w : World) (k : ℕ) (side : Side) (x : Emitted)
     → moved (marked w k x) side (after_receive (end_of w side) x.bytes) (option_to_list (receive_answer (end_of w side) x.bytes).reply) ≡ receives (marked w k x) side x.bytes
 comes_as w k side x = ap (λ (s : State). moved (marked w k x) side (after_receive s x.bytes) (option_to_list (receive_answer s x.bytes).reply)) (sym (same_marked w k x side))

@@ -1,4 +1,4 @@
--- What the two ends of a connection come to, and nothing more: the items that each accepted to send, and those that it handed up.
+-- What is seen of the two ends of a connection, and nothing more: the items that each accepted to send, and those that it handed up.
 use Rattle.std.specs.Prelude.{◌≡◌, ℕ, suc, List, [], ◌∷◌, ◌++◌, length, slice_get, Some}
 use Rattle.xns_spp.specs.declared.item.Item.{Item}
 use Rattle.item_world.specs.Side.{other}

@@ -1,4 +1,4 @@
--- What may happen, as a list of small steps.
+-- What may happen in a play, as a list of small steps.
 use Rattle.std.specs.Prelude.{ℕ, ◌+◌, Bool, List, [], ◌∷◌, ◌++◌, fold, Option, Some, None, if◌then◌else◌}
 use Rattle.xns_spp.specs.Item.{IsItem}
 use Rattle.xns_spp.specs.declared.item.Item.{Item}
@@ -10,9 +10,9 @@ use Rattle.item_world.specs.Landing.{landing, reached}
 use Rattle.item_world.specs.UserSteps.{resends, sends_system_packet}
 use Rattle.item_world.specs.World.{World, flushes, ticks, overhears, sends, takes}
 
--- A small step: packet k comes to an end, which answers it; bytes from elsewhere come to an end; an end is given an
--- item, hands one up, flushes, ticks, sends its first item again, or sends a system packet. No event of a play has the
--- last two.
+-- A small step: packet k comes to an end, which replies where a reply is owed; bytes from elsewhere come to an end; an
+-- end is given an item, hands one up, flushes, ticks, sends its first item again, or sends a system packet. No event of
+-- a play has the last two.
 pub data Step : Type 0 where
   arrival : ℕ → Step
   noise : Side → List ℕ → Step
@@ -49,7 +49,8 @@ all_stepped w steps = fold stepped w steps
 
 -- ---- the steps of an event
 
--- packet k comes to an end, which answers it and then flushes; nothing happens where packet k comes to no end
+-- packet k comes to an end, which replies where a reply is owed, and then flushes; nothing happens where packet k comes
+-- to no end
 abbrev pub arrival_steps : ℕ → Option (Side × World) → List Step
 arrival_steps k None = []
 arrival_steps k (Some l) = arrival k ∷ flushing l.0 ∷ []

@@ -47,7 +47,7 @@ pub record IsSpelling (bytes : List ℕ) (at : Moment) : Type 0 where
 pub record IsSoundSpelling (s peer : State) (x : Emitted) : Type 0 where
   pub says : IsSpelling x.bytes x.at
   pub sound : IsSoundPacket s says.packet says.meant
-  -- both ends have taken no less than when the packet was sent
+  -- neither end has taken fewer items than when the packet was sent
   pub sender : x.at.sender ≤ length s.taken
   pub receiver : x.at.receiver ≤ length peer.taken
 

@@ -1,11 +1,11 @@
--- A packet comes to an end, which answers it; what that end does then is left to its user.
+-- A packet comes to an end, which replies where a reply is owed; what the end does then is left to its user.
 use Rattle.std.specs.Prelude.{ℕ, slice_get, Option, Some, None, if◌then◌else◌}
 use Rattle.item_world.specs.declared.emitted.Emitted.{Emitted}
 use Rattle.item_world.specs.declared.side.Side.{Side}
 use Rattle.item_world.specs.Side.{other}
 use Rattle.item_world.specs.World.{World, has_passed, receives, marked}
 
--- packet k, which is x, comes to the other end, which answers it
+-- packet k, which is x, comes to the other end, which replies where a reply is owed
 abbrev pub answered : World → ℕ → Emitted → World
 answered w k x = receives (marked w k x) (other x.side) x.bytes
 
@@ -13,8 +13,8 @@ abbrev pub landed : World → ℕ → Option Emitted → Option (Side × World)
 landed w k None = None
 landed w k (Some x) = if has_passed w x then None else Some (other x.side, answered w k x)
 
--- the end that packet k comes to, and the world once that end has answered the packet; none where there is no packet k,
--- or where packet k lives no longer
+-- the end that packet k comes to, and the world once that end has received the packet and replied, if a reply is owed;
+-- none where there is no packet k, or where packet k lives no longer
 abbrev pub landing : World → ℕ → Option (Side × World)
 landing w k = landed w k (slice_get w.bag k)
 

@@ -19,12 +19,12 @@ pub record Continues (s t : State) : Type 0 where
 abbrev pub as_sent : Emitted → Emitted
 as_sent x = record x { delivered = false }
 
--- w goes on as v: both ends take no less, and what was sent stays in the bag
+-- w goes on as v: neither end has taken less, and the packets that were sent stay in the bag
 pub record Later (w v : World) : Type 0 where
   pub taken : (side : Side) → length (end_of w side).taken ≤ length (end_of v side).taken
   pub bag : Begins (map as_sent w.bag) (map as_sent v.bag)
 
--- packet k of w comes to the end at this side, which answers it, and v is the world then
+-- packet k of w comes to the end at this side, which replies where a reply is owed, and v is the world then
 pub record Lands (w : World) (k : ℕ) (side : Side) (v : World) : Type 0 where
   pub packet : Emitted
   pub is : slice_get w.bag k ≡ Some packet

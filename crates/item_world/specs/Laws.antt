@@ -52,7 +52,7 @@ ARestDeliversWhatNeverWas = (w : World) → happens w Rest ≡ fold delivers w (
 abbrev pub TheBagNeverShrinks : Type 0
 TheBagNeverShrinks = (w : World) (events : List Event) → Begins (packets_of w) (packets_of (run w events))
 
--- an end that flushes or receives accepts and hands up nothing, and what it has handed up stays
+-- an end that flushes or receives accepts and hands up nothing, and the items that it has handed up stay
 pub record WhatWasHandedUpStays : Type 0 where
   pub flush : (s : State) → Continues s (after_flush s)
   pub receive : (s : State) (b : List ℕ) → Continues s (after_receive s b)

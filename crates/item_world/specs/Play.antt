@@ -25,7 +25,7 @@ abbrev pub with_side : Pair → Side → Participant → Pair
 with_side p A e = record p { a = e }
 with_side p B e = record p { b = e }
 
--- the pair ends as it was, but at this side with what is left behind the reference
+-- the pair ends as it was, but at this side as the reference leaves the participant
 abbrev pub LendsSide : MutBor Pair → Side → MutBor Participant → Fml
 LendsSide s side r = Lends pair.the_row participant.the_row s r (with_side s.now side)
 

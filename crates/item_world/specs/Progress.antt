@@ -1,4 +1,4 @@
--- What is to be done in a world, and what would do it.
+-- The items of a world that are still to be handed up, and the steps that would hand them up.
 use Rattle.std.specs.Prelude.{◌≡◌, ◌⊎◌, ◌≤◌, ◌<◌, ◌+◌, ◌-◌, ◌*◌, ℕ, false, List, length, Some, Ok, All, zero, suc, [], ◌∷◌}
 use Rattle.xns_spp.specs.Numbers.{most_items}
 use Rattle.xns_spp.specs.Sending.{is_full}
@@ -15,7 +15,7 @@ use Rattle.item_world.specs.Landing.{landing}
 use Rattle.item_world.specs.Side.{other}
 use Rattle.item_world.specs.World.{World, end_of, ticks, flushes, sent_at, handed_at}
 
--- A plain step: an end ticks, flushes, hands an item up, or answers one of the packets that are sent from number n on.
+-- A plain step: an end ticks, flushes, hands an item up, or receives one of the packets that are sent from number n on.
 -- No item is accepted, and no packet that was sent before is needed.
 abbrev pub IsPlainStep : ℕ → Step → Type 0
 IsPlainStep n (arrival k) = n ≤ k
@@ -44,7 +44,7 @@ pub record Finishes (w : World) : Type 0 where
   pub few : length more ≤ 12 * (pending w A + pending w B + 1)
   pub done : IsDone w (all_stepped w more)
 
--- an end ticks, flushes, or answers one of the packets that are sent from number n on
+-- an end ticks, flushes, or receives one of the packets that are sent from number n on
 abbrev pub IsWire : ℕ → Step → Type 0
 IsWire n (arrival k) = n ≤ k
 IsWire n (flushing side) = Unit {0}
@@ -73,7 +73,7 @@ pub record FinishesByEvents (w : World) : Type 0 where
   pub few : length more ≤ 6 * (pending w A + pending w B + 1)
   pub done : IsDone w (run w more)
 
--- ---- by a fixed schedule
+-- ---- a fixed schedule, by which all is handed up
 
 -- a round: each end ticks, then each packet comes that was never delivered, and then each end hands an item up
 abbrev pub round : List Event

@@ -1,4 +1,4 @@
--- What two ends begin with.
+-- The setup of two ends: their addresses and identifiers, the window and the backlog.
 use Rattle.std.specs.Prelude.{◌≢◌, ◌<◌, ◌≤◌}
 use Rattle.xns_idp.specs.Packet.{IsAddress, broadcast}
 use Rattle.xns_spp.specs.Ends.{most_pending}

@@ -1,4 +1,4 @@
--- What a play of items hands over.
+-- The trace that a play of items returns.
 use Rattle.item_world.specs.declared.item_trace.ItemTrace.{ItemTrace}
 use Rattle.item_world.specs.declared.side.Side.TheVariants.{A, B}
 use Rattle.item_world.specs.World.{World, sent_at, handed_at, packets_of}

@@ -5,7 +5,7 @@ use Rattle.xns_spp.specs.Telling.{told_answer, resend_answer, after_resend}
 use Rattle.item_world.specs.declared.side.Side.{Side}
 use Rattle.item_world.specs.World.{World, end_of, moved}
 
--- an end sends its first item again, or what tick sends in the place of items
+-- an end sends its first item again, or the system packet that a tick sends in the place of items
 abbrev pub resends : World → Side → World
 resends w side = moved w side (after_resend (end_of w side)) (option_to_list (resend_answer (end_of w side)))
 

@@ -76,7 +76,7 @@ flushes w side = moved w side (after_flush (end_of w side)) (flush_answer (end_o
 abbrev pub ticks : World → Side → World
 ticks w side = moved w side (after_tick (end_of w side)) (tick_answer (end_of w side))
 
--- bytes come to an end, which answers them
+-- bytes come to an end, which replies where a reply is owed
 abbrev pub receives : World → Side → List ℕ → World
 receives w side bytes = moved w side (after_receive (end_of w side) bytes) (option_to_list (receive_answer (end_of w side) bytes).reply)
 

@@ -35,7 +35,7 @@ impl Counts {
         }
     }
 
-    /// An end has taken so many items more.
+    /// Counts so many more items that an end has taken.
     pub fn add(&mut self, side: Side, more: usize)
         ensures { (n : ℕ) → n ≤ most_items → count_of self.old side + more ≡ n → self.new ≡ with_count self.old side n }
     {

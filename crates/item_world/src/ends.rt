@@ -1,7 +1,7 @@
 //! What an endpoint of a play does with the network.
 //!
 //! The only error is want of memory, where something is to be sent or kept. The network is then as it was. The endpoint is as it was too,
-//! or it went on, and what it sent is lost.
+//! or it went on, and the packets that it sent are lost.
 
 ghost use Rattle.std.specs.Prelude.{◌≡◌, ◌<◌, ◌⊎◌, ℕ, length, slice_get, OnOk, OnErr, Some};
 ghost use Rattle.xns_spp.specs.Held.{StandsFor};
@@ -19,7 +19,7 @@ use crate::side::Side;
 use std::alloc::{AllocError, Global};
 use xns_spp::Endpoint;
 
-/// Sends what may go out.
+/// Sends the items that may go out for the first time.
 pub fn flush_end(
     alloc: Global,
     side: Side,
@@ -38,7 +38,7 @@ pub fn flush_end(
     network.emit(side, packets)
 }
 
-/// Sends again what isn't acknowledged, or asks.
+/// Sends again the items that are not acknowledged, or asks the peer for a reply.
 pub fn tick_end(
     alloc: Global,
     side: Side,
@@ -57,7 +57,7 @@ pub fn tick_end(
     network.emit(side, packets)
 }
 
-/// Takes in a packet of the network and answers it.
+/// Takes in a packet of the network, and sends the reply, if one is owed.
 pub fn land(
     alloc: Global,
     side: Side,
@@ -68,7 +68,7 @@ pub fn land(
     requires { number < length network.old.packets }
     ensures stands { OnOk result (EndLaws → (w v : World) → IsEnd endpoint.old network.old w side → landing w number ≡ Some (side, v)
         → IsEnd endpoint.new network.new v side) }
-    // Wherever the packet lands, and whether it lives or not.
+    // The endpoint receives the packet wherever it lands, and whether the packet lives or not.
     ensures endpoint { OnOk result ((s : State) (x : Emitted) → StandsFor endpoint.old s → slice_get network.old.packets number ≡ Some x →
         StandsFor endpoint.new (after_receive s x.bytes)) }
     ensures network { OnOk result (EndLaws → (w : World) (x : Emitted) → IsEnd endpoint.old network.old w side →

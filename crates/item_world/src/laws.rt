@@ -15,7 +15,7 @@ use xns_spp::laws::{
     what_goes_out_changes_what_was_sent_alone, written_packet_is_read_again,
 };
 
-/// The laws of an end, as the proofs take them.
+/// The laws of an end that the proofs stand on.
 pub fn end_laws_are_given()
     ensures { EndLaws }
 {
@@ -44,9 +44,9 @@ pub fn end_laws_are_given()
     open_ends_learn_nothing();
 }
 
-/// What `Holds` says of a world is true at the start, and is kept by each small step of an end and by each packet that
-/// comes, in whatever order these are taken. Where it is true, what either end has handed up begins what the other
-/// sent, and a packet that still lives is read as the numbers that its fields were made of.
+/// `Holds` is true of a world at the start, and each small step of an end, and each packet that comes, keeps it, in
+/// whatever order they are taken. Where it is true, what either end has handed up begins what the other sent, and a
+/// packet that still lives is read as the numbers that its fields were made of.
 pub fn each_step_keeps_the_order()
     ensures { EachStepKeepsTheOrder }
 {
@@ -54,7 +54,7 @@ pub fn each_step_keeps_the_order()
 }
 
 /// Each small step is one move of the channel: nothing is accepted or handed up, or one end accepts one item, or hands up the next of
-/// what the other accepted. So what small steps lead to from the start, in whatever order they are taken, is a history of the channel.
+/// what the other accepted. So small steps from the start, in whatever order they are taken, give a history of the channel.
 pub fn each_step_is_a_move()
     ensures { EachStepIsAMove }
 {
@@ -80,7 +80,7 @@ pub fn items_come_in_order()
     each_step_keeps_the_order();
 }
 
-/// Bytes from elsewhere change nothing: those of the connection are passed over, and all others are dropped.
+/// Bytes from elsewhere change nothing: bytes of the connection are passed over, and all others are dropped.
 pub fn foreign_bytes_change_nothing()
     ensures { ForeignBytesChangeNothing }
 {

@@ -2,7 +2,7 @@
 
 ghost use Rattle.std.specs.Prelude.{◌≡◌};
 
-/// How many items more each end of a packet may take while the packet lives.
+/// How many items more the sender and the receiver of a packet may each take while the packet lives.
 const LIFETIME: u64 = 30_000;
 
 /// When a packet was sent: how many items both its ends had taken by then.

@@ -79,7 +79,8 @@ impl Network {
         self.packets[number].bytes.as_slice()
     }
 
-    /// An end sends these packets. The only error is want of memory, where there are packets; the network is then as it was.
+    /// Takes in these packets, which an end sends. The only error is want of memory, where there are packets; the network is then as it
+    /// was.
     pub fn emit(&mut self, side: Side, packets: Vec<Bytes>) -> Result<(), AllocError>
         ensures unchanged { OnErr result (self.new ≡ self.old) }
         ensures memory { OnErr result (0 < length packets.items) }
@@ -92,8 +93,8 @@ impl Network {
         Ok(())
     }
 
-    /// A packet was delivered to an end, which took so many items from the packet, and perhaps replies. The only error
-    /// is want of memory, where there is a reply; the network is then as it was.
+    /// Notes that a packet was delivered to an end, which took so many items from the packet, and perhaps replies. The
+    /// only error is want of memory, where there is a reply; the network is then as it was.
     pub fn deliver(
         &mut self,
         side: Side,
@@ -149,7 +150,7 @@ impl Network {
     }
 
     /// The numbers of the packets that are not settled, in order. The only error is want of memory, where there are
-    /// packets; with or without the error, the network stands for what it stood for.
+    /// packets; with or without the error, the network stands for the world that it stood for.
     pub fn unsettled(&mut self, alloc: Global) -> Result<Vec<usize>, AllocError>
         ensures network { (w : World) → IsNetwork self.old w → IsNetwork self.new w }
         ensures memory { OnErr result (0 < length self.old.packets) }

@@ -103,7 +103,7 @@ impl Play {
         self.deliver_all(alloc, numbers.as_slice())
     }
 
-    /// Bytes from elsewhere come to an end. Those of the connection are passed over; all others are dropped, and not replied to.
+    /// Bytes from elsewhere come to an end. Bytes of the connection are passed over; the end drops all others, and does not reply.
     fn overhear(&mut self, alloc: Global, side: Side, bytes: &[u8]) -> Result<(), AllocError>
         ensures { OnOk result (StepsBy self.old self.new (λ w. happens w (Foreign side bytes.now))) }
     {

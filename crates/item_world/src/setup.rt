@@ -1,4 +1,4 @@
-//! What two ends begin with.
+//! The setup of two ends: their addresses and identifiers, the window and the backlog.
 
 ghost use Rattle.std.specs.Prelude.{◌↔◌, IsTrue, IfOk};
 
