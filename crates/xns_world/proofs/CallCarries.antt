@@ -30,7 +30,7 @@ use Rattle.xns_world.specs.CallWorld.{Parties, CallWorld, calls_made, put_out, n
 use Rattle.xns_world.specs.Settling.{most_steps, steps}
 use Rattle.xns_world.proofs.Stepping.{by_step, steps_are, GoesOn, IfGoesOn, steps_keep, steps_end}
 
--- of two that begin one list the shorter begins the longer
+-- the shorter of two lists that begin one list begins the longer
 pub shorter_begins : {X : Type 0} (xs ys zs : List X) → Begins xs zs → Begins ys zs → length xs ≤ length ys → Begins xs ys
 shorter_begins {X} xs ys zs p q h =
     let front : take (length xs) ys ≡ xs = sym (take-append-le (length xs) ys q.0 h) ∙ (ap (take (length xs)) q.1 ∙ front_of xs zs p) in
@@ -75,7 +75,7 @@ quiet_holds p w v h holds q = grown p w v h holds q.handed (λ t. subst (λ (l :
 
 -- ---- an item that is out is sent
 
--- of a list whose elements are short items, a prefix is of items
+-- a prefix of a list of short items is a list of items
 pub begun_items : (xs ys : List Item) → Begins xs ys → All IsShortItem ys → All IsItem xs
 begun_items xs ys b h =
     All-weaker IsShortItem IsItem (λ x i. i.fits) xs (subst (All IsShortItem) (front_of xs ys b) (All-take IsShortItem (length xs) ys h))

@@ -251,7 +251,7 @@ further_by_events p w g stuck sessions room r left None (Some y) a b = sending_b
 further_by_events p w g stuck sessions room r left None None a b =
     idle_by p w g stuck sessions r left a b (nat_lt (length (handed_at w.world B)) (length (sent_at w.world A))) (nat_lt (length (handed_at w.world A)) (length (sent_at w.world B))) refl refl
 
--- ---- to the end
+-- ---- events that bring a play to its end
 
 ends_by : {S : Type 0} (p : Parties S) (d : ℕ) (w : CallWorld) (b : Bool) → nat_lt w.listed (length p.calls) ≡ b → PartiesLaws p
     → NoWorldIsStuck → AllIsAnswered p.serving p.service → CarriesAll p → AtRest p w → bound p ≤ total w + d

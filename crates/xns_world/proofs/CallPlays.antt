@@ -78,7 +78,7 @@ quiet_calling p e w u endpoint q stands h = calling_on p e w (in_world w u) endp
 pub quiet_serving : {S : Type 0} (p : Parties S) (e : ServingEnd S) (w : CallWorld) (u : World) (endpoint : Held) → IsQuiet (channel_of w.world) (channel_of u) → StandsFor endpoint u.b → IsServing p e w → IsServing p (record e { endpoint = endpoint }) (in_world w u)
 quiet_serving p e w u endpoint q stands h = served_on p.serving p.service e w.world.b u.b endpoint h stands (q.accepted B) (q.handed B)
 
--- ---- both ends
+-- ---- the caller's end and the server's, side by side
 
 pub pair_of : {S : Type 0} (p : Parties S) (e : CallPair S) (w : CallWorld) → IsCalling p e.a w → IsServing p e.b w → IsCallPair p e w
 pair_of p e w a b = λ side. elim side as (λ t. IsAtSide p e w t) [ A ↦ a | B ↦ b ]

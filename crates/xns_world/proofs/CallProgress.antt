@@ -23,7 +23,7 @@ use Rattle.xns_world.specs.CallWorld.{Parties, CallWorld, CallStep, arrival, noi
 use Rattle.xns_world.proofs.CallMoves.{total}
 use Rattle.xns_world.proofs.CallStirs.{caller_most, server_most, read_few}
 
--- ---- to the end
+-- ---- steps that bring a play to its end
 
 pub bound : {S : Type 0} → Parties S → ℕ
 bound p = length p.calls + length p.calls + (length (caller_items p.calls) + length (server_items p.serving p.service (caller_items p.calls)))

@@ -24,7 +24,7 @@ use Rattle.xns_world.specs.CallProgress.{IsPlainCall, IsAllDone, CarriesAll, Cal
 use Rattle.xns_world.specs.CallWorld.{Parties, CallWorld, CallStep, ticking, acting, flushing, arrival, acting_steps, settling_steps, call_arrival_steps, call_steps_of, call_happens, call_stepped, all_call_stepped, outcomes_read, has_outcome, may_call, step}
 use Rattle.xns_world.specs.Settling.{onward, most_steps}
 
--- ---- both sides take steps until none applies
+-- ---- each side takes steps until none applies
 
 record ComesToRest {S : Type 0} (p : Parties S) (w : CallWorld) : Type 0 where
   more : List CallStep

@@ -81,7 +81,7 @@ not_full s fits all less =
     ap (λ (b : Bool). b || is_backlog_full s.ends (numbers_of s)) (ne_eqb (length s.accepted) most_items (λ e. omega (arith, e, less)))
     ∙ ne_eqb (length s.accepted - s.acknowledged) s.ends.backlog (λ e. omega (arith, e, all, fits.ends.backlog_least))
 
--- ---- which items are out
+-- ---- the items that are out
 
 pub none_past : (xs : List Item) (k : ℕ) → slice_get xs k ≡ None → length xs ≤ k
 none_past xs k is = by_test (nat_lt k (length xs)) refl

@@ -119,7 +119,7 @@ calling_feeds p e w x endpoint new g holds h is stands session =
 
 -- ---- a call is made
 
--- as many outcomes were listed as there are
+-- where no outcome is there, all that were read are listed
 all_seen : {S : Type 0} (p : Parties S) (e : CallingEnd) (w : CallWorld) → CallsHold p w → IsCalling p e w → has_outcome p w ≡ false → length (outcomes_read p w) ≡ length e.seen.items
 all_seen p e w holds h none =
     let most = ltb-false w.listed (length (outcomes_read p w)) none in
@@ -164,7 +164,7 @@ calling_makes p e f w cs call g holds h are none all less there endpoint made se
       },
     )
 
--- ---- which step applies
+-- ---- the step that applies
 
 fed_or_not : {S : Type 0} (p : Parties S) (w : CallWorld) (b c : Bool) (P : CallWorld → Type 0) → Stepped b w (if c then Some (feeds_session w A) else caller_step p w A) P → Stepped b w (or_caller p w A (if c then Some (after_take w.world.a) else None)) P
 fed_or_not p w b true P h = h

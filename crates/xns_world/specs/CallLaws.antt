@@ -15,7 +15,7 @@ pub record ServerLaws {S : Type 0} (serving : Serving S) (s : S) : Type 0 where
   pub pieces : SessionItemsCanBeSent serving s
   pub faults : FirstFaultStays
 
--- the laws of each moment of the network and of these parties' sessions
+-- the laws of the network and of these parties' sessions, at each moment
 pub record PartiesLaws {S : Type 0} (p : Parties S) : Type 0 where
   pub world : EachStepKeepsTheOrder
   pub foreign : ForeignBytesChangeNothing

@@ -1,4 +1,4 @@
--- What calls come to, and what is true of a world of calls at every moment.
+-- The ledger of a world of calls, and what is true of the world at every moment.
 use Rattle.std.specs.Prelude.{◌≡◌, ◌≤◌, length, None}
 use Rattle.courier_calls.specs.Calls.{SeenModel, Serving, decision, after_decision, outcomes}
 use Rattle.courier_calls.specs.Caller.{caller_ending}
@@ -14,11 +14,11 @@ use Rattle.xns_world.specs.CallWorld.{Parties, CallWorld, calls_made, put_out, o
 use Rattle.xns_world.specs.Ledger.{Ledger}
 use Rattle.xns_world.specs.Settling.{stepped_out}
 
--- what the server makes of a call
+-- the state of the service once it has decided a call, and the outcome of the call
 abbrev pub decides : {S : Type 0} → Serving S → S → RawCall → S × SeenModel
 decides serving s c = (after_decision serving s c, decision serving s c)
 
--- what the calls of a world come to
+-- the ledger of the calls of a world
 abbrev pub ledger_of : {S : Type 0} → Parties S → CallWorld → Ledger S RawCall SeenModel
 ledger_of p w = record {
   made = calls_made p w;
@@ -40,7 +40,7 @@ pub record CallsHold {S : Type 0} (p : Parties S) (w : CallWorld) : Type 0 where
   pub made : w.made ≤ length p.calls
   pub listed : w.listed ≤ length (outcomes_read p w)
 
--- between events no outcome is left unlisted
+-- between events each outcome that the caller has read is listed
 abbrev pub AllListed : {S : Type 0} → Parties S → CallWorld → Type 0
 AllListed p w = length (outcomes_read p w) ≤ w.listed
 

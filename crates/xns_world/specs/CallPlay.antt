@@ -23,7 +23,7 @@ use Rattle.item_world.specs.declared.side.Side.TheVariants.{A, B}
 use Rattle.xns_world.specs.CallWorld.{Parties, CallWorld, calls_made, seen_at, carried_at, service_at}
 use Rattle.item_world.specs.World.{World, handed_at, sent_at, packets_of}
 
--- what was done with the session of the caller's end
+-- the history of the session of the caller's end
 abbrev pub caller_history : {S : Type 0} → Parties S → CallWorld → caller.CallerHistory
 caller_history p w = record { made = calls_made p w; fed = handed_at w.world A; fetched = sent_at w.world A; handed = seen_at p w }
 
@@ -38,7 +38,7 @@ pub record IsCalling {S : Type 0} (p : Parties S) (e : CallingEnd) (w : CallWorl
 abbrev pub IsServing : {S : Type 0} → Parties S → ServingEnd S → CallWorld → Type 0
 IsServing p e w = IsServed p.serving p.service e w.world.b
 
--- the trace that a play hands over is what the world came to
+-- the trace that a play returns is that of the world
 pub record IsCallTrace {S : Type 0} (p : Parties S) (t : CallTrace S) (w : CallWorld) : Type 0 where
   pub carried : t.carried.items ≡ map call_of (carried_at w)
   pub seen : map seen_model t.seen.items ≡ seen_at p w

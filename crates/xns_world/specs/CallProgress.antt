@@ -1,4 +1,4 @@
--- What is to be done in a play of calls, and what would do it.
+-- The calls of a play that are still to be carried out, and the steps that would carry them out.
 use Rattle.std.specs.Prelude.{◌≡◌, ◌≤◌, ◌+◌, ℕ, List, length, fold, All}
 use Rattle.courier_messages.specs.RawCalls.{caller_items}
 use Rattle.courier_calls.specs.Calls.{Serving, outcomes}
@@ -39,13 +39,14 @@ pub record CallsGoOn {S : Type 0} (p : Parties S) (w : CallWorld) : Type 0 where
   pub linked : Linked w.world
   pub waits : w.made ≤ length (outcomes_read p w) + 1
 
--- plain steps after which all calls are done, with nothing needed of what was sent before
+-- plain steps after which all calls are done, and which need no packet that was sent before
 pub record Completes {S : Type 0} (p : Parties S) (w : CallWorld) : Type 0 where
   pub more : List CallStep
   pub plain : All (IsPlainCall (length w.world.bag)) more
   pub done : IsAllDone p (all_call_stepped p w more)
 
--- events of a play after which all calls are done: ticks, and deliveries of packets that are sent from then on; the sides take their own steps
+-- events of a play after which all calls are done: ticks, and deliveries of packets that are sent from then on; the sides take their own
+-- steps
 pub record CompletesByEvents {S : Type 0} (p : Parties S) (w : CallWorld) : Type 0 where
   pub more : List Event
   pub further : All (IsFurther (length w.world.bag)) more

@@ -1,4 +1,4 @@
--- What is promised of calls.
+-- The promises on calls.
 use Rattle.std.specs.Prelude.{◌≡◌, ℕ, List, take, Some, All}
 use Rattle.courier_calls.specs.Calls.{Serving, IsFitting}
 use Rattle.item_world.specs.declared.event.Event.{Event}
@@ -23,7 +23,7 @@ abbrev pub EntriesKeepTheOrder : (S C O : Type 0) → Type 0
 EntriesKeepTheOrder S C O = (decide : S → C → S × O) (s : S) (l : ℕ → Ledger S C O) → IsHistory decide s l → (n : ℕ)
     → IsInOrder decide s (l n)
 
--- what small steps lead to from the start, in whatever order they are taken, is a history of the ledger
+-- small steps from the start, in whatever order they are taken, give a history of the ledger
 abbrev pub EachStepIsAnEntry : {S : Type 0} → Serving S → (S → Type 0) → Type 0
 EachStepIsAnEntry {S} serving IsServiceState = (p : Parties S) (setup : Setup) (steps : List CallStep) →
     AreParties serving IsServiceState p → IsSetup setup → IsGood setup →
@@ -31,7 +31,7 @@ EachStepIsAnEntry {S} serving IsServiceState = (p : Parties S) (setup : Setup) (
 
 -- each call is carried out at most once and in order, at every moment
 pub record CallsComeInOrder {S : Type 0} (serving : Serving S) (IsServiceState : S → Type 0) : Type 0 where
-  -- what is always true gives the order
+  -- a world in which `CallsHold` has its calls in order
   pub order : (p : Parties S) (w : CallWorld) → AreParties serving IsServiceState p → CallsHold p w →
       IsInOrder (decides p.serving) p.service (ledger_of p w)
   pub well : (p : Parties S) (w : CallWorld) → AreParties serving IsServiceState p → CallsHold p w → MeetNoFault p w
@@ -42,10 +42,10 @@ pub record CallsComeInOrder {S : Type 0} (serving : Serving S) (IsServiceState :
       Entry (decides p.serving) (ledger_of p w) (ledger_of p (call_stepped p w step))
   pub keeps : (p : Parties S) (w : CallWorld) (steps : List CallStep) → AreParties serving IsServiceState p → CallsHold p w →
       CallsHold p (all_call_stepped p w steps)
-  -- what is true between events is true after any events
+  -- `IsBetween` is true after any events
   pub between : (p : Parties S) (setup : Setup) (events : List Event) → AreParties serving IsServiceState p → IsSetup setup → IsGood setup
       → IsBetween p (run_calls p setup events)
-  -- a side settles wherever it is let
+  -- between events each side settles
   pub ends : (p : Parties S) (side : Side) (w : CallWorld) → AreParties serving IsServiceState p → IsBetween p w → SideSettles p side w
   -- where sides settle in a run: at the start, behind the other side, behind a packet that came, and behind a tick
   pub settled : (p : Parties S) (side : Side) (w : CallWorld) → AreParties serving IsServiceState p → IsBetween p w

@@ -35,7 +35,7 @@ pub record CallWorld : Type 0 where
 abbrev pub calls_made : {S : Type 0} → Parties S → CallWorld → List RawCall
 calls_made p w = take w.made p.calls
 
--- all that a side's session has put out by now
+-- all items that a side's session has put out by now
 abbrev pub put_out : {S : Type 0} → Parties S → CallWorld → Side → List Item
 put_out p w A = caller_items (calls_made p w)
 put_out p w B = server_items p.serving p.service (handed_at w.world B)
@@ -89,7 +89,7 @@ or_caller p w side None = caller_step p w side
 abbrev pub step_with : {S : Type 0} → Parties S → CallWorld → Side → Option Item → Option CallWorld
 step_with p w side o = or_caller p w side (end_step_with (end_of w.world side) o)
 
--- the first step that applies: the session has an item out and the end isn't full: it is sent; none is out and an item
+-- the first step that applies: the session has an item out and the end is not full: it is sent; none is out and an item
 -- waits: the session is fed it; an outcome is there: it is listed; no call is unanswered: the next is made
 abbrev pub step : {S : Type 0} → Parties S → Side → CallWorld → Option CallWorld
 step p side w = step_with p w side (next_out p w side)

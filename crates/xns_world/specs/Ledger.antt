@@ -1,4 +1,4 @@
--- What calls come to, and nothing more, over whatever decides them: the calls that the caller made and those that were carried out, the
+-- What is seen of calls, and nothing more, whatever decides them: the calls that the caller made and those that were carried out, the
 -- outcomes that were answered and those that the caller saw, and the state that they left.
 use Rattle.std.specs.Prelude.{◌≡◌, ℕ, suc, List, [], ◌∷◌, ◌++◌, length, slice_get, fold, Some}
 use Rattle.xns_spp.specs.Growth.{Begins}

@@ -56,7 +56,7 @@ fault_of_ending (Err e) = Some e
 abbrev pub first_fault : List Item → Option SessionFault
 first_fault F = fault_of_ending (server_ending F)
 
--- the trace is what the end came to
+-- the trace is that of the end
 pub record IsServeTrace {S : Type 0} (serving : Serving S) (s : S) (t : ServeTrace S) (w : Served) : Type 0 where
   pub handed : t.handed ≡ handed_up_by w.end
   pub carried : t.carried.items ≡ map call_of (decided_calls (handed_up_by w.end))
@@ -64,7 +64,7 @@ pub record IsServeTrace {S : Type 0} (serving : Serving S) (s : S) (t : ServeTra
   pub replies : t.replies.items ≡ w.replies
   pub service : t.service ≡ server_state serving s (handed_up_by w.end)
 
--- the calls carried are those of the conversation that was handed up, before its first fault or message that isn't a call, their
+-- the calls carried are those of the conversation that was handed up, before its first fault or message that is not a call, their
 -- arguments raw; the service is as these calls leave it; and the fault is the first one
 pub record IsOfConversation {S : Type 0} (serving : Serving S) (s : S) (t : ServeTrace S) : Type 0 where
   pub carried : t.carried.items ≡ map call_of (decided_calls t.handed)

@@ -1,4 +1,4 @@
--- What a server's end in the program stands for, and with it what it sent.
+-- What a server's end in the program stands for, and the packets that the end sent.
 use Rattle.std.specs.Prelude.{◌≡◌, List, length, map, slice_get, Option, Some, All, ◌≤◌}
 use Rattle.courier_calls.specs.Calls.{Serving}
 use Rattle.courier_calls.specs.Server as server
@@ -54,7 +54,7 @@ abbrev pub ServeStepsBy : {S : Type 0} → Serving S → ServePlay S → ServePl
 ServeStepsBy {S} serving before after f = (s : S) (w : Served) → ServerLaws serving s → IsServePlaying serving s before w
     → IsServePlaying serving s after (f s w)
 
--- the end's numbers keep within their bounds: at most window items wait, and at most backlog are unacknowledged
+-- the end's numbers keep within their bounds: at most `window` items wait, and at most `backlog` are unacknowledged
 pub record HasBoundedEnd {S : Type 0} (t : ServeTrace S) (w : Served) : Type 0 where
   pub end : IsState w.end
   pub handed : length t.handed ≤ most_items

@@ -1,4 +1,4 @@
--- What bounds a server's end and its session, and what is promised of it, whatever packets come.
+-- The bounds of a server's end and of its session, and the promises on the end, whatever packets come.
 use Rattle.std.specs.Prelude.{◌≡◌, ◌≤◌, ℕ, List, length, drop, Ok, Some, None, All}
 use Rattle.courier_messages.specs.RawCalls.{RawCall}
 use Rattle.courier_calls.specs.Calls.{Serving, decision, HasWords}
@@ -28,7 +28,7 @@ abbrev pub IsOutShort : {S : Type 0} → Serving S → S → State → Type 0
 IsOutShort serving s v = length (bytes_in (items_out serving s v)) ≤ most_bytes
 
 pub record IsServedWithin {S : Type 0} (serving : Serving S) (s : S) (w : Served) : Type 0 where
-  -- at most window items wait or are early, and at most backlog are unacknowledged
+  -- at most `window` items wait or are early, and at most `backlog` are unacknowledged
   pub end : IsState w.end
   -- where the end's session has met no fault, the session keeps fewer than four bytes of the versions, or at most
   -- 131,072 bytes of an incoming message
@@ -39,7 +39,7 @@ pub record IsServedWithin {S : Type 0} (serving : Serving S) (s : S) (w : Served
   -- while an item is out, a step of the end hands no other up to the session, so no call is decided
   pub alone : (x : Item) (v : State) → next_item_out serving s w.end ≡ Some x → serve_step serving s w.end ≡ Some v
       → handed_up_by v ≡ handed_up_by w.end
-  -- all that is out has at most 131,072 bytes
+  -- the items that are out have at most 131,072 bytes, all together
   pub out : IsOutShort serving s w.end
 
 -- an end that settles comes to where no step applies

@@ -25,7 +25,7 @@ pub struct CallPair<'a, S: Service> {
 }
 
 impl<'a, S: Service> CallPair<'a, S> {
-    /// The end at this side takes steps until none applies.
+    /// Lets the end at this side take steps until none applies.
     pub fn step_out(&mut self, alloc: Global, calls: &[Call], side: Side) -> Result<(), AllocError>
         ensures { OnOk result ((p : Parties S) (w : CallWorld) → IsReady S.serving calls.now p w → IsCallPair p self.old w
             → IsCallPair p self.new (stepped_out (step p side) w)) }
@@ -36,7 +36,7 @@ impl<'a, S: Service> CallPair<'a, S> {
         }
     }
 
-    /// Sends what may go out at this side.
+    /// Sends the items that may go out for the first time at this side.
     pub fn flush(
         &mut self,
         alloc: Global,
@@ -51,7 +51,7 @@ impl<'a, S: Service> CallPair<'a, S> {
         }
     }
 
-    /// Sends again what isn't acknowledged at this side, or asks the peer for a reply.
+    /// Sends again the items of this side that are not acknowledged, or asks the peer for a reply.
     pub fn tick(
         &mut self,
         alloc: Global,

@@ -51,7 +51,7 @@ impl<'a, S: Service> CallPlay<'a, S> {
         })
     }
 
-    /// The end at this side settles.
+    /// Lets the end at this side settle.
     fn settle(&mut self, alloc: Global, calls: &[Call], side: Side) -> Result<(), AllocError>
         ensures { OnOk result (CallStepsBy S.serving calls.now self.old self.new (λ p w. settles p side w)) }
     {
@@ -70,7 +70,7 @@ impl<'a, S: Service> CallPlay<'a, S> {
         self.settle(alloc, calls, side)
     }
 
-    /// Delivers each packet that was never delivered and is there as this begins, in order.
+    /// Delivers each packet that is there as the rest begins and was never delivered, in order.
     fn rest(&mut self, alloc: Global, calls: &[Call]) -> Result<(), AllocError>
         ensures { OnOk result (CallStepsBy S.serving calls.now self.old self.new (λ p w. call_happens p w Rest)) }
     {
@@ -128,7 +128,7 @@ impl<'a, S: Service> CallPlay<'a, S> {
         self.happen_all(alloc, calls, events)
     }
 
-    /// What the play comes to as both ends settle and all these events happen in turn.
+    /// The trace of the play in which both ends settle, and then all these events happen in turn.
     fn played(
         mut self,
         alloc: Global,

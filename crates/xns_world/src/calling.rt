@@ -34,7 +34,7 @@ pub struct CallingEnd<'a> {
 }
 
 impl<'a> CallingEnd<'a> {
-    /// The end at A of this setup, before anything has happened; it hasn't settled.
+    /// The end at A of this setup, before anything has happened; it has not settled.
     pub fn new<S: Service>(
         alloc: Global,
         setup: &Setup,

@@ -28,7 +28,7 @@ pub struct ServePlay<'a, S: Service> {
 }
 
 impl<'a, S: Service> ServePlay<'a, S> {
-    /// The end before any packet came; it hasn't settled.
+    /// The end before any packet came; it has not settled.
     fn new(
         alloc: Global,
         setup: &Setup,
@@ -48,7 +48,7 @@ impl<'a, S: Service> ServePlay<'a, S> {
         })
     }
 
-    /// The end settles, and what it then sends joins the replies.
+    /// Lets the end settle. The packets that it then sends join the replies.
     fn settle(&mut self, alloc: Global) -> Result<(), AllocError>
         ensures { OnOk result (ServeStepsBy S.serving self.old self.new (serve_settles S.serving)) }
     {
@@ -57,7 +57,7 @@ impl<'a, S: Service> ServePlay<'a, S> {
         append(&mut self.replies, packets)
     }
 
-    /// A packet comes, of the connection or not, and the reply to it, if one is owed, joins the replies.
+    /// Brings a packet, of the connection or not, to the end. The reply to it, if one is owed, joins the replies.
     fn receive(&mut self, alloc: Global, bytes: &[u8]) -> Result<(), AllocError>
         ensures { OnOk result (ServeStepsBy S.serving self.old self.new (λ s w. serve_receives w bytes.now)) }
     {
@@ -65,7 +65,7 @@ impl<'a, S: Service> ServePlay<'a, S> {
         append_reply(&mut self.replies, reply)
     }
 
-    /// A packet comes, the end replies to it where a reply is owed, and settles.
+    /// Brings a packet to the end, which replies where a reply is owed, and then settles.
     fn serve_one(&mut self, alloc: Global, bytes: &[u8]) -> Result<(), AllocError>
         ensures { OnOk result (ServeStepsBy S.serving self.old self.new (λ s w. serve_hears S.serving s w bytes.now)) }
     {
@@ -73,7 +73,7 @@ impl<'a, S: Service> ServePlay<'a, S> {
         self.settle(alloc)
     }
 
-    /// All these packets come in turn, and the end settles after each.
+    /// Brings all these packets to the end in turn, which settles after each.
     fn serve_each(&mut self, alloc: Global, packets: &[Bytes]) -> Result<(), AllocError>
         ensures { OnOk result (ServeStepsBy S.serving self.old self.new (λ s w. fold (serve_hears S.serving s) w packets.now)) }
     {
@@ -83,7 +83,7 @@ impl<'a, S: Service> ServePlay<'a, S> {
         Ok(())
     }
 
-    /// The end settles, and then all these packets come in turn.
+    /// Lets the end settle, and then brings all these packets to it in turn.
     fn run(&mut self, alloc: Global, packets: &[Bytes]) -> Result<(), AllocError>
         ensures { OnOk result (ServeStepsBy S.serving self.old self.new
             (λ s w. fold (serve_hears S.serving s) (serve_settles S.serving s w) packets.now)) }
@@ -92,7 +92,7 @@ impl<'a, S: Service> ServePlay<'a, S> {
         self.serve_each(alloc, packets)
     }
 
-    /// What the end has come to.
+    /// The trace of the end.
     fn into_trace(self) -> ServeTrace<S>
         ensures { (s : S) (w : Served) → IsServePlaying S.serving s self.entry w → IsServeTrace S.serving s result w }
     {
@@ -143,7 +143,7 @@ fn known_packets(packets: &[Bytes])
     }
 }
 
-/// What a server makes of these packets, which may be anything.
+/// The trace of a server's end that is given these packets, which may be anything.
 ///
 /// Whatever the peer sends, the calls carried are those that the items handed up spell, in order and before the first fault, and each
 /// is carried out once; and after each packet the windows, what the session keeps of an incoming message, the next answer and all that

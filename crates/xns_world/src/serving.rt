@@ -33,7 +33,7 @@ pub struct ServingEnd<'a, S: Service> {
 }
 
 impl<'a, S: Service> ServingEnd<'a, S> {
-    /// The end at B of this setup, before anything has happened; it hasn't settled.
+    /// The end at B of this setup, before anything has happened; it has not settled.
     pub fn new(
         alloc: Global,
         setup: &Setup,

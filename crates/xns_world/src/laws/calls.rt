@@ -16,8 +16,8 @@ use item_world::laws::{
     network_laws_are_given, no_world_is_stuck,
 };
 
-/// In every history of a ledger the calls carried out begin those made, the state and the outcomes are theirs, one after another, and the
-/// outcomes seen begin those answered.
+/// In every history of a ledger the calls that are carried out begin those that are made, the state and the outcomes are those of the
+/// calls carried out, one after another, and the outcomes that are seen begin those that are answered.
 pub fn entries_keep_the_order<S: Service>()
     ensures { EntriesKeepTheOrder S RawCall SeenModel }
 {}
@@ -39,7 +39,7 @@ pub fn calls_come_in_order<S: Service>()
     laws_are_given::<S>();
 }
 
-/// From every state that a play can be in some ticks, packets sent from then on, and steps of the sides carry out all calls.
+/// From every state that a play can be in, some ticks, packets sent from then on, and steps of the sides carry out all calls.
 pub fn no_play_is_stuck<S: Service>()
     ensures { NoPlayIsStuck S.serving S.IsServiceState }
 {
@@ -48,7 +48,7 @@ pub fn no_play_is_stuck<S: Service>()
     all_is_answered::<S>();
 }
 
-/// The laws of an end, of the network and of the sessions, as the play's proofs take them.
+/// The laws of an end, of the network and of the sessions that the play's proofs stand on.
 pub(crate) fn laws_are_given<S: Service>()
     ensures { LawsAreGiven S.serving S.IsServiceState }
 {

@@ -1,4 +1,4 @@
-//! What holds of a server's end that is given whatever packets, as contracts of functions that do nothing.
+//! Laws of a server's end that is given whatever packets, as contracts of functions that do nothing.
 
 ghost use Rattle.xns_world.specs.ServePromises.{ServedEndsSettle, ServedEndsStayWithinBounds};
 
@@ -17,8 +17,8 @@ pub fn served_ends_settle<S: Service>()
     server_laws_are_given::<S>();
 }
 
-/// Whatever packets have come, a server's end, what its session keeps and what is out are within their bounds; and each step by which
-/// the end settles leaves it and what is out so.
+/// Whatever packets have come, a server's end, the bytes that its session keeps and the items that are out are within their bounds.
+/// Each step by which the end settles leaves the end and those items within them.
 pub fn served_ends_stay_within_bounds<S: Service>()
     ensures { ServedEndsStayWithinBounds S.serving S.IsServiceState }
 {
