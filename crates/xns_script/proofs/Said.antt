@@ -120,7 +120,7 @@ unfolding command_of
 line_said [] short = refl
 line_said (x ∷ line) short = either (x == 35) _ _ refl (words_said (words_of_line (x ∷ line)) (omega (arith, words_count (x ∷ line))))
 
--- ---- one more call
+-- ---- a script with one more call
 
 pub pushed_said : (b : Bool) (old new : List Call) (x : Call) → new ≡ cond b (old ++ x ∷ []) old → are_said (map call_model old) ≡ true → is_said (call_model x) ≡ true → are_said (map call_model new) ≡ true
 pushed_said true old new x e before here =

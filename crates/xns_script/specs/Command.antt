@@ -10,7 +10,7 @@ use Rattle.xns_script.specs.declared.command.Command.{Command}
 use Rattle.xns_script.specs.declared.command.Command.TheVariants as command
 use Rattle.xns_script.specs.Word.{hex_bytes_of, number_of, raw_words_of, side_of, words_of_line}
 
--- a line says nothing, makes a call, or lets something happen
+-- a line says nothing, makes a call, or lets an event happen
 pub data CommandModel : Type 0 where
   skips : CommandModel
   calls : CallModel → CommandModel
@@ -29,7 +29,7 @@ add_call n = record { program = 7; version = 2; procedure = 1; arguments = typed
 abbrev pub total_call : CallModel
 total_call = record { program = 7; version = 2; procedure = 2; arguments = typed (ValueModel.fields no_values) }
 
--- ---- by the number of words
+-- ---- lines by the number of their words
 
 abbrev pub one_word : List ℕ → Option CommandModel
 one_word a = if bytes_eq a (codes "rest") then Some (happens Rest) else None

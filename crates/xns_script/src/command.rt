@@ -9,6 +9,6 @@ pub enum Command {
     Skip,
     /// The caller makes a call.
     Call(Call),
-    /// Something happens to the connection.
+    /// An event of the connection happens.
     Happen(Event),
 }

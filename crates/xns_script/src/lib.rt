@@ -1,4 +1,4 @@
-//! The lines of a simulation: calls that are to be made, and what happens to the connection that carries them.
+//! The lines of a simulation: calls that are to be made, and events of the connection that carries them.
 #![tactic(auto)]
 
 mod command;

@@ -83,7 +83,7 @@ impl Script {
         self.calls.as_slice()
     }
 
-    /// What happens to the connection.
+    /// The events of the connection.
     pub fn events(&self) -> &[Event]
         ensures { result.now ≡ self.now.events.items }
     {
