@@ -67,7 +67,7 @@ handed setup service calls events t old new n carried total packets seen (Ok x) 
     ∙ ap (λ k. trace_text (length calls) (length t.carried.items) (map seen_model t.seen.items) t.service k) f
     ∙ played setup service calls events t is zero h)
 
--- ---- of a script
+-- ---- the text of a script
 
 -- what is added to a report with no text is all of it
 pub said_alone : (report empty : ReportModel) (text : List ℕ) → empty.front ≡ [] → report.front ≡ empty.front → report.line ≡ empty.line ++ text → whole report ≡ empty.line ++ text

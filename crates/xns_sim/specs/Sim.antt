@@ -1,4 +1,4 @@
--- What `sim` prints, as a function of the bytes read, and what stands after a fault.
+-- What `sim` prints, as a function of the bytes read, and what it has written after a fault.
 pub mod Play
 pub mod Script
 pub mod Trace
@@ -26,7 +26,7 @@ script_text lines = refusal_or_play (first_refused lines) (script_calls lines) (
 abbrev pub script_lines : List ℕ → List (List ℕ)
 script_lines input = map without_return (lines_of input)
 
--- what is printed for an input
+-- the text that is printed for an input
 abbrev pub sim_text : List ℕ → List ℕ
 sim_text input = script_text (script_lines input)
 
@@ -41,7 +41,7 @@ abbrev pub HasLeft : RunFault → List ℕ → Option (List ℕ) → Option (Lis
 HasLeft fault.Write input before after = AppendsPart before after (sim_text input)
 HasLeft _ input before after = after ≡ before
 
--- what was read is the front of the input that is no longer left; its lines are the good ones and then the next, which show the fault
+-- `read` is the front of the input, up to what is left of it; its lines are those within the limits, and then `next`, which show the fault
 pub record SimStopsIn (input : List ℕ) (left before after : Option (List ℕ)) (f : RunFault) : Type 0 where
   pub read : List ℕ
   pub consumed : Consumes (Some input) left read

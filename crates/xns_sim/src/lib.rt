@@ -1,4 +1,4 @@
-//! `sim`: calls played through a network that the lines of a script describe, and what came of them as text.
+//! `sim`: plays calls through a network that the lines of a script describe, and prints the trace.
 #![tactic(auto)]
 
 mod playing;

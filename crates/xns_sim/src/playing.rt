@@ -1,4 +1,4 @@
-//! What a script comes to, as text.
+//! The text of a script: its first refused line, or the trace of its play.
 ghost use Rattle.std.specs.Prelude.{◌≡◌, ◌++◌, ℕ, List, All, IfOk, codes, map};
 ghost use Rattle.std.specs.Fmt.{decimal};
 ghost use Rattle.courier_calls.specs.Calls.{CallFits, call_model};
@@ -19,7 +19,7 @@ use xns_lines::numbers::append_decimal;
 use xns_script::Script;
 use xns_world::play_calls;
 
-/// The text of what the script comes to: its first refused line, or its play.
+/// The text of the script: its first refused line, or the trace of its play.
 pub(crate) fn play_script(alloc: Global, script: &Script) -> Result<Report, AllocError>
     ensures { IfOk result (λ text. (lines : List (List ℕ)) → HasRead script.now lines → whole text ≡ script_text lines) }
 {
@@ -31,7 +31,7 @@ pub(crate) fn play_script(alloc: Global, script: &Script) -> Result<Report, Allo
     Ok(text)
 }
 
-/// Appends that the line of that number is refused.
+/// Appends the line which says that the line of this number is refused.
 fn append_refusal(text: &mut Report, number: usize) -> Result<(), AllocError>
     ensures { Adds result text.old text.new (decimal number ++ codes " refused\n") }
 {
@@ -39,7 +39,7 @@ fn append_refusal(text: &mut Report, number: usize) -> Result<(), AllocError>
     text.append(b" refused\n")
 }
 
-/// Appends what the play of these calls comes to, when these events happen.
+/// Appends the trace of the play of these calls, when these events happen.
 fn append_play(
     alloc: Global,
     text: &mut Report,

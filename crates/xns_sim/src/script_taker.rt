@@ -10,7 +10,7 @@ use xns_script::Script;
 /// Reads the lines of a script.
 #[derive(Drop)]
 pub(crate) struct ScriptTaker {
-    /// What was read so far.
+    /// The script that was read so far.
     pub(crate) script: Script,
 }
 

@@ -12,17 +12,17 @@ use std::io::{Read, Write};
 use xns_lines::{MOST_LINES, RunFault, take_lines, write_whole};
 use xns_script::Script;
 
-/// Reads the lines of a script, plays its calls through its events, and prints what came of them. The result
-/// says whether a line was refused.
+/// Reads the lines of a script, plays its calls through its events, and prints the trace. The result says whether a
+/// line was refused.
 ///
 /// Lines and their limits are those of [`xns_lines::take_lines`]. One byte 13 at a line's end is dropped; `xns_script`
 /// says what a line can be. The calls are made in order, wherever their lines stand, by a caller whose network and
 /// server are those of `xns_world::play_calls`; the server's service is a new tally. Where lines are refused, the text
-/// says the first of them alone, and nothing is played.
+/// names the first of them alone, and nothing is played.
 ///
 /// # Errors
 /// The errors are those of [`take_lines`], with at most [`MOST_LINES`] lines; `Write` where a write fails or takes no
-/// byte; `NoMemory` where a growth is refused. Nothing is written before the whole input is read and the whole text
+/// byte; `NoMemory` where memory is refused. Nothing is written before the whole input is read and the whole text
 /// made, so only a failed write leaves a prefix of the text.
 pub fn sim<R: Read, W: Write>(
     alloc: Global,
@@ -35,8 +35,8 @@ pub fn sim<R: Read, W: Write>(
     ensures refused { IfOk result (λ refused. IfSome (R.remaining reader.old) (λ input. refused ≡ is_script_refused input)) }
     ensures limits { OnOk result (IfSome (R.remaining reader.old) (IsWithinLimits most_lines)) }
 
-    // After a failed write a prefix of that text is written, and after any other fault nothing; what was read shows a
-    // limit that was passed.
+    // After a failed write a prefix of that text is written, and after any other fault nothing; the bytes that were
+    // read show a limit that was passed.
     ensures fault { IfErr result (λ fault. IfSome (R.remaining reader.old) (λ input.
         SimStopsIn input (R.remaining reader.new) (W.contents writer.old) (W.contents writer.new) fault)) }
 {

@@ -12,7 +12,7 @@ use std::alloc::AllocError;
 use xns_lines::Report;
 use xns_lines::numbers::{append_decimal, append_word_list};
 
-/// What a play of calls came to, as numbers and outcomes.
+/// The trace of a play of calls, as numbers and outcomes.
 #[derive(Clone, Copy)]
 pub(crate) struct Played<'a> {
     /// How many calls there were to make.

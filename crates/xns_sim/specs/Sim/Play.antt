@@ -28,6 +28,6 @@ script_parties calls = record { serving = tally; service = 0; calls = map raw ca
 abbrev pub world_text : Parties ℕ → CallWorld → List ℕ
 world_text p w = trace_text (length p.calls) (length (carried_at w)) (seen_at p w) (service_at p w) (length (packets_of w.world))
 
--- what is printed of these calls, when these events happen
+-- the text that is printed of these calls, when these events happen
 unfoldable pub play_text : List CallModel → List Event → List ℕ
 play_text calls events = world_text (script_parties calls) (run_calls (script_parties calls) script_setup events)
