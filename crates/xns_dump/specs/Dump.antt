@@ -1,4 +1,4 @@
--- What `dump` prints, as a function of the bytes read, and what stands after a fault.
+-- What `dump` prints, as a function of the bytes read, and what it has written after a fault.
 pub mod Capture
 pub mod Digits
 pub mod Line
@@ -27,7 +27,7 @@ text_from n earlier (line ∷ lines) = text_of_line n (item_number earlier) line
 abbrev pub text_of : List (List ℕ) → List ℕ
 text_of lines = text_from 1 [] lines
 
--- what is printed for an input
+-- the text that is printed for an input
 abbrev pub dump_text : List ℕ → List ℕ
 dump_text input = text_of (lines_of input)
 

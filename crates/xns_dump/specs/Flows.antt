@@ -37,9 +37,8 @@ abbrev pub fields_of : Flow → List DataPacket → List ℕ
 fields_of flow [] = []
 fields_of flow (packet ∷ packets) = with_field (is_flow packet.0 flow) packet.1 (fields_of flow packets)
 
--- the number of an item: its field, read near the number of the flow's item before it; as it stands where there is none before it, or
--- where it would be below 0
--- (XSIS 028112, Sequenced Packet Protocol, Sequence Number)
+-- the number of an item: its field, read near the number of the item before it in the flow; the field itself where no item is before
+-- it, or where the number would be below 0 (XSIS 028112, Sequenced Packet Protocol, Sequence Number)
 abbrev pub number_after : Option ℕ → ℕ → ℕ
 number_after None field = field
 number_after (Some last) field = unwrap_or (nearest last field) field

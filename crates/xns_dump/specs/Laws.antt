@@ -1,4 +1,4 @@
--- What the laws say: which texts have the word `refused`, and which flows are one.
+-- The statements of the laws, each under the name of its law: which texts have the word `refused`, and which flows are one.
 use Rattle.std.specs.Prelude.{◌≡◌, ℕ, Bool, true, false, List, ◌++◌, codes}
 use Rattle.std.specs.Fmt.{decimal}
 use Rattle.std.specs.Ordering.{is_eq, nat_cmp, ordering_then}
@@ -33,7 +33,7 @@ pub record IsQuiet (text : List ℕ) : Type 0 where
 pub record IsLoud (text : List ℕ) : Type 0 where
   pub says : (rest : List ℕ) → says_refused (text ++ rest) ≡ true
 
--- joined texts have the word where one of them has it, and none of those before begins it
+-- joined texts have the word where one of them has it, and it begins in none of those before that one
 pub record JoinedTextsSayRefused : Type 0 where
   pub quiet : (xs ys : List ℕ) → IsQuiet xs → IsQuiet ys → IsQuiet (xs ++ ys)
   pub loud_behind : (xs ys : List ℕ) → IsQuiet xs → IsLoud ys → IsLoud (xs ++ ys)
@@ -56,7 +56,7 @@ pub record OnlyRefusalsSayRefused : Type 0 where
 abbrev pub RefusedLinesSaySo : Type 0
 RefusedLinesSaySo = (n : ℕ) (number : DataPacket → ℕ) (line : List ℕ) → says_refused (text_of_line n number line) ≡ is_refused line
 
--- the order of flows holds those for equal that have the same ends, and they are the same value
+-- the order of flows holds two flows for equal exactly where they have the same ends, and both are then the same value
 pub record FlowsAreToldApart : Type 0 where
   pub order : (a b : Flow) → is_eq (flow_cmp a b) ≡ is_flow a b
   pub same : (a b : Flow) → is_flow a b ≡ true → a ≡ b
@@ -66,7 +66,8 @@ abbrev pub PlacesAreOrderedByNumbers : Type 0
 PlacesAreOrderedByNumbers = (a b : Place) → IsPlace a → IsPlace b
     → ordering_then (nat_cmp (host_and_socket a) (host_and_socket b)) (nat_cmp a.identifier b.identifier) ≡ place_cmp a b
 
--- a capture says what lines of hex say that spell its packets, among others that are no hex; where each line is hex, that is what the input says
+-- a capture prints what an input prints whose lines of hex spell its packets, but nothing of the lines among them that are no hex; where
+-- each line is hex, it prints all that the input prints
 pub record CapturesSayWhatLinesSay : Type 0 where
   pub text : (input file : List ℕ) → SpellsPackets IsNoHex input file → dump_capture_text file ≡ hex_text input
   pub refused : (input file : List ℕ) → SpellsPackets IsNoHex input file → has_refused_packet file ≡ has_refused_hex input

@@ -12,7 +12,7 @@ use Rattle.xns_lines.specs.Lines.{lines_of}
 abbrev pub Spells : ℕ → List ℕ → NumberedPacket → Type 0
 Spells n line packet = (packet.0.number ≡ n) × (decode_of (digits_of line) ≡ Ok packet.1)
 
--- each of these lines, of which the first has number n, spells the packet of its number, or is one of the others; the last line spells the
+-- each of the lines, of which the first has number n, spells the packet of its number, or `IsOther` holds of it; the last line spells the
 -- last packet
 abbrev pub SpellFrom : (List ℕ → Type 0) → ℕ → List (List ℕ) → List NumberedPacket → Type 0
 SpellFrom IsOther n [] [] = Unit {0}
@@ -20,7 +20,7 @@ SpellFrom IsOther n (line ∷ lines) (packet ∷ packets) =
     (Spells n line packet × SpellFrom IsOther (n + 1) lines packets) ⊎ (IsOther line × SpellFrom IsOther (n + 1) lines (packet ∷ packets))
 SpellFrom IsOther n _ _ = ⊥
 
--- the input spells each packet of the file in the line of its frame's number, and the lines of other numbers are such others
+-- the input spells each packet of the file in the line of its frame's number, and `IsOther` holds of the lines of other numbers
 abbrev pub SpellsPackets : (List ℕ → Type 0) → List ℕ → List ℕ → Type 0
 SpellsPackets IsOther input file = SpellFrom IsOther 1 (lines_of input) (packets_of file)
 
@@ -35,13 +35,13 @@ abbrev pub AreHex : List (List ℕ) → Type 0
 AreHex [] = Unit {0}
 AreHex (line ∷ lines) = (is_hex line ≡ true) × AreHex lines
 
--- the text of lines of which the first has number n, behind those data packets, but nothing of lines that are no hex
+-- the text of lines of which the first has number n, behind those data packets, without that of lines that are no hex
 abbrev pub hex_text_from : ℕ → List DataPacket → List (List ℕ) → List ℕ
 hex_text_from n earlier [] = []
 hex_text_from n earlier (line ∷ lines) =
     (if is_hex line then text_of_line n (item_number earlier) line else []) ++ hex_text_from (n + 1) (earlier ++ items_of_line line) lines
 
--- what is printed for an input, but nothing of lines that are no hex
+-- the text that is printed for an input, without that of lines that are no hex
 abbrev pub hex_text : List ℕ → List ℕ
 hex_text input = hex_text_from 1 [] (lines_of input)
 

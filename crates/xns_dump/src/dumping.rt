@@ -25,8 +25,8 @@ use xns_lines::{MOST_LINES, RunFault, print_lines};
 /// any.
 ///
 /// # Errors
-/// Those of [`xns_lines::print_lines`], with at most [`MOST_LINES`] lines. The text of all lines before the fault is written first, but
-/// for a write that fails.
+/// The errors are those of [`xns_lines::print_lines`], with at most [`MOST_LINES`] lines. The text of all lines before the fault is
+/// written first, unless a write fails.
 ///
 /// In memory are what `print_lines` holds, room for the digits of the longest line, for their values and for the bytes that they
 /// spell, the words of a message, and the number of the last item of each flow. A line begins at most one flow.
@@ -41,7 +41,7 @@ pub fn dump<R: Read, W: Write>(
     ensures refused { IfOk result (λ refused. IfSome (R.remaining reader.old) (λ input. refused ≡ has_refused_line input)) }
     ensures limits { OnOk result (IfSome (R.remaining reader.old) (IsWithinLimits most_lines)) }
 
-    // After a fault the text of the lines before it is written, and what was read shows a limit that was passed.
+    // After a fault the text of the lines before it is written, and the bytes that were read show a limit that was passed.
     ensures fault { IfErr result (λ fault. IfSome (R.remaining reader.old) (λ input.
         StopsIn input (R.remaining reader.new) (W.contents writer.old) (W.contents writer.new) fault)) }
 {
@@ -52,8 +52,8 @@ pub fn dump<R: Read, W: Write>(
     print_lines(alloc, MOST_LINES, reader, writer, printer)
 }
 
-/// Reads a capture and prints what each internet packet in its frames says, as `dump` does of lines, with the number of the
-/// frame in place of the line's. The result says whether a packet was refused.
+/// Reads a capture and prints what each internet packet in its frames says, as `dump` does for lines, with the number of
+/// the frame in place of the line's. The result says whether a packet was refused.
 pub fn dump_capture<R: Read, W: Write>(
     alloc: Global,
     reader: &mut R,
@@ -65,7 +65,7 @@ pub fn dump_capture<R: Read, W: Write>(
     ensures refused { IfOk result (λ refused. IfSome (R.remaining reader.old) (λ file. refused ≡ has_refused_packet file)) }
     ensures whole { OnOk result (IfSome (R.remaining reader.old) (λ file. fault_of file ≡ None)) }
 
-    // After a fault the text of the packets before it is written; one of the capture comes behind all its packets.
+    // After a fault the text of the packets before it is written; a fault of the capture comes behind all its packets.
     ensures fault { IfErr result (λ fault. IfSome (R.remaining reader.old) (λ file.
         CaptureStopsIn fault file (W.contents writer.old) (W.contents writer.new))) }
 {

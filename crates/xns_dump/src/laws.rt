@@ -13,13 +13,14 @@ pub fn only_refusals_say_refused()
     ensures { OnlyRefusalsSayRefused }
 {}
 
-/// Texts in which the word `refused` does not begin can be joined, before one that has it too. One that has it keeps it
-/// with text behind it.
+/// Where the word `refused` begins in neither of two texts, it does not begin in both joined. A text that has the word
+/// keeps it behind a text in which it does not begin, and before any text.
 pub fn joined_texts_say_refused()
     ensures { JoinedTextsSayRefused }
 {}
 
-/// The order of flows holds two for equal exactly where their hosts, sockets and identifiers are, and then they are one.
+/// The order of flows holds two flows for equal exactly where their hosts, sockets and identifiers are equal, and both are then the same
+/// value.
 pub fn flows_are_told_apart()
     ensures { FlowsAreToldApart }
 {}
@@ -30,8 +31,8 @@ pub fn places_are_ordered_by_numbers()
 {}
 
 /// Of a capture `dump` says what it says of lines of hex that spell the packets of the capture, each packet in the line of
-/// its frame's number. The lines of other numbers are no hex, so that each prints one line, with its number, why it is
-/// refused: without these lines the texts are the same.
+/// its frame's number. The lines of other numbers are no hex, and each of them prints one line, which says why it is
+/// refused. Without these lines the texts are the same.
 pub fn captures_say_what_lines_say()
     ensures { CapturesSayWhatLinesSay }
 {}

@@ -11,12 +11,12 @@ use crate::reporter::LineAppender;
 use std::alloc::{AllocError, Global};
 use xns_lines::{LinePrinter, Page};
 
-/// Says what each line says.
+/// Prints what each line says.
 #[derive(Drop)]
 pub(crate) struct DumpPrinter {
-    /// Makes what a line says.
+    /// Appends what a line says.
     pub(crate) appender: LineAppender,
-    /// The numbers of items so far.
+    /// The number of the last item of each flow so far.
     pub(crate) numbers: FlowNumbers,
 }
 

@@ -3,7 +3,7 @@ ghost use Rattle.std.specs.Prelude.{◌≤◌, ◌<◌, OnErr, OnOk, length};
 
 use std::alloc::AllocError;
 
-/// Makes the room as long as that, unless it is. The only error is want of memory, where it is shorter.
+/// Makes the room at least `count` bytes long. The only error is want of memory, where the room is shorter.
 pub(crate) fn lengthen(room: &mut Vec<u8>, count: usize) -> Result<(), AllocError>
     ensures longer { length room.old.items ≤ length room.new.items }
     ensures enough { OnOk result (count ≤ length room.new.items) }

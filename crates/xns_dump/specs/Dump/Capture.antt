@@ -39,7 +39,7 @@ packets_text_with_end packets part = packets_text packets
 abbrev pub packet_end_count : List NumberedPacket → ℕ
 packet_end_count packets = 0
 
--- what is printed for a file
+-- the text that is printed for a file
 abbrev pub dump_capture_text : List ℕ → List ℕ
 dump_capture_text file = packets_text (packets_of file)
 

@@ -17,7 +17,7 @@ abbrev pub number_near : Option ℕ → ℕ → ℕ
 number_near None field = field
 number_near (Some last) field = if nat_lt most_items last then field else number_after (Some last) field
 
--- the numbers of the next items, by what is kept
+-- the number of each next item, by the numbers that are kept
 abbrev pub numbering : BTreeMap Flow ℕ → DataPacket → ℕ
 numbering last packet = number_near (get flow_cmp last packet.0) packet.1
 

@@ -5,7 +5,7 @@ use Rattle.std.specs.Ordering.{nat_cmp, on, then_cmp}
 use Rattle.std.specs.declared.cmp.Ordering.{Ordering}
 use Rattle.xns_dump.specs.declared.flows.place.Place.{Place}
 
--- by host, then by socket, then by identifier
+-- the order of ends: by host, then by socket, then by identifier
 abbrev pub place_cmp : Place → Place → Ordering
 place_cmp = then_cmp (on (λ p. p.host) (slice_cmp nat_cmp)) (then_cmp (on (λ p. p.socket) nat_cmp) (on (λ p. p.identifier) nat_cmp))
 

@@ -15,7 +15,7 @@ use Rattle.xns_dump.specs.Layers.Sequenced.{header_refusal, item_of, sequenced_t
 use Rattle.xns_dump.specs.Layers.Small.{echo_text, error_text, exchange_text, inner_refusal}
 use Rattle.xns_dump.specs.Layers.Text.{data_line, line_of}
 
--- what its packet type makes of it, why it is not that, or data of another packet type
+-- what the packet type makes of the body, why the body is not that, or data of another packet type
 pub data BodyModel : Type 0 where
   echo : EchoModel → BodyModel
   error : ErrorReportModel → BodyModel
@@ -25,7 +25,7 @@ pub data BodyModel : Type 0 where
   refused : SmallFault → BodyModel
   other : List ℕ → BodyModel
 
--- without where it lies in memory
+-- a body without where it lies in memory
 abbrev pub body_model : Body → BodyModel
 body_model (Echo v) = BodyModel.echo (echo_model v)
 body_model (Error v) = BodyModel.error (error_report_model v)
@@ -64,7 +64,7 @@ body_text n number packet (BodyModel.no_header fault) = header_refusal n fault
 body_text n number packet (BodyModel.refused fault) = inner_refusal n fault
 body_text n number packet (BodyModel.other bytes) = data_line n bytes
 
--- whether it is not what the packet type says
+-- whether the body is not what the packet type says
 abbrev pub is_body_refused : BodyModel → Bool
 is_body_refused (BodyModel.no_header fault) = true
 is_body_refused (BodyModel.refused fault) = true

@@ -8,7 +8,7 @@ use Rattle.courier_messages.specs.declared.message.Message.TheVariants.{Call, Re
 use Rattle.xns_dump.specs.Layers.Text.{line_of, words_line}
 use Rattle.xns_lines.specs.Text.{words_text}
 
--- what is called
+-- the program, the version and the procedure of a call
 unfoldable pub callee_text : ℕ → ℕ → ℕ → List ℕ
 callee_text program version procedure = codes " program " ++ decimal program ++ (codes " version " ++ decimal version)
     ++ (codes " procedure " ++ decimal procedure)
@@ -30,6 +30,6 @@ abbrev pub report_message : ℕ → List ℕ → Result Message MessageFault →
 report_message n content (Ok message) = message_line n message
 report_message n content (Err fault) = words_line n content
 
--- the line of the data at the end of a message: that of the message that it reads as, or its words
+-- the line of the data at the end of a message: the message that the data read as, or their words
 unfoldable pub courier_text : ℕ → List ℕ → List ℕ
 courier_text n content = report_message n content (message_of content)

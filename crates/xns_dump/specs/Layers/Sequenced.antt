@@ -29,7 +29,7 @@ sequence_text f = codes " seq " ++ decimal f.sequence ++ codes " ack " ++ decima
 unfoldable pub header_text : Header → List ℕ
 header_text f = codes " spp control " ++ connection_text f ++ sequence_text f
 
--- the data packet that brings an item, if it is one: no system packet is, and none to an identifier that isn't known
+-- the data packet that brings an item, if the packet is one: no system packet is, and none to an identifier that is not known
 unfoldable pub item_of : PacketModel → Header → Option DataPacket
 item_of packet f = if brings_item f then Some (flow_of packet f, f.sequence) else None
 

@@ -11,7 +11,7 @@ use std::alloc::{AllocError, Global};
 use std::collections::BTreeMap;
 use xns_spp::nearest;
 
-/// A connection carries so many items each way at most. No item of an input has a larger number, by the limit on its
+/// How many items a connection carries each way at most. No item of an input has a larger number, by the limit on its
 /// lines.
 const MOST_ITEMS: u64 = 1 << 48;
 
@@ -22,7 +22,7 @@ pub(crate) struct FlowNumbers {
 }
 
 impl FlowNumbers {
-    /// No flow yet.
+    /// A map with no flow yet.
     pub(crate) fn new(alloc: Global) -> Self
         ensures { NumbersStandFor result.last [] }
     {

@@ -28,7 +28,7 @@ pub(crate) enum Body<'a> {
 }
 
 impl Body<'_> {
-    /// Whether it is not what the packet type says.
+    /// Whether the body is not what the packet type says.
     pub(crate) fn is_refused(&self) -> bool
         ensures { result ≡ is_body_refused (body_model self.now) }
     {

@@ -12,7 +12,7 @@ use std::alloc::{AllocError, Global};
 use xns_lines::Report;
 use xns_lines::numbers::{append_decimal_u64, append_word_list};
 
-/// Appends the line of the data at the end of a message: that of the message that it reads as, or its words.
+/// Appends the line of the data at the end of a message: the message that the data read as, or their words.
 #[tactic(auto, unfolding(crate::specs::Layers::Courier::courier_text))]
 pub(crate) fn append_courier(
     alloc: Global,
@@ -95,7 +95,7 @@ fn append_words(report: &mut Report, name: &[u8], words: &Words) -> Result<(), A
     append_word_list(report, words.as_slice())
 }
 
-/// Appends what is called.
+/// Appends the program, the version and the procedure of a call.
 #[tactic(auto, unfolding(crate::specs::Layers::Courier::callee_text))]
 pub fn append_callee(
     report: &mut Report,

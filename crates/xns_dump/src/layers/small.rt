@@ -24,7 +24,7 @@ impl LineText for Echo<'_> {
     }
 }
 
-/// Appends what kind of Echo it is.
+/// Appends whether an Echo is a request or a reply.
 fn append_operation(report: &mut Report, reply: bool) -> Result<(), AllocError>
     ensures { Adds result report.old report.new (if reply then codes " echo reply " else codes " echo request ") }
 {
