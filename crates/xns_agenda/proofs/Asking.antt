@@ -48,7 +48,7 @@ is_asked {span = span} {w = w} (sends {n = n} {v = v} before now is) =
     let b = asked_again span w v n now (is_asked before) is in
     subst (λ (a : Act). IsAsked span w (n + 1) (after_by v a now)) (sym is) b
 
--- ---- who is given up
+-- ---- an idle peer that is given up
 
 pub record Asking (span : ℕ) (w : Waiting) (n now : ℕ) : Type 0 where
   pub tries : w.pace.tries ≤ n

@@ -24,7 +24,7 @@ one_of others n k t v is = by (same_or_other k n) where
       inl (one_place v (Some t) (slice_get (slice_set others n v) n) (place_set others n v less) here)
   by (inr other) = inr (sym (place_other others n k v other) ∙ is)
 
--- who has a time among the others is another
+-- a number that has a time among the others is another number
 another : (others : List Time) (n k t : ℕ) → get_or others n None ≡ None → slice_get others k ≡ Some (Some t) → k ≢ n
 another others n k t none there = λ e.
     let some : get_or others k None ≡ Some t = get_or_from_slice_get others k (Some t) None there in

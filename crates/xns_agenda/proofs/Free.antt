@@ -37,7 +37,7 @@ one_more : (line : Line) (n k : ℕ) → n < length line.tickets → k < suc n �
 one_more line n k room less before (inl e) = subst (λ (m : ℕ). has_turn (with_last line n) m ≡ true) (sym e) (last_same line n room)
 one_more line n k room less before (inr other) = last_other line n k other ∙ before (omega (arith, less, other))
 
--- who took a turn has one
+-- a number that took a turn has one
 has_lined : (most n k : ℕ) → n < suc most → k < n → has_turn (lined_up most n) k ≡ true
 unfolding lined_up
 has_lined most zero k some less = absurd (omega (arith, less))

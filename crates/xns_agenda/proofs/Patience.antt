@@ -54,7 +54,8 @@ given_up act other false v t now test is = absurd (cc)
 
 -- ---- from one packet to the next
 
--- n packets went out: a wait of the length `first` began once `span` had passed since `start`, and each further wait at the end of the one before
+-- n packets went out: a wait of the length `first` began once `span` had passed since `start`, and each further wait at the end of the one
+-- before
 pub record Goes (at : ℕ → Due) (start span first : ℕ) (w : Waiting) (n : ℕ) (v : Waiting) : Type 0 where
   pub pace : v.pace ≡ w.pace
   pub measure : v.measure ≡ w.measure
@@ -144,7 +145,7 @@ waited {start = start} {w = w} (sends {n = n} {v = v} before now is) =
     let b = sent_again start w v n now (waited before) is in
     subst (λ (a : Act). Waited start w (n + 1) (after_by v a now)) (sym is) b
 
--- ---- who is given up
+-- ---- a peer that is given up
 
 pub later_by : (start a b until now : ℕ) → a ≤ b → later start b ≤ until → until ≤ now → later start a ≤ now
 later_by start a b until now less late over = grind arith

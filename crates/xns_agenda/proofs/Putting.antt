@@ -21,7 +21,7 @@ place_other (x ∷ xs) (suc n) (suc k) v other = place_other xs n k v (λ e. oth
 pub one_place : {X : Type 0} (a b : X) (o : Option X) → o ≡ Some a → o ≡ Some b → a ≡ b
 one_place a b o left right = cc
 
--- who has something in a list has a place in it
+-- a number that has something in a list is a place in it
 pub within : {X : Type 0} (xs : List (Option X)) (k : ℕ) → is_some (get_or xs k None) ≡ true → k < length xs
 within [] k has = absurd (cc)
 within (x ∷ xs) zero has = omega arith

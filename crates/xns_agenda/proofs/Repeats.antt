@@ -16,7 +16,7 @@ use Rattle.xns_agenda.specs.declared.timing.Timing.TheVariants.{Ready, Timed, Re
 abbrev Spent : Waiting → Type 0
 Spent v = is_vain v.timing ≡ true
 
--- ---- that stays so, until the peer acknowledges more or nothing waits for it
+-- ---- a wait that is spent stays spent, until the peer acknowledges more or nothing waits for it
 
 begun_spent : (t : Timing) (out now : ℕ) → is_vain t ≡ true → is_vain (begun_timing t out now) ≡ true
 begun_spent Ready out now spent = absurd (cc)

@@ -238,7 +238,7 @@ pub leaf_there : (tree times : List Time) (at t : ℕ) → length tree ≡ lengt
 leaf_there tree times at t same more within is =
     slice_get-get_or times (at - length tree) None (omega (arith, same, more, within)) ∙ ap Some (sym (outer tree times at more) ∙ is)
 
--- ---- by a time
+-- ---- the numbers whose time has come
 
 pub none_at_all : (times : List Time) (now : ℕ) → HasEarliest times None → HasNoneBy times now
 none_at_all times now h = record { after = λ k t there. absurd (h.least k t there) }

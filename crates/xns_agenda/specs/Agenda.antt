@@ -1,4 +1,4 @@
--- What is to be done next, of all connections.
+-- The timers and turns of all connections: what is to be done next.
 use Rattle.std.specs.Prelude.{◌≡◌, ℕ, true, false, List, length, Option, Some, None, replicate, slice_get, slice_set}
 use Rattle.xns_agenda.specs.Times.{HasEarliest, IsBy, IsEarliest}
 use Rattle.xns_agenda.specs.Turns.{HasNoTurn, Line, empty_line, has_turn, lined_up, with_turn}
@@ -7,10 +7,9 @@ use Rattle.xns_agenda.specs.declared.facts.TheConstants.Facts.{NONE}
 use Rattle.xns_agenda.specs.declared.way.Way.{Way}
 use Rattle.xns_agenda.specs.declared.way.Way.TheVariants.{Lingers, Stranger, Nobody}
 
--- what is known of connections by their numbers: when something is due; who may have a packet that is to go out; who
--- may have something to tell; since when a closed one lingers; since when a stranger is silent; and which numbers no
--- connection has. Where memory was refused for a packet and nothing was noted since, `short` is when packets are asked
--- for again
+-- what is known of connections by their numbers: when something is due; which may have a packet to send; which may have
+-- an event; since when a closed one lingers; since when a stranger is silent; and which numbers no connection has.
+-- Where memory was refused for a packet and nothing was noted since, `short` is when packets are asked for again
 pub record Plan : Type 0 where
   pub dues : List (Option ℕ)
   pub packets : Line
@@ -29,7 +28,7 @@ pub record IsFor (a : Plan) (most : ℕ) : Type 0 where
   pub strangers : length a.strangers ≡ most
   pub free : length a.free.tickets ≡ most
 
--- the plan for so many numbers of which no connection has one: nothing is to be done, and the numbers are free, the lowest first
+-- the plan for so many numbers, none of which a connection has: nothing is to be done, and the numbers are free, the lowest first
 abbrev pub new_agenda : ℕ → Plan
 new_agenda most = record {
   dues = replicate most None;
@@ -64,14 +63,14 @@ released a number = record {
   short = None;
 }
 
--- the plan has these facts of the connection with this number, but for whether there is something to tell
+-- the plan has these facts of the connection with this number, except whether there may be an event
 pub record IsNoted (a : Plan) (number : ℕ) (f : Facts) : Type 0 where
   pub due : slice_get a.dues number ≡ Some f.due
   pub packet : has_turn a.packets number ≡ f.has_packet
   pub closed : slice_get a.closed number ≡ Some f.lingers_since
   pub stranger : slice_get a.strangers number ≡ Some f.stranger_since
 
--- no connection has this number, and nothing is to be done
+-- no connection has this number, and nothing is to be done at it
 pub record HasNobody (a : Plan) (number : ℕ) : Type 0 where
   pub facts : IsNoted a number NONE
   pub event : has_turn a.events number ≡ false
@@ -82,8 +81,8 @@ abbrev pub asked_at : Option ℕ → ℕ
 asked_at None = 0
 asked_at (Some time) = time
 
--- something is to be done at this time: when packets are asked for, where one may be there; at once, where there is something to tell;
--- when something is due
+-- something is to be done at this time: packets are asked for, and there may be one; or the time is at once, and there may be an
+-- event; or something is due
 pub data IsWanted (packets events : Line) (dues : List (Option ℕ)) (short : Option ℕ) : ℕ → Type 0 where
   packet_waits : (k : ℕ) → has_turn packets k ≡ true → IsWanted packets events dues short (asked_at short)
   event_waits : (k : ℕ) → has_turn events k ≡ true → IsWanted packets events dues short 0
@@ -96,17 +95,17 @@ pub record IsWake (packets events : Line) (dues : List (Option ℕ)) (short time
   pub due : HasEarliest dues time
   pub wanted : (t : ℕ) → time ≡ Some t → IsWanted packets events dues short t
 
--- who gives way to a new connection: who lingers longest; where nobody lingers, who is silent longest
+-- the connection that gives way to a new one: the one that lingers longest; where none lingers, the stranger that is silent longest
 pub data GivesWay (closed strangers : List (Option ℕ)) : ℕ → Type 0 where
   longest_closed : (k t : ℕ) → IsEarliest closed k t → GivesWay closed strangers k
   longest_silent : (k t : ℕ) → HasEarliest closed None → IsEarliest strangers k t → GivesWay closed strangers k
 
--- which number a new connection gets: a free one; where no number is free, that of the connection that gives way
+-- the number that a new connection gets: a free one; where no number is free, that of the connection that gives way
 pub data GetsNumber (free : Line) (closed strangers : List (Option ℕ)) : ℕ → Type 0 where
   free_number : (k : ℕ) → has_turn free k ≡ true → GetsNumber free closed strangers k
   given_way : (k : ℕ) → HasNoTurn free → GivesWay closed strangers k → GetsNumber free closed strangers k
 
--- no number is free, and nobody gives way
+-- no number is free, and no connection gives way
 pub record HasNoNumber (free : Line) (closed strangers : List (Option ℕ)) : Type 0 where
   pub nobody : HasNoTurn free
   pub lingers : HasEarliest closed None

@@ -1,4 +1,4 @@
--- How long a peer takes to acknowledge, as it is measured, and how long is waited by that. Times are in milliseconds.
+-- How long a peer takes to acknowledge, as it is measured, and how long a connection waits by that. Times are in milliseconds.
 use Rattle.std.specs.Prelude.{◌≡◌, ℕ, zero, suc, ◌+◌, ◌-◌, ◌*◌, ◌/◌, ◌^◌, ◌≤◌, Bool, true, false, not, ◌&&◌, ◌==◌, nat_le, nat_lt, min, max, if◌then◌else◌, Option, Some, None}
 use Rattle.std.specs.Int.{abs_diff}
 use Rattle.xns_agenda.specs.declared.measure.Measure.{Measure}
@@ -13,7 +13,7 @@ use Rattle.xns_agenda.specs.declared.timing.Timing.TheVariants.{Ready, Timed, Re
 abbrev pub longest_time : ℕ
 longest_time = 2 ^ 32 - 1
 
--- neither number grows over what the longest time makes of it
+-- each number is at most as large as the longest time makes it
 pub record IsBounded (s : Smoothed) : Type 0 where
   pub time : s.time8 ≤ 8 * longest_time
   pub varies : s.varies4 ≤ 4 * longest_time
@@ -34,7 +34,7 @@ abbrev pub smoothed_by : Option Smoothed → ℕ → Smoothed
 smoothed_by None time = first_smoothed time
 smoothed_by (Some s) time = smoothed_on s time
 
--- the time that is to be expected: the smoothed one, and what it varies by, which counts at least so much
+-- the time that is to be expected: the smoothed one, and four times the amount by which it varies, which counts at least `least`
 abbrev pub estimate : Smoothed → (least : ℕ) → ℕ
 estimate s least = s.time8 / 8 + max least s.varies4
 
@@ -42,7 +42,8 @@ abbrev pub expected : Option Smoothed → Pace → ℕ
 expected None pace = pace.first
 expected (Some s) pace = estimate s pace.least
 
--- the soonest that is to be expected: half of the smoothed time, less what it varies by, which counts at least so much
+-- the soonest time that is to be expected: half of the smoothed time, less four times the amount by which it varies, which counts at least
+-- `least`
 abbrev pub soonest : Smoothed → (least : ℕ) → ℕ
 soonest s least = s.time8 / 8 - s.time8 / 8 / 2 - max least s.varies4
 
@@ -50,7 +51,7 @@ abbrev pub expected_from : Option Smoothed → Pace → ℕ
 expected_from None pace = pace.least - pace.least / 2
 expected_from (Some s) pace = soonest s pace.least
 
--- how long after something went out again an acknowledgement is one of it: half of the smoothed time
+-- how long after a packet went out again an acknowledgement counts as one of that packet: half of the smoothed time, or more
 abbrev pub half_time : Option Smoothed → Pace → ℕ
 half_time None pace = pace.least - pace.least / 2
 half_time (Some s) pace = s.time8 / 8 - s.time8 / 8 / 2
@@ -58,7 +59,7 @@ half_time (Some s) pace = s.time8 / 8 - s.time8 / 8 / 2
 abbrev pub is_fit : Option Smoothed → Pace → (passed : ℕ) → Bool
 is_fit o pace passed = nat_le (half_time o pace) passed
 
--- the time that has passed since something went out again is one in which the peer may have acknowledged what went out again
+-- the peer may have acknowledged a packet that went out again, by the time that has passed since
 abbrev pub is_expected : Option Smoothed → Pace → (passed : ℕ) → Bool
 is_expected o pace passed = nat_le (expected_from o pace) passed && nat_le passed (expected o pace)
 
@@ -71,29 +72,29 @@ sampled m pace passed = record { smoothed = Some (smoothed_by m.smoothed (min pa
 abbrev pub most_ambiguous : ℕ
 most_ambiguous = 8
 
--- an ambiguous acknowledgement is one of all that was out, and may be of what went out first or of what went out again; the last one that
--- is counted is a doubt, the third one at least
+-- an ambiguous acknowledgement is one of all that was out, and may be of the packet that went out first or of the one that went out
+-- again; the last one that is counted is a doubt, at least the third
 abbrev pub ambiguously : Measure → Measure
 ambiguously m =
     if nat_lt (m.ambiguous + 1) most_ambiguous then record m { ambiguous = m.ambiguous + 1 }
     else record m { doubts = min (max m.doubts 2 + 1) 255; ambiguous = 0 }
 
--- `left`: something of ours is still not acknowledged
+-- the peer acknowledges something after a packet went out again; `left`: something of ours is still not acknowledged
 abbrev pub doubted : Measure → Pace → (left : Bool) (passed : ℕ) → Measure
 doubted m pace left passed =
     if not (is_expected m.smoothed pace passed) then record m { doubts = min (m.doubts + 1) 255 }
     else if left then m else ambiguously m
 
 -- how long the peer took is measured where it acknowledges the item that is timed, and nothing went out again; where something did, it is
--- doubted that the wait was long enough, unless the peer may have acknowledged what went out again
+-- doubted that the wait was long enough, unless the peer may have acknowledged the packet that went out again
 abbrev pub learnt : Measure → Pace → Timing → Progress → (now : ℕ) → Measure
 learnt m pace Ready progress now = m
 learnt m pace (Timed since place) progress now = if nat_le place progress.acknowledged then sampled m pace (now - since) else m
 learnt m pace (Resent at missing) progress now = doubted m pace (nat_lt 0 progress.out) (now - at)
 learnt m pace (Over out) progress now = m
 
--- where the peer acknowledges so many items, the next one that it lacks goes out again: something had gone out again, which may be what it
--- acknowledges, and not all is acknowledged that was out then
+-- where the peer acknowledges so many items, the next one that it lacks goes out again: something had gone out again, which the peer may
+-- have acknowledged, and the peer has not acknowledged all that was out then
 abbrev pub mends : Measure → Pace → Timing → (acknowledged now : ℕ) → Bool
 mends m pace Ready acknowledged now = false
 mends m pace (Timed since place) acknowledged now = false
@@ -108,7 +109,7 @@ pub data Ambiguous (m : Measure) (pace : Pace) : ℕ → Measure → Type 0 wher
 
 -- ---- what is timed
 
--- however many items are out
+-- a number of items that is not kept, and stands for more than any
 abbrev pub every : ℕ
 every = 2 ^ 64 - 1
 
@@ -145,7 +146,7 @@ moved_up (Over out) progress = Over progress.out
 abbrev pub moved_on : Timing → Progress → (again : Bool) → (now : ℕ) → Timing
 moved_on timing progress again now = if again then Resent now progress.out else moved_up timing progress
 
--- ---- how long is waited
+-- ---- how long a connection waits
 
 -- the least wait by the number of doubts: the first wait for three, twice as long for four, four times as long for more
 abbrev pub doubted_wait : (first doubts : ℕ) → ℕ
@@ -176,11 +177,12 @@ unfoldable pub further_waits : (most : ℕ) → Pace → (length span : ℕ) →
 further_waits zero pace length span = 0
 further_waits (suc n) pace length span = if nat_le span length then 0 else 1 + further_waits n pace (next_length pace length) (span - length)
 
--- packets in vain are counted by 16 bits
+-- how many packets are borne at most: as many as 16 bits count
 abbrev pub most_borne : ℕ
 most_borne = 65535
 
 -- how many packets are borne without a word of the peer: one goes out after each wait but the last, and all of the waits together take the
--- pace's patience; at least as many as the pace's tries. Each wait takes a millisecond at least, so no more come than the patience has
+-- pace's patience; at least as many as the pace's tries. Each wait takes a millisecond at least, so that no more waits come than the
+-- patience has milliseconds
 abbrev pub borne : Measure → Pace → ℕ
 borne m pace = max pace.tries (min (further_waits pace.patience pace (first_wait m pace) pace.patience) most_borne)

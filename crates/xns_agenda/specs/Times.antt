@@ -1,4 +1,4 @@
--- A time for some of the connections, and the earliest.
+-- Times of some of the connections, and which one is the earliest.
 use Rattle.std.specs.Prelude.{◌≡◌, ◌≢◌, ℕ, ◌+◌, ◌-◌, ◌*◌, ◌<◌, ◌≤◌, nat_le, nat_lt, List, length, if◌then◌else◌, Option, Some, None}
 use Rattle.std.specs.Prelude.{slice_get, slice_index_or}
 

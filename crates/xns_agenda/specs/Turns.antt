@@ -1,11 +1,12 @@
--- Which connections have a turn, and whose is first.
+-- The connections that have a turn, and whose turn is first.
 use Rattle.std.specs.Prelude.{◌≡◌, ℕ, zero, suc, ◌+◌, Bool, true, false, min, List, if◌then◌else◌, Option, Some, None, replicate, slice_index_or}
 use Rattle.std.specs.Prelude.{slice_set}
 use Rattle.std.specs.Option.{is_some}
 use Rattle.xns_agenda.specs.Times.{HasEarliest}
 use Rattle.xns_agenda.specs.Waiting.{last_time}
 
--- by number the ticket of who has a turn, and the ticket that is given next; who has the lowest ticket is first
+-- by number the ticket of each connection that has a turn, and the ticket that is given next; the lowest ticket is
+-- first
 pub record Line : Type 0 where
   pub tickets : List (Option ℕ)
   pub next : ℕ
@@ -31,7 +32,7 @@ pub record IsFirst (line : Line) (number : ℕ) : Type 0 where
 abbrev pub with_last : Line → ℕ → Line
 with_last line number = record { tickets = slice_set line.tickets number (Some line.next); next = min (line.next + 1) last_time }
 
--- who has a turn keeps it; who gets one is behind the others
+-- a number that has a turn keeps it; a number that gets one comes behind the others
 abbrev pub with_turn : Line → ℕ → Bool → Line
 with_turn line number false = record line { tickets = slice_set line.tickets number None }
 with_turn line number true = if has_turn line number then line else with_last line number

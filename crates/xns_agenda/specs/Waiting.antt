@@ -22,7 +22,7 @@ pub record Waiting : Type 0 where
   pub length : ℕ
   -- how long the peer takes, as it was measured
   pub measure : Measure
-  -- what is timed
+  -- the item that is timed
   pub timing : Timing
   -- how often the peer said that it lacks the same item
   pub replies : Replies
@@ -48,7 +48,7 @@ later now span = min (now + span) last_time
 abbrev pub new_waiting : Pace → ℕ → Waiting
 new_waiting pace now = record { pace = pace; due = Never; length = pace.first; measure = NONE; timing = Ready; replies = none.NONE; misses = 0; heard_at = now }
 
--- nothing is waited for, and the next wait is the first
+-- nothing waits for the peer, and the next wait is a first one
 abbrev pub rested : Waiting → Waiting
 rested w = record w { due = Never; length = first_wait w.measure w.pace }
 
@@ -86,8 +86,8 @@ idling w (AgainAt t) wants = record (rested w) { due = idle_due w.pace w.heard_a
 idling w (AskAt t) wants = w
 idling w (ForgetAt t) wants = w
 
--- `waiting`: how many items are out, if something waits for the peer; `wants`: a word of the peer is wanted, for a call or for the end of the
--- connection
+-- `waiting`: how many items are out, if something waits for the peer; `wants`: a word of the peer is wanted, for a call or for the end of
+-- the connection
 abbrev pub after_step : Waiting → (waiting : Option ℕ) (wants : Bool) → ℕ → Waiting
 after_step w (Some out) wants now = waiting_on w w.due out now
 after_step w None wants now = idling w w.due wants
@@ -104,11 +104,11 @@ overdue_by w (ForgetAt t) now = false
 abbrev pub is_overdue : Waiting → (now : ℕ) → Bool
 is_overdue w now = overdue_by w w.due now
 
--- what waits for the peer goes out again before its time, and the first wait begins anew
+-- the packet that waits for the peer goes out again before its time, and the first wait begins anew
 abbrev pub resent : Waiting → (out now : ℕ) → Waiting
 resent w out now = record (begun AgainAt (rested w) now) { timing = Resent now out }
 
--- how long the peer took is learnt, and what it lacks then is another item
+-- the wait learns how long the peer took, and the item that the peer lacks then is another one
 abbrev pub taught : Waiting → Progress → (again : Bool) → ℕ → Waiting
 taught w progress again now = record w {
   measure = learnt w.measure w.pace w.timing progress now;
@@ -120,7 +120,8 @@ taught w progress again now = record w {
 abbrev pub counting : Waiting → (allocation : ℕ) → Waiting
 counting w allocation = record w { replies = counted w.replies allocation }
 
--- while something waits for the peer, where nothing went out again since it acknowledged more, the reply is the third in a row that says the same
+-- while something waits for the peer, where nothing went out again since it acknowledged more, the reply is the third in a row that says
+-- the same
 abbrev pub third_by : Waiting → Due → Option ℕ → Bool
 third_by w Never reply = false
 third_by w (AgainAt t) None = false
@@ -145,8 +146,8 @@ after_heard w (AgainAt t) progress reply again now =
 after_heard w (AskAt t) progress reply again now = rested w
 after_heard w (ForgetAt t) progress reply again now = w
 
--- `progress`: how many items the peer acknowledges, where that it opens the connection counts as one, and how many are out then; `reply`: the
--- allocation number of a reply by which the peer lacks an item that is out; `again`: something goes out again for the word
+-- `progress`: how many items the peer acknowledges, where that it opens the connection counts as one, and how many are out then; `reply`:
+-- the allocation number of a reply by which the peer lacks an item that is out; `again`: something goes out again for the word
 abbrev pub after_word : Waiting → Progress → (reply : Option ℕ) (again : Bool) → ℕ → Waiting
 after_word w progress reply again now = after_heard (record w { misses = 0; heard_at = now }) w.due progress reply again now
 

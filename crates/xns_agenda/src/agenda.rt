@@ -1,4 +1,4 @@
-//! What is to be done next, of all connections.
+//! The timers and turns of all connections: what is to be done next.
 
 ghost use Rattle.std.specs.Prelude.{◌≡◌, ◌<◌, ℕ, length, true, false, IfOk, IfSome, Some, None, slice_get};
 ghost use Rattle.xns_agenda.specs.Agenda.{GetsNumber, GivesWay, HasNobody, HasNoNumber, IsFor, IsWake, asked_at, new_agenda, noted, released};
@@ -13,20 +13,21 @@ use crate::turns::Turns;
 use std::alloc::{AllocError, Global};
 use std::marker::Model;
 
-/// What is to be done next, found without a walk over all connections. Its room is made once: nothing that is to be done is lost.
+/// The timers and turns of all connections. It finds what is to be done next without a walk over them. Its room is made once: no timer and
+/// no turn is lost.
 #[derive(Drop)]
 pub struct Agenda {
-    /// When something is due by the time alone.
+    /// When something is due at each connection by the time alone.
     dues: Times,
-    /// Who may have a packet that is to go out.
+    /// The connections that may have a packet to send, in turn.
     packets: Turns,
-    /// Who may have something to tell the program.
+    /// The connections that may have an event for the program, in turn.
     events: Turns,
-    /// Who gives way to a new connection.
+    /// The number of the connection that gives way to a new one.
     places: Places,
     /// The numbers that no connection has.
     free: Turns,
-    /// Where memory was refused for the last packet that was asked for, and nothing was noted since: when packets are asked for again.
+    /// When packets are asked for again, where memory was refused for the last one and nothing was noted since.
     short: Option<u64>,
 }
 
@@ -57,7 +58,7 @@ impl Model for Agenda {
     }) (length a.dues) };
 }
 
-/// The numbers below this one, each free, the lowest first.
+/// The numbers below `most`, each free, the lowest first.
 #[tactic(auto, using(crate::proofs::Free::lined_none, crate::proofs::Free::lined_more, crate::proofs::Free::lined_size))]
 fn all_free(alloc: Global, most: usize) -> Result<Turns, AllocError>
     ensures { IfOk result (λ t. t ≡ lined_up most most) }
@@ -69,7 +70,7 @@ fn all_free(alloc: Global, most: usize) -> Result<Turns, AllocError>
     Ok(free)
 }
 
-/// Who gives way to a new connection.
+/// The number of the connection that gives way to a new one.
 #[tactic(auto, using(crate::proofs::Agendas::giver_gives, crate::proofs::Agendas::no_giver))]
 fn giver(places: &Places) -> Option<usize>
     requires { length places.now.strangers ≡ length places.now.closed }
@@ -80,7 +81,7 @@ fn giver(places: &Places) -> Option<usize>
     places.way().number()
 }
 
-/// The number of a new connection.
+/// The number that a new connection gets.
 fn place_of(free: &Turns, places: &Places) -> Option<usize>
     requires free { length free.now.tickets ≡ length places.now.closed }
     requires strangers { length places.now.strangers ≡ length places.now.closed }
@@ -94,7 +95,7 @@ fn place_of(free: &Turns, places: &Places) -> Option<usize>
     giver(places)
 }
 
-/// A number whose time is at or before this one.
+/// A number that has the earliest time, if that time is at or before `now`.
 fn first_by(dues: &Times, now: u64) -> Option<usize>
     ensures some { IfSome result (λ k. IsFirstBy dues.now now k) }
     ensures within { IfSome result (λ k. k < length dues.now) }
@@ -113,7 +114,7 @@ fn first_time(dues: &Times) -> Option<u64>
     Some(time)
 }
 
-/// When those that have a turn to give a packet are asked. `None`: nobody has one.
+/// When the connections that have a turn to send are asked for a packet. `None`: no connection has such a turn.
 #[tactic(auto, using(crate::proofs::Agendas::nobody))]
 fn packet_time(packets: &Turns, short: Option<u64>) -> Option<u64>
     ensures some { (k : ℕ) → has_turn packets.now k ≡ true → result ≡ Some (asked_at short) }
@@ -127,7 +128,7 @@ fn packet_time(packets: &Turns, short: Option<u64>) -> Option<u64>
     }
 }
 
-/// When something is to be done at the latest.
+/// The first time at which something is to be done.
 fn wake(packets: &Turns, events: &Turns, dues: &Times, short: Option<u64>) -> Option<u64>
     ensures { IsWake packets.now events.now dues.now short result }
 {
@@ -138,7 +139,7 @@ fn wake(packets: &Turns, events: &Turns, dues: &Times, short: Option<u64>) -> Op
 }
 
 impl Agenda {
-    /// No connections, with room for so many. The lowest number is given first. The only error is want of memory.
+    /// An agenda of no connections, with room for `most`. The lowest number is given first. The only error is want of memory.
     pub fn new(alloc: Global, most: usize) -> Result<Agenda, AllocError>
         ensures made { IfOk result (λ a. a ≡ new_agenda most) }
         ensures room { IfOk result (λ a. IsFor a most) }
@@ -155,7 +156,7 @@ impl Agenda {
         })
     }
 
-    /// The connection with this number is such.
+    /// Notes these facts of the connection with this number.
     #[inline(always)]
     pub fn note(&mut self, number: usize, facts: Facts)
         requires { number < length self.old.dues }
@@ -170,7 +171,7 @@ impl Agenda {
         self.short = None;
     }
 
-    /// A connection has this number.
+    /// Notes that a connection has this number.
     pub fn take(&mut self, number: usize)
         requires { number < length self.old.dues }
         ensures taken { self.new ≡ record self.old { free = with_turn self.old.free number false } }
@@ -179,7 +180,7 @@ impl Agenda {
         self.free.set(number, false);
     }
 
-    /// No connection has this number any longer.
+    /// Notes that no connection has this number any longer.
     pub fn release(&mut self, number: usize)
         requires { number < length self.old.dues }
         ensures released { self.new ≡ released self.old number }
@@ -199,7 +200,7 @@ impl Agenda {
         place_of(&self.free, &self.places)
     }
 
-    /// A connection of which something is due at this time: none is due earlier. `None`: nothing is due.
+    /// The number of a connection at which something is due by this time; at no other is something due earlier. `None`: nothing is due.
     pub fn first_due(&self, now: u64) -> Option<usize>
         ensures some { IfSome result (λ k. IsFirstBy self.now.dues now k) }
         ensures within { IfSome result (λ k. k < length self.now.dues) }
@@ -208,7 +209,7 @@ impl Agenda {
         first_by(&self.dues, now)
     }
 
-    /// Who may have a packet that is to go out, and has the first turn. `None`: nobody.
+    /// The number of the connection that has the first turn to send a packet. `None`: no connection has such a turn.
     pub fn first_packet(&self) -> Option<usize>
         ensures some { IfSome result (λ k. IsFirst self.now.packets k) }
         ensures within { IfSome result (λ k. k < length self.now.dues) }
@@ -217,7 +218,7 @@ impl Agenda {
         self.packets.first()
     }
 
-    /// The connection with this number has had its turn to give a packet.
+    /// Notes that the connection with this number has had its turn to send a packet.
     #[inline(always)]
     pub fn pass_packet(&mut self, number: usize)
         requires { number < length self.old.dues }
@@ -227,7 +228,7 @@ impl Agenda {
         self.packets.set(number, false);
     }
 
-    /// Who may have something to tell the program, and has the first turn. `None`: nobody.
+    /// The number of the connection that has the first turn to give an event. `None`: no connection has such a turn.
     pub fn first_event(&self) -> Option<usize>
         ensures some { IfSome result (λ k. IsFirst self.now.events k) }
         ensures within { IfSome result (λ k. k < length self.now.dues) }
@@ -236,7 +237,7 @@ impl Agenda {
         self.events.first()
     }
 
-    /// The connection with this number has had its turn to tell something.
+    /// Notes that the connection with this number has had its turn to give an event.
     #[inline(always)]
     pub fn pass_event(&mut self, number: usize)
         requires { number < length self.old.dues }
@@ -246,7 +247,7 @@ impl Agenda {
         self.events.set(number, false);
     }
 
-    /// Memory was refused for a packet: until something is noted, packets are wanted at this time, and not at once.
+    /// Notes that memory was refused for a packet. Until something is noted, packets are asked for at this time, and not at once.
     pub fn rest_packets(&mut self, time: u64)
         ensures rested { self.new ≡ record self.old { short = Some time } }
         ensures room { IsFor self.old (length self.old.dues) }
@@ -254,8 +255,8 @@ impl Agenda {
         self.short = Some(time);
     }
 
-    /// When something is to be done at the latest: at once, which is 0, where something is to be told, or a packet may be there and none was
-    /// refused memory. `None`: never.
+    /// The first time at which something is to be done. It is 0, which means at once, where there may be an event, or where there may be a
+    /// packet and none was refused memory. `None`: never.
     pub fn wake(&self) -> Option<u64>
         ensures wake { IsWake self.now.packets self.now.events self.now.dues self.now.short result }
         ensures room { IsFor self.now (length self.now.dues) }

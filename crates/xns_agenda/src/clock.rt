@@ -1,24 +1,24 @@
-//! A time of one's own, which never goes back, whatever the clocks do that tell the time.
+//! A clock whose own time never goes back, whatever the clocks do that tell it the time.
 
 ghost use Rattle.std.specs.Prelude.{◌≡◌, ◌+◌, ◌-◌, min};
 ghost use Rattle.xns_agenda.specs.Waiting.{last_time};
 
-/// A time of one's own, in milliseconds: the sum of the steps forward that were told, of any clock.
+/// A clock whose own time, in milliseconds, is the sum of the steps forward of the clocks that told it the time.
 #[derive(Clone, Copy, Debug)]
 pub struct Clock {
-    /// What was told last.
+    /// The time that was told last.
     told: u64,
-    /// The time of one's own at that moment.
+    /// The own time at that moment.
     latest: u64,
 }
 
-/// More than this in one step is not believed.
+/// How far the own time goes on in one step at most.
 const DAY: u64 = 86_400_000;
 
 impl Clock {
     ghost use Rattle.xns_agenda.specs.Clock.{by_told, time_at, told_at, when_told};
 
-    /// A clock that was told no time yet, which counts as 0; it is 0 then.
+    /// A clock that was told no time yet: the time told last counts as 0, and the own time is 0.
     pub fn new() -> Clock
         ensures told { result.told ≡ 0 }
         ensures latest { result.latest ≡ 0 }
@@ -26,7 +26,7 @@ impl Clock {
         Clock { told: 0, latest: 0 }
     }
 
-    /// What time it is when this one is told: a step back counts as none, and one of more than a day as a day.
+    /// Tells the clock a time, and returns the own time then. A step back counts as none, and one of more than a day as a day.
     pub fn tell(&mut self, time: u64) -> u64
         ensures result { result ≡ time_at self.old time }
         ensures told { self.new ≡ told_at self.old time }
@@ -37,14 +37,14 @@ impl Clock {
         self.latest
     }
 
-    /// What time it is: as it was when a time was told last.
+    /// The own time, as it was when a time was told last.
     pub fn latest(self) -> u64
         ensures { result ≡ self.latest }
     {
         self.latest
     }
 
-    /// As long before or after what was told last as this is before or after the time of one's own then.
+    /// The time as long before or after the one told last as `time` is before or after the own time then.
     fn shifted(self, time: u64) -> u64
         ensures { result ≡ min ((self.told + time) - self.latest) last_time }
     {
@@ -55,7 +55,7 @@ impl Clock {
         }
     }
 
-    /// A time of one's own by the clock that was told last.
+    /// An own time, by the clock that told the time last.
     fn by_told(self, time: u64) -> u64
         ensures { result ≡ by_told self time }
     {
@@ -66,8 +66,8 @@ impl Clock {
         if at < u64::MAX { at } else { 0 }
     }
 
-    /// When that is by the clock that was told last: as long before or after what it told. 0, which is at once by each, stays 0, and what is
-    /// past the end of that clock is at once. A `None` is never.
+    /// An own time, by the clock that told the time last: as long before or after the time told. 0 stays 0, which means at once by either,
+    /// and a time past the end of that clock is at once. A `None` is never.
     pub fn when_told(self, time: Option<u64>) -> Option<u64>
         ensures { result ≡ when_told self time }
     {

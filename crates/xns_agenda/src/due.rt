@@ -7,7 +7,7 @@ ghost use Rattle.std.specs.Prelude.{◌≡◌};
 pub enum Due {
     /// Nothing.
     Never,
-    /// What waits for the peer goes out again at this time.
+    /// The packet that waits for the peer goes out again at this time.
     AgainAt(u64),
     /// The peer is asked for a word at this time.
     AskAt(u64),

@@ -5,18 +5,18 @@
 pub struct Facts {
     /// When something is due by the time alone, in milliseconds.
     pub due: Option<u64>,
-    /// Whether there may be a packet that is to go out.
+    /// Whether there may be a packet to send.
     pub has_packet: bool,
-    /// Whether there may be something to tell the program.
+    /// Whether there may be an event for the program.
     pub has_event: bool,
-    /// Since when the connection lingers, if it is closed and the program was told that.
+    /// Since when the connection lingers, if it is closed and the program has fetched that event.
     pub lingers_since: Option<u64>,
-    /// When the peer was last heard, if it opened the connection, has not confirmed it, and the program had no event of it.
+    /// When the peer was last heard, if it opened the connection, has not confirmed it, and the program has fetched no event of it.
     pub stranger_since: Option<u64>,
 }
 
 impl Facts {
-    /// No connection.
+    /// The facts of a number that no connection has.
     pub const NONE: Facts = Facts {
         due: None,
         has_packet: false,

@@ -19,27 +19,28 @@ ghost use Rattle.xns_agenda.specs.declared.act.Act.TheVariants.{Again, GiveUp};
 ghost use Rattle.xns_agenda.specs.declared.due.Due.TheVariants.{AgainAt};
 
 /// Between two words of the peer at most as many packets go out by the time alone as are borne, whatever else is done. Each
-/// counts as one miss.
+/// packet counts as one miss.
 pub fn a_silent_peer_is_given_up()
     ensures { (w v : Waiting) (n : ℕ) → w.misses ≤ borne w.measure w.pace → Silence w n v
         → (w.misses + n ≡ v.misses) × (w.misses + n ≤ borne w.measure w.pace) }
 {}
 
-/// By its waits a connection repeats nothing for ever because of what its peer says: while something waits for the peer, and the peer
-/// acknowledges no more, at most one packet goes out again for its words, be they repeats or replies that say the same.
+/// The words of a peer make a connection repeat nothing for ever: while something waits for the peer, and the peer acknowledges no
+/// more, at most one packet goes out again for its words, be they repeats or replies that say the same.
 pub fn a_repeat_is_answered_once()
     ensures { (w v : Waiting) (n : ℕ) → Unheard w n v → n ≤ 1 }
 {}
 
-/// A reply is the third that says the same only where the peer said by two others, since it acknowledged more, that it lacks an item. So where
+/// A reply is the third that says the same only where the peer said by two others, since it acknowledged more, that it lacks an item. Where
 /// fewer than three such replies come, nothing goes out again for them.
 pub fn a_third_reply_comes_after_two()
     ensures { (w v : Waiting) (n : ℕ) (reply : Option ℕ) → w.replies.count ≡ 0 → Lacks w n v → is_third_reply v reply ≡ true → 2 ≤ n }
 {}
 
-/// Where the peer acknowledges more, the next item that it lacks goes out again only if something had gone out again since it acknowledged more
-/// before (`vain`), and if not all is acknowledged that was out then (`out`). How many were out is what the word said for which it went out
-/// (`said`); where it went out since a wait was over, that is not kept, and no acknowledgement counts as of all. An item that is timed is measured only where the peer acknowledges it (`timed`).
+/// Where the peer acknowledges more, the next item that it lacks goes out again only if something had gone out again since it acknowledged
+/// more before (`vain`), and if the peer has not acknowledged all that was out then (`out`). How many items were out is known from the word
+/// of the peer for which something went out again (`said`). Where it went out because a wait was over, the number is not kept, and no
+/// acknowledgement counts as one of all. An item that is timed is measured only where the peer acknowledges it (`timed`).
 pub fn what_was_out_is_mended()
     ensures vain { (m : Measure) (pace : Pace) (timing : Timing) (acknowledged now : ℕ) → mends m pace timing acknowledged now ≡ true
         → is_vain timing ≡ true }
@@ -50,21 +51,22 @@ pub fn what_was_out_is_mended()
         → learnt m pace (Timed since place) progress now ≡ m }
 {}
 
-/// While a word of the peer is wanted, as for a call that wants its answer, the connection never waits for ever: something is due at a time.
+/// While a word of the peer is wanted, as for a call that wants its answer, the connection never waits for ever: something is due at a
+/// time.
 pub fn a_call_does_not_wait_for_ever()
     ensures { (w : Waiting) (waiting : Option ℕ) (now : ℕ) → is_some (due_time (after_step w waiting true now).due) ≡ true }
 {}
 
-/// When something goes out again, the wait that begins is as long as the one before had said, and the next one is twice as long,
-/// up to the longest.
+/// When something goes out again, a wait begins that has the length set before (`due`). The length for the next wait is twice
+/// that, up to the longest (`next`).
 pub fn each_wait_is_twice_the_last()
     ensures due { (w : Waiting) (now : ℕ) → act_at w now ≡ Again → (after_act w now).due ≡ AgainAt (later now w.length) }
     ensures next { (w : Waiting) (now : ℕ) → act_at w now ≡ Again → (after_act w now).length ≡ next_length w.pace w.length }
 {}
 
-/// A clock goes on whatever is told. By steps forward of at most a day it goes as what is told does (`steady`). When what is told goes back
-/// it stands still (`back`), and goes on from there by the next step (`on`). No step, however far, is more than a day (`far`). What is due by
-/// the clock is told as long after what was told last (`told`).
+/// The own time of a clock goes on whatever time is told. By steps forward of at most a day it goes as the times told do (`steady`). When
+/// these go back it stands still (`back`), and goes on from there by the next step (`on`). No step of it is more than a day (`far`). An own
+/// time that is ahead is as far ahead of the time told last, by the clock that told it (`told`).
 pub fn a_clock_goes_on()
     ensures steady { (c : Clock) (now : ℕ) → c.told ≤ now → now ≤ c.told + day → c.latest + (now - c.told) ≤ last_time
         → time_at c now ≡ c.latest + (now - c.told) }
@@ -75,9 +77,9 @@ pub fn a_clock_goes_on()
     ensures told { (c : Clock) (span : ℕ) → 0 < span → c.told + span < last_time → by_told c (c.latest + span) ≡ c.told + span }
 {}
 
-/// How long is waited: as the pace says, where nothing was measured (`unmeasured`). Where each time that is measured is the same, that is the
-/// smoothed time (`steady`). After one time that was measured (`once`), and after a smoothed time of at most twice `least` (`near`), no
-/// acknowledgement of what went out again comes too soon.
+/// How long the first wait is: as long as the pace says, where nothing was measured (`unmeasured`). A smoothed time stays as it is where it
+/// is measured again (`steady`). After one time that was measured (`once`), and after a smoothed time of at most twice `least` (`near`), no
+/// acknowledgement of a packet that went out again comes too soon.
 pub fn a_wait_is_measured()
     ensures unmeasured { (pace : Pace) → first_wait NONE pace ≡ pace.first }
     ensures steady { (s : Smoothed) (time : ℕ) → s.time8 ≡ 8 * time → (smoothed_on s time).time8 ≡ 8 * time }
@@ -85,17 +87,17 @@ pub fn a_wait_is_measured()
     ensures near { (s : Smoothed) (least : ℕ) → s.time8 / 8 ≤ 2 * least → soonest s least ≡ 0 }
 {}
 
-/// No item goes out twice for ever because each wait is too short: after eight ambiguous acknowledgements, between which no time is measured,
-/// each wait begins as the pace's first one at least. What is acknowledged within it is measured.
+/// No item goes out twice for ever because each wait is too short: after eight ambiguous acknowledgements, between which no time is
+/// measured, the first wait is at least as long as the pace says. An item that is acknowledged within it is measured.
 pub fn a_wait_is_not_too_short_for_ever()
     ensures { (m k : Measure) (pace : Pace) → m.ambiguous < most_ambiguous → Ambiguous m pace most_ambiguous k → pace.first ≤ first_wait k pace }
 {}
 
 /// How long a silent peer is borne. One packet goes out after each wait but the last, and the waits together take at least the patience
-/// (`patient`), unless so many packets go out as can be counted; at least as many go out as the tries say (`tries`), and no more than can be
-/// counted (`counted`). After fewer packets than are borne, but not fewer than the tries, the waits have not taken the patience (`no_longer`).
-/// Where the first waits have taken the patience, the tries alone say how many (`tries_alone`). With the usual numbers, where nothing was
-/// measured, eight packets are borne, and the nine waits take 39,750 ms (`usual`).
+/// (`patient`), unless as many packets go out as can be counted; at least as many go out as the tries say (`tries`), and no more than can
+/// be counted (`counted`). After fewer packets than are borne, but not fewer than the tries, the waits have not taken the patience
+/// (`no_longer`). Where the first waits have taken the patience, the tries alone say how many (`tries_alone`). With the usual numbers,
+/// where nothing was measured, eight packets are borne, and the nine waits take 39,750 ms (`usual`).
 pub fn a_silent_peer_is_borne()
     ensures patient { (m : Measure) (pace : Pace) → borne m pace < most_borne
         → pace.patience ≤ waits_time pace (first_wait m pace) (borne m pace + 1) }
@@ -109,9 +111,9 @@ pub fn a_silent_peer_is_borne()
         → (borne NONE pace ≡ 8) × (waits_time pace (first_wait NONE pace) 9 ≡ 39750) }
 {}
 
-/// A silent peer is given up no sooner than the pace says. Where something waits for it that begins to wait at `start`, at least as many packets
-/// have gone out again as the tries say (`tries`), and the patience has passed since (`patience`), but where so many packets have gone out as
-/// can be counted, or at the end of time. Where nothing waits for it, at least as many packets have asked it (`asked`), and the patience has
+/// A silent peer is given up no sooner than the pace says. Where something waits for it that begins to wait at `start`, at least as many
+/// packets have gone out again as the tries say (`tries`), and the patience has passed since (`patience`), unless as many packets have gone
+/// out as can be counted, or time ends. Where nothing waits for it, at least as many packets have asked it (`asked`), and the patience has
 /// passed since its last word, if it is asked no sooner than after the longest wait (`idle`).
 pub fn no_peer_is_given_up_early()
     ensures tries { (w v : Waiting) (start n now : ℕ) → w.misses ≡ 0 → Vain start w n v → act_at v now ≡ GiveUp → w.pace.tries ≤ n }
@@ -122,7 +124,8 @@ pub fn no_peer_is_given_up_early()
         → w.pace.longest ≤ span → later w.heard_at w.pace.patience ≤ now }
 {}
 
-/// A new agenda is for as many numbers as it was made for (`room`). Of none of them anything is to be done, and each is free (`nobody`).
+/// A new agenda has room for as many numbers as it was made for (`room`). Nothing is to be done at any of them, and each is free
+/// (`nobody`).
 pub fn a_new_agenda_has_nobody()
     ensures room { (most : ℕ) → IsFor (new_agenda most) most }
     ensures nobody { (most k : ℕ) → k < most → HasNobody (new_agenda most) k }

@@ -1,5 +1,5 @@
-//! What is to be done next of many connections, found without a walk over all: what is due and when, whose turn it is, and who gives way
-//! to a new one; and how long one connection waits.
+//! The timers and turns of many connections, found without a walk over all: what is due and when, whose turn it is, and which connection
+//! gives way to a new one; and how long one connection waits.
 #![tactic(auto)]
 
 mod act;

@@ -1,4 +1,4 @@
-//! How long is waited, by what was measured.
+//! How long a wait is, by the times that were measured.
 
 ghost use Rattle.std.specs.Prelude.{◌≡◌, ◌≤◌, ◌+◌, ◌-◌, Some, None, IfSome};
 ghost use Rattle.xns_agenda.specs.Measuring.{IsBounded, ambiguously, borne, doubted, doubted_wait, expected, expected_from, first_wait, is_expected, is_fit, learnt, mends, most_borne, sampled, smoothed_by};
@@ -8,19 +8,19 @@ use crate::progress::Progress;
 use crate::smoothed::Smoothed;
 use crate::timing::Timing;
 
-/// What is known of how long a peer takes to acknowledge.
+/// How long a peer takes to acknowledge, as far as it is known.
 #[derive(Clone, Copy, Debug, PartialEq, Eq)]
 pub struct Measure {
-    /// The times that were measured. `None`: none was.
+    /// The times that were measured, smoothed. `None`: no time was measured.
     pub smoothed: Option<Smoothed>,
     /// How often something went out again, perhaps too early, since a time was measured.
     pub doubts: u8,
-    /// How many acknowledgements of all that was out were ambiguous since a time was measured: each may be of what went out first, or of what
-    /// went out again. At the eighth the count begins anew, and is a doubt.
+    /// How many acknowledgements of all that was out were ambiguous since a time was measured: each may be of the packet that went out
+    /// first, or of the one that went out again. At the eighth the count begins anew, and is a doubt.
     pub ambiguous: u8,
 }
 
-/// By so many doubts at least so long is waited.
+/// How long a wait is at least, by the number of doubts.
 fn doubted_wait(first: u32, doubts: u8) -> u64
     ensures { result ≡ doubted_wait first doubts }
 {
@@ -37,7 +37,7 @@ fn doubted_wait(first: u32, doubts: u8) -> u64
 }
 
 impl Measure {
-    /// Nothing is known.
+    /// The measure of a peer of which nothing is known.
     pub const NONE: Measure = Measure {
         smoothed: None,
         doubts: 0,
@@ -47,7 +47,7 @@ impl Measure {
     /// How many ambiguous acknowledgements are a doubt.
     const MOST_AMBIGUOUS: u8 = 8;
 
-    /// The most packets that are borne: so many are counted by 16 bits.
+    /// How many packets are borne at most: as many as 16 bits count.
     pub const MOST_BORNE: u16 = u16::MAX;
 
     /// The first wait for an acknowledgement.
@@ -67,7 +67,7 @@ impl Measure {
         wait.min(most) as u32
     }
 
-    /// How many packets are borne to which there is no word of the peer.
+    /// How many packets without a word of the peer are borne.
     pub fn borne(self, pace: &Pace) -> u16
         requires { IfSome self.smoothed IsBounded }
         ensures value { result ≡ borne self pace.now }
@@ -78,7 +78,7 @@ impl Measure {
         patient.max(u16::from(pace.tries))
     }
 
-    /// After a time that was measured.
+    /// The measure after one more time that was measured.
     fn sampled(self, pace: &Pace, passed: u64) -> Measure
         requires { IfSome self.smoothed IsBounded }
         ensures value { result ≡ sampled self pace.now passed }
@@ -96,7 +96,7 @@ impl Measure {
         }
     }
 
-    /// Whether what went out again so long ago may be what the peer acknowledged.
+    /// Whether a packet that went out again so long ago may be the one that the peer acknowledged.
     fn is_expected(self, pace: &Pace, passed: u64) -> bool
         requires { IfSome self.smoothed IsBounded }
         ensures { result ≡ is_expected self.smoothed pace.now passed }
@@ -111,7 +111,7 @@ impl Measure {
         soonest <= passed && passed <= most
     }
 
-    /// Whether what went out again so long ago is what the peer acknowledged, and no item that was out before.
+    /// Whether a packet that went out again so long ago counts as the one that the peer acknowledged, and no item that was out before.
     fn is_fit(self, pace: &Pace, passed: u64) -> bool
         ensures { result ≡ is_fit self.smoothed pace.now passed }
     {
@@ -122,8 +122,8 @@ impl Measure {
         time - time / 2 <= passed
     }
 
-    /// Whether the first item that is not acknowledged goes out again where the peer acknowledges so many: something had gone out again, which
-    /// may be what it acknowledges, and not all is acknowledged that was out then, as far as that is kept.
+    /// Whether the first item that is not acknowledged goes out again where the peer acknowledges so many items: something had gone out
+    /// again, which the peer may have acknowledged, and the peer has not acknowledged all that was out then, as far as that is kept.
     pub fn mends(self, pace: &Pace, timing: Timing, acknowledged: u64, now: u64) -> bool
         ensures { result ≡ mends self pace.now timing acknowledged now }
     {
@@ -134,7 +134,7 @@ impl Measure {
         }
     }
 
-    /// After one more ambiguous acknowledgement.
+    /// The measure after one more ambiguous acknowledgement.
     fn ambiguously(self) -> Measure
         ensures { result ≡ ambiguously self }
     {
@@ -151,8 +151,8 @@ impl Measure {
         }
     }
 
-    /// After the peer acknowledged what had gone out again so long ago, or what had gone out before. `left` says whether something is still
-    /// not acknowledged.
+    /// The measure after the peer acknowledged a packet that had gone out again so long ago, or one that had gone out before. `left` says
+    /// whether something is still not acknowledged.
     fn doubted(self, pace: &Pace, left: bool, passed: u64) -> Measure
         requires { IfSome self.smoothed IsBounded }
         ensures value { result ≡ doubted self pace.now left passed }
@@ -167,7 +167,7 @@ impl Measure {
         if left { self } else { self.ambiguously() }
     }
 
-    /// What is known once the peer acknowledges so many more, or opens the connection.
+    /// The measure once the peer acknowledges more, or opens the connection.
     pub fn learnt(self, pace: &Pace, timing: Timing, progress: Progress, now: u64) -> Measure
         requires { IfSome self.smoothed IsBounded }
         ensures value { result ≡ learnt self pace.now timing progress now }

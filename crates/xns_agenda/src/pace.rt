@@ -7,15 +7,16 @@ ghost use Rattle.std.specs.Prelude.{◌≤◌};
 pub struct Pace {
     /// The first wait for an acknowledgement, where nothing was measured.
     pub first: u32,
-    /// The longest.
+    /// The longest wait.
     pub longest: u32,
-    /// The least that a measured wait is longer than the time that was measured.
+    /// How much longer a measured wait is, at least, than the time that was measured.
     pub least: u32,
-    /// How long the peer may be silent before it is asked, where nothing waits for it; 0: for ever, unless a word of it is wanted.
+    /// How long the peer may be silent before it is asked for a word, where nothing waits for it. 0 means for ever, unless a word of the
+    /// peer is wanted.
     pub idle: u32,
-    /// How many packets are borne at least to which there is no word of the peer.
+    /// How many packets without a word of the peer are borne at least.
     pub tries: u8,
-    /// How long the waits take together at least after which a silent peer is given up.
+    /// How long the waits take together, at least, before a silent peer is given up.
     pub patience: u32,
     ghost some: { 1 ≤ first },
     ghost ordered: { first ≤ longest },
@@ -27,10 +28,10 @@ impl Pace {
     ghost use Rattle.std.specs.Prelude.{◌≡◌, ◌≤◌, ℕ};
     ghost use Rattle.xns_agenda.specs.Measuring.{further_waits, next_length};
 
-    /// How long the peer may be silent usually, in milliseconds.
+    /// How long the peer may usually be silent, in milliseconds.
     pub const USUAL_IDLE: u32 = 10_000;
 
-    /// How long is waited after a wait of this length.
+    /// The length of the wait after one of this length.
     pub fn next_length(&self, length: u32) -> u32
         requires { length ≤ self.now.longest }
         ensures value { result ≡ next_length self.now length }

@@ -8,7 +8,7 @@ use crate::times::Times;
 use crate::way::Way;
 use std::alloc::{AllocError, Global};
 
-/// By the number of each connection, what decides which one gives way to a new one. Its room is made once.
+/// By two times of each connection, which one gives way to a new one. Its room is made once.
 #[derive(Drop)]
 pub struct Places {
     /// Since when closed connections linger.
@@ -18,7 +18,7 @@ pub struct Places {
 }
 
 impl Places {
-    /// No connections, with room for so many.
+    /// Places of no connections, with room for `most`.
     pub fn new(alloc: Global, most: usize) -> Result<Places, AllocError>
         ensures closed { IfOk result (λ p. p.closed ≡ replicate most None) }
         ensures strangers { IfOk result (λ p. p.strangers ≡ replicate most None) }
@@ -28,7 +28,7 @@ impl Places {
         Ok(Places { closed, strangers })
     }
 
-    /// The connection with this number lingers since this time, or it does not linger.
+    /// Notes since when the connection with this number lingers. `None`: it does not linger.
     #[inline(always)]
     pub fn set_closed(&mut self, number: usize, since: Option<u64>)
         requires { number < length self.old.closed }
@@ -37,7 +37,8 @@ impl Places {
         self.closed.set(number, since);
     }
 
-    /// The peer of the connection with this number opened it, never confirmed it, and is silent since this time; or not.
+    /// Notes since when the peer of the connection with this number is silent, which opened it and never confirmed it. `None`: its peer is
+    /// no such peer.
     #[inline(always)]
     pub fn set_stranger(&mut self, number: usize, since: Option<u64>)
         requires { number < length self.old.strangers }
@@ -46,8 +47,8 @@ impl Places {
         self.strangers.set(number, since);
     }
 
-    /// Who gives way to a new connection, where there is no room: the closed one that lingers longest; else, of those that their
-    /// peer opened and never confirmed, the one longest silent; else none.
+    /// The connection that gives way to a new one, where there is no room: the closed one that lingers longest. Where none
+    /// lingers, it is the one silent longest, of those that their peer opened and never confirmed.
     pub fn way(&self) -> Way
         ensures lingers { (k t : ℕ) → result ≡ Lingers k t → IsEarliest self.now.closed k t }
         ensures stranger { (k t : ℕ) → result ≡ Stranger k t → HasEarliest self.now.closed None × IsEarliest self.now.strangers k t }

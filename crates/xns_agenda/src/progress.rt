@@ -1,8 +1,8 @@
-/// What a word of the peer, and what was sent up to then, say of the items.
+/// How many items a word of the peer acknowledges, and how many are out then.
 #[derive(Clone, Copy, Debug, PartialEq, Eq)]
 pub struct Progress {
     /// How many items the word acknowledges; that it opens the connection counts as one.
     pub acknowledged: u64,
-    /// How many items are out behind it, and not acknowledged.
+    /// How many items are out after the word, and not acknowledged.
     pub out: u64,
 }

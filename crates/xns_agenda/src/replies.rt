@@ -6,7 +6,7 @@ ghost use Rattle.xns_agenda.specs.Replying.{counted, is_third};
 pub struct Replies {
     /// How many replies said the same; 3 stands for more, too.
     pub count: u8,
-    /// The allocation number in them.
+    /// The allocation number in these replies.
     pub allocation: u16,
 }
 
@@ -24,7 +24,7 @@ impl Replies {
         self.count == 2 && self.allocation == allocation
     }
 
-    /// With one more. After the third none is counted.
+    /// The replies with one more. After the third, no further one is counted.
     pub fn counted(self, allocation: u16) -> Replies
         ensures { result ≡ counted self allocation }
     {

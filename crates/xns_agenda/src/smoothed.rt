@@ -6,14 +6,14 @@ ghost use Rattle.xns_agenda.specs.Measuring.{IsBounded, estimate, first_smoothed
 /// How long a peer takes to acknowledge: the times that were measured, smoothed, in milliseconds.
 #[derive(Clone, Copy, Debug, PartialEq, Eq)]
 pub struct Smoothed {
-    /// Eight times the time.
+    /// Eight times the smoothed time.
     pub time8: u64,
-    /// Four times what it varies by.
+    /// Four times the amount by which the time varies.
     pub varies4: u64,
 }
 
 impl Smoothed {
-    /// By the first time that is measured.
+    /// The smoothed time after the first time that is measured.
     pub fn first(time: u32) -> Smoothed
         ensures value { result ≡ first_smoothed time }
         ensures bounded { IsBounded result }
@@ -25,7 +25,7 @@ impl Smoothed {
         }
     }
 
-    /// By one more.
+    /// The smoothed time after one more time that is measured.
     pub fn then(self, time: u32) -> Smoothed
         requires { IsBounded self }
         ensures value { result ≡ smoothed_on self time }
@@ -38,7 +38,8 @@ impl Smoothed {
         }
     }
 
-    /// The time that is to be expected, where what it varies by counts at least so much.
+    /// The time that is to be expected: the smoothed time, and four times the amount by which it varies, which counts
+    /// at least `least`.
     pub fn estimate(self, least: u32) -> u64
         requires { IsBounded self }
         ensures { result ≡ estimate self least }
@@ -46,7 +47,8 @@ impl Smoothed {
         self.time8 / 8 + self.varies4.max(u64::from(least))
     }
 
-    /// The soonest that is to be expected: half of the time, less what it varies by, which counts at least so much.
+    /// The soonest time that is to be expected: half of the smoothed time, less four times the amount by which it
+    /// varies, which counts at least `least`.
     pub fn soonest(self, least: u32) -> u64
         requires { IsBounded self }
         ensures { result ≡ soonest self least }

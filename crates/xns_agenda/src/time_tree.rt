@@ -7,7 +7,7 @@ ghost use Rattle.xns_agenda.specs.Times.{HasEarliest, HasNoneBy, IsEarliest, IsT
 use std::alloc::{AllocError, Global};
 use std::marker::Model;
 
-/// For each number of a connection a time in milliseconds, or none; and which is the earliest, without a walk over all.
+/// A time in milliseconds, or none, for each number of a connection. The earliest is found without a walk over all.
 ///
 /// Room for all is made once: a time is never refused. Beside the times stands a tree, in which each node has the sooner time of the
 /// two below it.
@@ -84,7 +84,7 @@ fn has_time(tree: &[Option<u64>], at: usize, time: Option<u64>) -> bool
     is_same(tree[at], time)
 }
 
-/// Mends the tree above a node, whose time was changed: up to the first node that stays as it was.
+/// Mends the tree above a node whose time was changed, up to the first node that stays as it was.
 #[tactic(auto, using(crate::proofs::Tree::whole))]
 fn mend(tree: &mut [Option<u64>], times: &[Option<u64>], changed: usize)
     requires same { length tree.old ≡ length times.now }
@@ -189,7 +189,7 @@ fn first_of_by(tree: &[Option<u64>], times: &[Option<u64>], now: u64) -> Option<
 }
 
 impl TimeTree {
-    /// No times, for so many numbers.
+    /// A tree of no times, for `most` numbers.
     #[tactic(auto, using(crate::proofs::Tree::empty))]
     pub fn new(alloc: Global, most: usize) -> Result<TimeTree, AllocError>
         ensures { IfOk result (λ t. t ≡ replicate most None) }

@@ -1,4 +1,4 @@
-//! A time for some of the connections, and which is the earliest.
+//! Times of some of the connections, and which one is the earliest.
 
 ghost use Rattle.std.specs.Prelude.{◌≡◌, ◌≤◌, ◌<◌, ℕ, length, replicate, IfOk, Some, None, slice_get, slice_set};
 ghost use Rattle.xns_agenda.specs.Times.{HasEarliest, HasNoneBy, IsBeside, IsEarliest};
@@ -7,13 +7,13 @@ use crate::time_tree::{TimeTree, is_same};
 use std::alloc::{AllocError, Global};
 use std::marker::Model;
 
-/// For each number of a connection a time in milliseconds, or none; and which is the earliest, without a walk over all.
+/// A time in milliseconds, or none, for each number of a connection. The earliest is found without a walk over all.
 ///
 /// Room for all is made once: a time is never refused. The time of the number that was set last stands beside the tree of the others: while
 /// one connection goes on, no tree is mended.
 #[derive(Drop)]
 pub struct Times {
-    /// The times of the others.
+    /// The times of the other numbers.
     others: TimeTree,
     /// The number that was set last.
     last: usize,
@@ -32,7 +32,7 @@ impl Model for Times {
     ghost invariant = { λ t. IsBeside t.others t.last t.time };
 }
 
-/// Puts the time of a number that stood beside the tree into it.
+/// Puts the time of a number, which stood beside the tree, into the tree.
 #[tactic(auto, using(crate::proofs::Beside::put_nothing))]
 fn put(others: &mut TimeTree, number: usize, time: Option<u64>)
     requires { IsBeside others.old number time }
@@ -53,7 +53,7 @@ fn exchange(others: &mut TimeTree, last: usize, time: Option<u64>, number: usize
     others.set(number, None);
 }
 
-/// A number that has the earliest time, and that time: of a number beside the tree, and the others.
+/// A number that has the earliest time, and that time, among the number beside the tree and the others.
 #[tactic(auto, using(crate::proofs::Beside::first_of_others, crate::proofs::Beside::first_beside))]
 fn sooner_of(others: &TimeTree, last: usize, time: u64) -> (usize, u64)
     requires { IsBeside others.now last (Some time) }
@@ -67,7 +67,7 @@ fn sooner_of(others: &TimeTree, last: usize, time: u64) -> (usize, u64)
 }
 
 impl Times {
-    /// No times, for so many numbers.
+    /// No times, for `most` numbers.
     pub fn new(alloc: Global, most: usize) -> Result<Times, AllocError>
         ensures { IfOk result (λ t. t ≡ replicate most None) }
     {

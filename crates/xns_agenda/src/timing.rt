@@ -1,29 +1,30 @@
-//! What is timed of a wait for the peer.
+//! The item that is timed while something waits for the peer.
 
 ghost use Rattle.std.specs.Prelude.{◌≡◌};
 ghost use Rattle.xns_agenda.specs.Measuring.{begun_timing, every, is_late, is_vain, moved_on};
 
 use crate::progress::Progress;
 
-/// What is timed of a wait for the peer. Times are in milliseconds.
+/// The item that is timed while something waits for the peer, if one is. Times are in milliseconds.
 #[derive(Clone, Copy, Debug, PartialEq, Eq)]
 pub enum Timing {
     /// Nothing waits for the peer: the next item that goes out is timed.
     Ready,
-    /// An item waits for the peer since this time, and nothing went out again since. It is the last of so many that are out.
+    /// An item waits for the peer since this time, and nothing went out again since. The second number is its place among the items that
+    /// are out, from 1 on.
     Timed(u64, u64),
-    /// Something went out again, at this time last, and the peer acknowledged nothing since. So many of the items that were out then are not
-    /// acknowledged.
+    /// Something went out again, at this time last, and the peer acknowledged nothing since. The second number says how many of the items
+    /// that were out then are not acknowledged.
     Resent(u64, u64),
     /// Something waits for the peer, and nothing is timed. So many items are out; the next that goes out behind them is timed.
     Over(u64),
 }
 
 impl Timing {
-    /// However many items are out.
+    /// A number of items that is not kept, and stands for more than any.
     pub const EVERY: u64 = u64::MAX;
 
-    /// Something waits for the peer at this time, and so many items are out.
+    /// The timing once something waits for the peer, and so many items are out.
     pub fn begun(self, out: u64, now: u64) -> Timing
         ensures { result ≡ begun_timing self out now }
     {
@@ -51,7 +52,7 @@ impl Timing {
         }
     }
 
-    /// After the peer acknowledged more, where `again` says whether something goes out again for that.
+    /// The timing after the peer acknowledged more, where `again` says whether something goes out again for that.
     pub fn moved_on(self, progress: Progress, again: bool, now: u64) -> Timing
         ensures { result ≡ moved_on self progress again now }
     {

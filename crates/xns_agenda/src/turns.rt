@@ -23,7 +23,7 @@ impl Model for Turns {
 }
 
 impl Turns {
-    /// No turns, with room for so many numbers. The only error is want of memory.
+    /// No turns, with room for `most` numbers. The only error is want of memory.
     pub fn new(alloc: Global, most: usize) -> Result<Turns, AllocError>
         ensures { IfOk result (λ t. t ≡ empty_line most) }
     {
@@ -31,7 +31,7 @@ impl Turns {
         Ok(Turns { tickets, next: 0 })
     }
 
-    /// Whose turn is first. A `None`: nobody has a turn.
+    /// The number of the connection whose turn is first. `None`: no connection has a turn.
     #[inline(always)]
     pub fn first(&self) -> Option<usize>
         ensures some { IfSome result (λ k. IsFirst self.now k) }
@@ -41,7 +41,7 @@ impl Turns {
         Some(number)
     }
 
-    /// The connection with this number has the last turn.
+    /// Gives the connection with this number the last turn.
     #[inline(always)]
     pub fn put_last(&mut self, number: usize)
         requires { number < length self.old.tickets }
@@ -51,7 +51,7 @@ impl Turns {
         self.next = self.next.saturating_add(1);
     }
 
-    /// The connection with this number has a turn, behind the others if it had none; or it has none.
+    /// Gives the connection with this number a turn, behind the others if it had none, or takes its turn away.
     #[inline(always)]
     pub fn set(&mut self, number: usize, has: bool)
         requires { number < length self.old.tickets }

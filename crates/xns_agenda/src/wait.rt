@@ -25,9 +25,9 @@ pub struct Wait {
     due: Due,
     /// How long the next wait is.
     length: u32,
-    /// How long the peer takes.
+    /// How long the peer takes to acknowledge, as it was measured.
     measure: Measure,
-    /// What is timed of it.
+    /// The item that is timed.
     timing: Timing,
     /// How often the peer said that it lacks the same item.
     replies: Replies,
@@ -47,14 +47,14 @@ impl Model for Wait {
     ghost invariant = { λ w. IsWaiting w.pace w.length w.misses w.measure };
 }
 
-/// The time so long after this one; at the end of time the last one.
+/// The time `span` after `now`, and the last time where that would be later.
 fn later(now: u64, span: u32) -> u64
     ensures { result ≡ later now span }
 {
     now.saturating_add(u64::from(span))
 }
 
-/// How long a peer may be silent for which nothing waits; 0: for ever. Where a word of the peer is wanted it may not be for ever.
+/// How long a peer for which nothing waits may be silent; 0 is for ever, or the usual time while a word of the peer is wanted.
 fn idle_span(pace: &Pace, wants: bool) -> u32
     ensures { result ≡ idle_span pace.now wants }
 {
@@ -65,7 +65,7 @@ fn idle_span(pace: &Pace, wants: bool) -> u32
     }
 }
 
-/// When a peer is asked for which nothing waits.
+/// When a peer for which nothing waits is asked for a word.
 fn idle_due(pace: &Pace, heard_at: u64, wants: bool) -> Due
     ensures { result ≡ idle_due pace.now heard_at wants }
 {
@@ -97,7 +97,7 @@ impl Wait {
         }
     }
 
-    /// What is due.
+    /// What is due, and when.
     pub fn due(&self) -> Due
         ensures { result ≡ self.now.due }
     {
@@ -105,7 +105,7 @@ impl Wait {
     }
 
     /// Whether, where the peer acknowledges so many items, the next one that it lacks goes out again at once: something had gone out again
-    /// since it acknowledged more, and not all is acknowledged that was out then, as far as that is kept.
+    /// since it acknowledged more, and it has not acknowledged all that was out then, as far as that is kept.
     pub fn mends(&self, acknowledged: u64, now: u64) -> bool
         ensures { result ≡ mends self.now.measure self.now.pace self.now.timing acknowledged now }
     {
@@ -113,8 +113,8 @@ impl Wait {
             .mends(&self.pace, self.timing, acknowledged, now)
     }
 
-    /// Whether half of the first wait is over since the item that is timed went out, which the peer did not acknowledge, and nothing went out
-    /// again.
+    /// Whether half of the first wait is over since the item that is timed went out, which the peer did not acknowledge, and nothing went
+    /// out again.
     pub fn is_overdue(&self, now: u64) -> bool
         ensures { result ≡ is_overdue self.now now }
     {
@@ -142,13 +142,13 @@ impl Wait {
     /// When the last word of the peer came.
     pub fn heard_at(&self) -> u64
         ensures value { result ≡ self.now.heard_at }
-        // No more packets than are borne have gone out since.
+        // No more packets than are borne have gone out since that word.
         ensures patient { self.now.misses ≤ borne self.now.measure self.now.pace }
     {
         self.heard_at
     }
 
-    /// Nothing is waited for any longer, and the next wait is the first.
+    /// Ends the wait for the peer; the next wait is a first one.
     fn rest(&mut self)
         ensures { self.new ≡ rested self.old }
     {
@@ -164,7 +164,7 @@ impl Wait {
         self.length = self.pace.next_length(self.length);
     }
 
-    /// After a step after which something waits for the peer.
+    /// Takes in a step after which something waits for the peer.
     fn wait_on(&mut self, out: u64, now: u64)
         ensures { self.new ≡ waiting_on self.old self.old.due out now }
     {
@@ -179,7 +179,7 @@ impl Wait {
         }
     }
 
-    /// After a step after which nothing waits for the peer.
+    /// Takes in a step after which nothing waits for the peer.
     fn idle(&mut self, wants: bool)
         ensures { self.new ≡ idling self.old self.old.due wants }
     {
@@ -193,8 +193,9 @@ impl Wait {
         }
     }
 
-    /// After a step of an open connection, where `waiting` says how many items are out, if something waits for the peer, and `wants` whether a
-    /// word of the peer is wanted, for a call or for the end of the connection. What is due stays so.
+    /// Takes in a step of an open connection, where `waiting` says how many items are out, if something waits for the peer, and `wants`
+    /// whether a word of the peer is wanted, for a call or for the end of the connection. A timer of the same kind that runs already is
+    /// not started again.
     pub fn step(&mut self, waiting: Option<u64>, wants: bool, now: u64)
         ensures { self.new ≡ after_step self.old waiting wants now }
     {
@@ -214,7 +215,7 @@ impl Wait {
         self.replies = Replies::NONE;
     }
 
-    /// What waits for the peer goes out again before its time, and the first wait begins anew.
+    /// Takes in that the packet which waits for the peer goes out again before its time: the first wait begins anew.
     fn resend(&mut self, out: u64, now: u64)
         ensures { self.new ≡ resent self.old out now }
     {
@@ -245,8 +246,8 @@ impl Wait {
         }
     }
 
-    /// Takes in a word of the peer, where `progress` says what it acknowledges, and `again` whether something goes out again for it. `reply`
-    /// is the allocation number of a reply by which the peer lacks the first item that is out; `None` of another packet.
+    /// Takes in a word of the peer, where `progress` says what it acknowledges, and `again` whether something goes out again for it.
+    /// `reply` is the allocation number of a reply by which the peer lacks the first item that is out; `None` of another packet.
     pub fn hear(&mut self, progress: Progress, reply: Option<u16>, again: bool, now: u64)
         ensures { self.new ≡ after_word self.old progress reply again now }
     {
@@ -263,7 +264,7 @@ impl Wait {
         }
     }
 
-    /// The connection is closed at this time: it is forgotten after the longest wait.
+    /// Takes in that the connection is closed at this time: it is forgotten after the longest wait.
     pub fn linger(&mut self, now: u64)
         ensures { self.new ≡ lingering self.old now }
     {
@@ -292,7 +293,7 @@ impl Wait {
         }
     }
 
-    /// A packet goes out again, and the next wait begins.
+    /// Counts a packet that goes out again, and begins the next wait.
     fn miss_again(&mut self, now: u64)
         requires { self.old.misses < borne self.old.measure self.old.pace }
         ensures { self.new ≡ after_by self.old Again now }
@@ -303,7 +304,7 @@ impl Wait {
         self.length = self.pace.next_length(self.length);
     }
 
-    /// A packet asks the peer, and the next wait begins.
+    /// Counts a packet that asks the peer for a word, and begins the next wait.
     fn miss_ask(&mut self, now: u64)
         requires { self.old.misses < borne self.old.measure self.old.pace }
         ensures { self.new ≡ missed AskAt self.old now }

@@ -2,7 +2,7 @@
 
 ghost use Rattle.std.specs.Prelude.{◌≡◌};
 
-/// Who gives way to a new connection.
+/// Which connection gives way to a new one.
 #[derive(Clone, Copy, Debug, PartialEq, Eq)]
 pub enum Way {
     /// The connection with this number, which is closed and lingers since this time.
