@@ -30,7 +30,7 @@ fn add_call() -> Call {
     }
 }
 
-/// Makes this many calls Add of 5: what the last outcome adds up to.
+/// Makes this many calls Add of 5, and returns what the last outcome adds up to.
 fn add(alloc: Global, count: u32) -> Result<u64, AllocError> {
     let table = tally_table(alloc)?;
     repeat(alloc, &table, Tally::new(), &add_call(), count)
@@ -55,7 +55,7 @@ fn list_call(alloc: Global) -> Result<Call, AllocError> {
     })
 }
 
-/// Makes this many calls of 60,000 cardinals each way: what the last outcome adds up to.
+/// Makes this many calls of 60,000 cardinals each way, and returns what the last outcome adds up to.
 fn list(alloc: Global, count: u32) -> Result<u64, AllocError> {
     let table = lists_table(alloc)?;
     if table.check().is_err() {

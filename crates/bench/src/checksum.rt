@@ -1,4 +1,4 @@
-//! The longest packets are summed. The add-and-rotate loop of `bench/checksum_peer.rs` does the same.
+//! Sums the longest packets. The add-and-rotate loop of `bench/checksum_peer.rs` does the same.
 
 use std::io;
 use xns_idp::{MOST_PACKET, cycle_sum};

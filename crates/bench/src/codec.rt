@@ -1,4 +1,4 @@
-//! The longest packets are written and read. `bench/c_codec.c` does the same through the library for C.
+//! Writes and reads the longest packets. `bench/c_codec.c` does the same through the library for C.
 
 use std::io;
 use test_setting::{CALLER, SERVER};
@@ -7,7 +7,7 @@ use xns_idp::{MOST_DATA, MOST_PACKET, Packet, decode, encode_into, packet_type};
 /// How many packets are written and read.
 const PACKETS: usize = 1_000_000;
 
-/// A number that each of the fields and the checksum has a part in.
+/// A number in which each field and the checksum has a part.
 fn mark(bytes: &[u8], index: usize) -> u64 {
     let (Ok((packet, taken)), [high, low, ..]) = (decode(bytes), bytes) else {
         return 0;

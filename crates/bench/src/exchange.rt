@@ -1,5 +1,5 @@
 //! Two ends exchange 65,535 items each way: in order; with every second packet late where the first word is `late`; or with the last seven
-//! packets of each round lost where it is `lossy`. They do so as often as the second word says, else once.
+//! packets of each round lost where it is `lossy`. The exchange is done as often as the second word says, else once.
 
 use std::alloc::{AllocError, Global};
 use std::io;
@@ -15,17 +15,17 @@ const ROUNDS: usize = 1285;
 /// The packets from this place of a round on can be lost.
 const FIRST_LOST: usize = 44;
 
-/// Each item has the most bytes that a packet holds.
+/// The body of each item: as many bytes as a packet holds.
 const BODY: [u8; MOST_BODY] = [0x5a; MOST_BODY];
 
 /// What the way does to the packets of a round.
 #[derive(Clone, Copy)]
 pub enum Way {
-    /// All come in order.
+    /// All packets come in order.
     Ordered,
-    /// Every second one comes after the others.
+    /// Every second packet comes after the others.
     Late,
-    /// The last seven are lost.
+    /// The last seven packets of a round are lost.
     Lossy,
 }
 
@@ -57,7 +57,7 @@ impl Way {
     }
 }
 
-/// What was counted in a connection.
+/// The counts of a connection.
 #[derive(Clone, Copy)]
 struct Tally {
     /// Items that were handed up.
@@ -199,7 +199,7 @@ fn deliver_fated(
     Ok(())
 }
 
-/// Delivers what an end sends once time has passed, and says how many packets that were.
+/// Delivers the packets that an end sends once time has passed, and returns how many there were.
 fn tick(alloc: Global, from: &mut Endpoint, to: &mut Endpoint) -> Result<u64, AllocError> {
     let packets = from.tick(alloc)?;
     deliver_fated(alloc, &packets, from, to, Way::Ordered, Fate::InTurn)?;
@@ -220,7 +220,7 @@ fn deliver(
     Ok(())
 }
 
-/// Hands up what waits, and says how many items that were.
+/// Hands up the items that wait, and returns how many there were.
 fn hand_up(end: &mut Endpoint) -> u64 {
     let mut handed = 0u64;
     for _ in 0..ROUND {

@@ -12,7 +12,7 @@ pub enum Timing {
     Checksum,
     /// Packets that are written and read.
     Codec,
-    /// Items between two ends, through a network of this way, so many times.
+    /// An exchange of items between two ends, through a network of this way, so many times.
     Exchange(Way, u32),
     /// A play of so many items each way.
     PlayItems(u32),
@@ -38,7 +38,7 @@ impl Timing {
         }
     }
 
-    /// Does the work, and prints what came of it.
+    /// Does the work, and prints its outcome.
     pub fn run(self, rt: &HostRuntime) -> io::Result<()> {
         match self {
             Timing::Calls(adds, lists) => calls::run(rt, adds, lists),
@@ -52,7 +52,7 @@ impl Timing {
     }
 }
 
-/// The word in this place; one with no letters where there is none.
+/// The word in this place; an empty one where there is none.
 fn word(words: &[String], place: usize) -> &str {
     match words.get(place) {
         Some(word) => word.as_str(),

@@ -1,5 +1,6 @@
-//! Courier's values are read and written, as many times as the first word says, else once. `bench/values_peer.rs` does the same.
-//! Printed are how many words each value has, and with that word the least nanoseconds of a reading, one over pieces, and a writing.
+//! Reads and writes Courier's values, as many times as the first word says, else once. `bench/values_peer.rs` does the same. Prints
+//! how many words each value has, and, where that word is given, the least nanoseconds of a reading, of a reading over pieces, and
+//! of a writing.
 
 ghost use Rattle.courier_types.specs.Shape.{shape_model};
 ghost use Rattle.courier_types.specs.Value.{value_model};

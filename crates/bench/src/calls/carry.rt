@@ -1,4 +1,4 @@
-//! What carries the items of a conversation, in memory.
+//! Carries the items of a conversation, in memory.
 
 ghost use Rattle.std.specs.Prelude.{◌≡◌};
 ghost use Rattle.courier_calls.specs.Table.{table_model, IsCheckedTable};
@@ -9,7 +9,7 @@ use courier_types::Value;
 use std::alloc::{AllocError, Global};
 use xns_spp::Item;
 
-/// No message has more items.
+/// How many items a message has at most.
 const MOST_ITEMS: usize = 246;
 
 /// Feeds the server what the caller has out, until the server has something out.
@@ -62,7 +62,8 @@ fn greet<S: Service>(
     }
 }
 
-/// What the outcome adds up to, a long cardinal or a list of cardinals that was returned, and 0 of any other; `None` where there is none.
+/// What the outcome adds up to: a long cardinal or a list of cardinals that was returned, and 0 of any other outcome; `None` where there is
+/// none.
 fn sum(outcome: &Option<Seen>) -> Option<u64> {
     match outcome {
         Some(Seen::Returned(Value::LongCardinal(number))) => Some(u64::from(*number)),
@@ -83,12 +84,12 @@ fn sum_cardinals(values: &[Value]) -> u64 {
     all
 }
 
-/// What the caller's outcome adds up to, which is picked up; `None` where there is none.
+/// Picks up the caller's outcome, and returns what it adds up to; `None` where there is no outcome.
 fn take_sum(caller: &mut Caller) -> Option<u64> {
     sum(&caller.outcome())
 }
 
-/// Makes the call once: what its outcome adds up to; `None` where a session stops, or the call is not made or not answered.
+/// Makes the call once, and returns what its outcome adds up to; `None` where a session stops, or the call is not made or not answered.
 fn make<S: Service>(
     alloc: Global,
     caller: &mut Caller,
@@ -101,8 +102,8 @@ fn make<S: Service>(
     take_sum(caller)
 }
 
-/// Makes the call so many times: what the last outcome adds up to; `None` where there is none, a session stops, or a call is not made or
-/// not answered.
+/// Makes the call so many times, and returns what the last outcome adds up to; `None` where there is no outcome, a session stops, or a
+/// call is not made or not answered.
 fn make_all<S: Service>(
     alloc: Global,
     caller: &mut Caller,
@@ -118,7 +119,7 @@ fn make_all<S: Service>(
     last
 }
 
-/// Makes the call so many times between a new caller and a server, as `make_all` does; 0 where that answers `None`.
+/// Makes the call so many times between a new caller and a server, as `make_all` does; 0 where that returns `None`.
 fn repeat_at<S: Service>(
     alloc: Global,
     table: &Table,

@@ -8,17 +8,17 @@ use test_setting::SETUP;
 use xns_script::Script;
 use xns_world::{CallTrace, play_calls};
 
-/// A line has at most so many bytes.
+/// How many bytes a line has at most.
 const MOST_BYTES: usize = 4_096;
 
-/// Plays the script of standard input between the ends of `xns sim`, and prints what that prints.
+/// Plays the script of standard input between the ends of `xns sim`, and prints what `xns sim` prints.
 pub fn play(rt: &HostRuntime) -> io::Result<()> {
     let mut script = Script::new(rt.alloc());
     read_script(rt, &mut script)?;
     play_script(rt, &script)
 }
 
-/// Plays the script, and prints what comes of it; nothing where a line of it is refused.
+/// Plays the script, and prints the trace; nothing where a line of it is refused.
 fn play_script(rt: &HostRuntime, script: &Script) -> io::Result<()> {
     let setup = SETUP;
     if script.refused().is_some() || !setup.is_good() {
@@ -30,7 +30,7 @@ fn play_script(rt: &HostRuntime, script: &Script) -> io::Result<()> {
     print_trace(rt, calls.len(), &trace)
 }
 
-/// Prints what came of so many calls.
+/// Prints the trace of so many calls.
 fn print_trace(rt: &HostRuntime, calls: usize, trace: &CallTrace<Tally>) -> io::Result<()> {
     print_count(rt, "calls", calls)?;
     print_count(rt, "carried", trace.carried.len())?;

@@ -15,7 +15,7 @@ pub fn play(rt: &HostRuntime, count: u32) -> io::Result<()> {
     play_events(rt, &events)
 }
 
-/// Plays the events, and prints what comes of them; nothing where there are no such ends.
+/// Plays the events, and prints the trace; nothing where there are no such ends.
 fn play_events(rt: &HostRuntime, events: &[Event]) -> io::Result<()> {
     let setup = WIDE_SETUP;
     if !setup.is_good() {
@@ -41,7 +41,7 @@ fn print_both(rt: &HostRuntime, what: &str, from_a: &Items, from_b: &Items) -> i
     )
 }
 
-/// The connection is opened, and then each side sends this many items.
+/// Adds the events by which the connection is opened and each side then sends this many items.
 fn push_events(alloc: Global, events: &mut Vec<Event>, count: u32) -> Result<(), AllocError> {
     events.push(Event::Tick(Side::A))?;
     push_rest(events)?;
@@ -62,13 +62,13 @@ fn push_sends(alloc: Global, events: &mut Vec<Event>, number: u32) -> Result<(),
     Ok(())
 }
 
-/// All packets arrive, and both sides hand up what they bring.
+/// Adds that all packets arrive, and that both sides hand up the items that they bring.
 fn push_arrival(events: &mut Vec<Event>) -> Result<(), AllocError> {
     push_rest(events)?;
     push_takes(events)
 }
 
-/// All packets arrive, and the replies to them.
+/// Adds that all packets arrive, and the replies to them.
 fn push_rest(events: &mut Vec<Event>) -> Result<(), AllocError> {
     for _ in 0..2 {
         events.push(Event::Rest)?;
