@@ -30,7 +30,7 @@ fn talk(rt: &HostRuntime, mut caller: Caller, server: &mut Server<Tally>) -> io:
     exchange(rt, &mut caller, server)
 }
 
-/// Both sides tell their versions; then a call goes to the server, and its answer to the caller.
+/// Carries the versions of each side to the other, then a call to the server, and its answer to the caller.
 fn exchange(rt: &HostRuntime, caller: &mut Caller, server: &mut Server<Tally>) -> io::Result<()> {
     let versions = server.next_out();
     feed_server(rt, server, caller.next_out())?;

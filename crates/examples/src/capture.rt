@@ -25,7 +25,7 @@ fn calls_of(alloc: Global, lines: &[u8]) -> Result<Vec<u8>, RunFault>
     Ok(text)
 }
 
-/// Prints them.
+/// Prints the calls.
 pub fn show(rt: &HostRuntime) -> Result<(), anyhow::Error> {
     let text = calls_of(rt.alloc(), LINES)?;
     io::writer(rt).write_all(text.as_slice())?;

@@ -25,7 +25,7 @@ impl Client {
         self.caller.call(alloc, 7, 2, 1, words)
     }
 
-    /// The packets that are to go out, those again that are not acknowledged.
+    /// The packets that are to go out, with those again that are not acknowledged.
     pub fn packets(&mut self, alloc: Global) -> Result<Vec<Bytes>, FeedRefusal> {
         pump(&mut self.caller, alloc, &mut self.endpoint)?;
         Ok(self.endpoint.tick(alloc)?)

@@ -1,4 +1,4 @@
-//! An Echo server, and who complains of a damaged packet.
+//! An Echo server, which complains of a damaged packet.
 
 use crate::hex_lines::print_hex;
 use crate::hosts::SERVER;
@@ -19,7 +19,7 @@ const RECEIVED: [u8; 34] = [
     0x48, 0x69,
 ];
 
-/// Answers the request as it came, and complains of the same packet with a byte changed on the way.
+/// Replies to the request as it came, and complains of the same packet with a byte changed on the way.
 pub fn answer(rt: &HostRuntime) -> io::Result<()> {
     respond(rt, &RECEIVED)?;
     let mut damaged = RECEIVED;

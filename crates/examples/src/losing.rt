@@ -8,7 +8,7 @@ use std::alloc::{AllocError, Global};
 use xns_host::{Call, Settings};
 use xns_spp::Bytes;
 
-/// What the service answers.
+/// The program that the service serves.
 const LISTED: Program = Program {
     number: 7,
     lowest: 2,
@@ -40,7 +40,7 @@ pub fn talk(rt: &HostRuntime) -> Result<(), anyhow::Error> {
     Ok(())
 }
 
-/// Makes two calls one after the other, and prints what comes of them.
+/// Makes two calls one after the other, and prints their answers.
 fn converse(rt: &HostRuntime, pair: &mut Pair) -> Result<(), anyhow::Error> {
     call(rt, pair, 0, &[1, 2, 3])?;
     meet(rt, pair, 0)?;

@@ -17,7 +17,7 @@ const SETUP: Setup = Setup {
     backlog: 16,
 };
 
-/// What happens: A opens the connection, and then packets arrive, the first two of them again and again.
+/// The events: A opens the connection, and then packets arrive, the first two of them again and again.
 const EVENTS: [Event; 12] = [
     Event::Tick(Side::A),
     Event::Rest,

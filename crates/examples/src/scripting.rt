@@ -18,13 +18,13 @@ fn script_of(alloc: Global, first: &[u8], second: &[u8]) -> Result<Script, Alloc
     Ok(script)
 }
 
-/// A call and what opens its connection, and then a line that is refused.
+/// Reads a call with the event that opens its connection, and then a call with a line that is refused.
 pub fn read(rt: &HostRuntime) -> io::Result<()> {
     print_script(rt, b"tick a")?;
     print_script(rt, b"tick c")
 }
 
-/// What a script has whose first line is a call.
+/// Prints what a script has whose first line is a call.
 fn print_script(rt: &HostRuntime, second: &[u8; 6]) -> io::Result<()> {
     let script = script_of(rt.alloc(), b"call add 5", second)?;
     match script.refused() {

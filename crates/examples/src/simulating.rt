@@ -29,7 +29,7 @@ fn text_of(alloc: Global, script: &[u8]) -> Result<Vec<u8>, RunFault>
     Ok(text)
 }
 
-/// Plays the script, and prints what came of it.
+/// Plays the script, and prints the trace.
 pub fn play(rt: &HostRuntime) -> Result<(), anyhow::Error> {
     let text = text_of(rt.alloc(), SCRIPT)?;
     io::writer(rt).write_all(text.as_slice())?;

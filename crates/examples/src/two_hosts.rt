@@ -4,7 +4,7 @@ use crate::hosts::{CALLER, SERVER};
 use courier_sessions::{Answer, Program};
 use xns_host::{Call, Event, Host, HostFault, Settings};
 
-/// What the service answers.
+/// The program that the service serves.
 const LISTED: Program = Program {
     number: 7,
     lowest: 2,
@@ -24,7 +24,7 @@ pub fn talk(rt: &HostRuntime) -> Result<(), anyhow::Error> {
     Ok(())
 }
 
-/// Makes a call, and prints what comes of it.
+/// Makes a call, and prints its answer.
 fn meet(rt: &HostRuntime, client: &mut Host, service: &mut Host) -> Result<(), anyhow::Error> {
     service.serve(SERVER.socket, &[LISTED])?;
     let number = client.connect(0, 0, CALLER.socket, SERVER)?;

@@ -4,7 +4,7 @@ use courier_types::{ReadRefusal, Shape, Value, fits, read, write};
 use std::alloc::{AllocError, Global};
 use std::io::{self, Print};
 
-/// At most so many numbers are added.
+/// How many numbers are added at most.
 const MOST: u16 = 100;
 
 /// The sum of the cardinals that the words spell, as the words of a long cardinal; `None` where they spell no such sequence,
@@ -68,7 +68,7 @@ pub fn show(rt: &impl Print, alloc: Global) -> io::Result<()> {
     print_sum(rt, alloc, cut, &[3, 1, 2])
 }
 
-/// Prints the sum behind what the words are.
+/// Prints the sum of the words, behind the text that tells of them.
 fn print_sum(rt: &impl Print, alloc: Global, told: &str, words: &[u16]) -> io::Result<()> {
     println!(rt; "{told} {:?}", sum_of(alloc, words)?)
 }

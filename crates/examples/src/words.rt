@@ -5,7 +5,7 @@ use crate::service::Service;
 use courier_sessions::{FeedRefusal, Program};
 use std::alloc::Global;
 
-/// What the service answers.
+/// The program that the service serves.
 const LISTED: Program = Program {
     number: 7,
     lowest: 2,
