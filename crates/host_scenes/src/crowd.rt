@@ -30,7 +30,7 @@ pub struct Crowd {
     server: Station,
     now: u64,
     packets: usize,
-    /// Calls that were not made, since the one before them waited still.
+    /// How many calls were not made, since the one before them waited still.
     busy: usize,
     outcome: Outcome,
 }
@@ -100,7 +100,7 @@ impl Crowd {
         }
     }
 
-    /// What a host is told: a call is answered by its own words.
+    /// Takes in an event of a host. A call is answered by its own words.
     fn hear(&mut self, event: &Event) -> Result<(), AllocError> {
         match event {
             Event::Call {
@@ -135,7 +135,7 @@ impl Crowd {
         Ok(())
     }
 
-    /// An answer, which is right if it is that of the connection's last call.
+    /// Takes in an answer, which is right if it is that of the connection's last call.
     fn answered(&mut self, number: usize, words: &[u16]) {
         let is_right = match words {
             [connection, second, 7] => {
@@ -152,7 +152,7 @@ impl Crowd {
         asked <= self.now && self.now <= asked.saturating_add(10_000)
     }
 
-    /// Hears what both hosts tell.
+    /// Takes in the events of both hosts.
     fn hear_all(&mut self) -> Result<(), AllocError> {
         for _ in 0..CONNECTIONS {
             let Some(event) = self.server.next_event() else {
@@ -169,7 +169,7 @@ impl Crowd {
         Ok(())
     }
 
-    /// Lets both do what they can.
+    /// Lets both hosts do what they can.
     fn talk(&mut self) -> Result<(), anyhow::Error> {
         carry(
             self.now,
@@ -188,7 +188,7 @@ impl Crowd {
         Ok(())
     }
 
-    /// One millisecond, in which one connection of the thousand calls.
+    /// Plays one millisecond, in which one connection of the thousand calls.
     fn tick(&mut self) -> Result<(), anyhow::Error> {
         self.call((self.now % 1_000) as usize);
         self.talk()?;
@@ -204,7 +204,7 @@ impl Crowd {
         Ok(())
     }
 
-    /// Lets them call for so many seconds.
+    /// Lets the connections call for so many seconds.
     fn call_for(&mut self, seconds: u64) -> Result<(), anyhow::Error> {
         for _ in 0..seconds.saturating_mul(1_000) {
             self.tick()?;
@@ -212,7 +212,7 @@ impl Crowd {
         Ok(())
     }
 
-    /// Lets them close.
+    /// Lets the connections close.
     fn end(&mut self) -> Result<(), anyhow::Error> {
         for _ in 0..CLOSING {
             if self.outcome.asked >= CONNECTIONS && self.outcome.by_peer >= CONNECTIONS {
@@ -224,7 +224,7 @@ impl Crowd {
         Ok(())
     }
 
-    /// Lets them call for so many seconds, and close.
+    /// Lets the connections call for so many seconds, and close.
     fn run(&mut self, seconds: u64) -> Result<(), anyhow::Error> {
         self.open()?;
         self.call_for(seconds)?;

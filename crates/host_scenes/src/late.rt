@@ -2,7 +2,7 @@
 #[derive(Drop)]
 pub struct Late {
     pub at: u64,
-    /// Of the connection.
+    /// The number of the connection.
     pub number: usize,
     pub words: Vec<u16>,
 }

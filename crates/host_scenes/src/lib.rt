@@ -1,5 +1,5 @@
 //! Hosts over a network in played time that loses, repeats, delays and corrupts packets, and two hosts with a thousand connections at once:
-//! plays, of each of which `test_hosts` prints what came.
+//! plays whose outcomes `test_hosts` prints.
 #![tactic(auto)]
 
 pub mod crowd;

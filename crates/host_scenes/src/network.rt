@@ -39,7 +39,7 @@ impl Network {
         self.packets
     }
 
-    /// How many of them had gone out before.
+    /// How many of the packets had gone out before.
     pub fn again(&self) -> usize {
         self.sent.again()
     }
@@ -53,7 +53,7 @@ impl Network {
         (self.seed >> 33).checked_rem(below).unwrap_or(0)
     }
 
-    /// Turns a bit of the packet, in so many of 100.
+    /// Turns a bit of the packet, in as many of 100 packets as the scene says.
     fn corrupt(&mut self, bytes: &mut Vec<u8>) {
         if self.random(100) >= self.scene.corrupted {
             return;

@@ -1,21 +1,21 @@
 use std::alloc::AllocError;
 use xns_host::Why;
 
-/// What came of a play.
+/// The outcome of a play.
 #[derive(Clone, Copy, Default)]
 pub struct Outcome {
-    /// Answers that were those wanted.
+    /// Answers that were right.
     pub right: usize,
-    /// Answers that were not, and calls of a host that were refused.
+    /// Answers that were wrong, and functions of a host that refused.
     pub wrong: usize,
-    /// Connections that were closed because the program asked for it, because the peer did, and else.
+    /// Connections that were closed because the program asked for it; because the peer did; and for another reason.
     pub asked: usize,
     pub by_peer: usize,
     pub otherwise: usize,
 }
 
 impl Outcome {
-    /// An answer came, which is right or not.
+    /// Counts an answer that came, which is right or not.
     pub fn answered(&mut self, is_right: bool) {
         if is_right {
             self.right = self.right.saturating_add(1);
@@ -24,7 +24,7 @@ impl Outcome {
         }
     }
 
-    /// A connection is closed.
+    /// Counts a connection that is closed.
     pub fn closed(&mut self, why: Why) {
         match why {
             Why::Asked => self.asked = self.asked.saturating_add(1),
@@ -35,7 +35,7 @@ impl Outcome {
         }
     }
 
-    /// Takes another's counts besides.
+    /// Adds the counts of another outcome.
     pub fn add(&mut self, other: &Outcome) {
         self.right = self.right.saturating_add(other.right);
         self.wrong = self.wrong.saturating_add(other.wrong);
@@ -44,7 +44,7 @@ impl Outcome {
         self.otherwise = self.otherwise.saturating_add(other.otherwise);
     }
 
-    /// Puts its counts.
+    /// Puts the counts of the outcome.
     pub fn put(&self, text: &mut String) -> Result<(), AllocError> {
         put_count(text, self.right, "right")?;
         put_count(text, self.wrong, "wrong")?;

@@ -19,7 +19,7 @@ const STRANGERS_COME: u64 = 5_000;
 /// How long a play is, in milliseconds.
 const LONGEST: u64 = 600_000;
 
-/// Player 0 is called, the others call.
+/// A play, in which player 0 is called and the others call.
 #[derive(Drop)]
 pub struct Play {
     alloc: Global,
@@ -79,7 +79,7 @@ impl Play {
         write!(text, "{} ms", self.now)
     }
 
-    /// Lets a player do one thing; whether there was one.
+    /// Lets a player do one thing, and returns whether there was one.
     fn step(&mut self, place: usize) -> Result<bool, anyhow::Error> {
         let Some(player) = self.players.get_mut(place) else {
             return Ok(false);
@@ -114,7 +114,7 @@ impl Play {
         first
     }
 
-    /// A packet comes to a player, if there is one, who does what it can.
+    /// Brings a packet to its player, if there is one, who then does what it can.
     fn deliver(&mut self, packet: Flying) -> Result<(), anyhow::Error> {
         let to = packet.to;
         if let Some(player) = self.players.get_mut(to) {
@@ -153,7 +153,7 @@ impl Play {
         Ok(())
     }
 
-    /// What happens at the next time; whether there is one.
+    /// Goes on to the next time at which something happens, and returns whether there is one.
     fn advance(&mut self) -> Result<bool, anyhow::Error> {
         let Some(at) = self.next_time() else {
             return Ok(false);

@@ -12,7 +12,7 @@ use std::mem::replace;
 use xns_host::{Event, HostFault, Settings};
 use xns_idp::Address;
 
-/// Where the server is called.
+/// The address at which the server is called.
 pub const SERVER: Address = Address {
     network: 1,
     host: [0, 0, 170, 0, 1, 0],
@@ -84,7 +84,7 @@ impl Player {
         self.next(now)
     }
 
-    /// The client's next call, or its closing.
+    /// Makes the client's next call, or closes its connection.
     fn next(&mut self, now: u64) -> Result<(), HostFault> {
         if self.done >= self.scene.calls {
             return self.host.close(now, self.connection);
@@ -126,7 +126,7 @@ impl Player {
         Ok(wanted.as_slice() == words)
     }
 
-    /// An answer to the client.
+    /// Takes in an answer to the client.
     fn answered(&mut self, now: u64, words: &[u16]) -> Result<(), anyhow::Error> {
         let is_right = self.is_answer(words)?;
         self.outcome.answered(is_right);
@@ -135,7 +135,7 @@ impl Player {
         Ok(())
     }
 
-    /// A call to the server, which is answered in time.
+    /// Takes in a call to the server, which is answered in time.
     fn called(&mut self, now: u64, number: usize, words: &[u16]) -> Result<(), AllocError> {
         let words = answer_to(self.alloc, words)?;
         self.late.push(Late {
@@ -165,7 +165,7 @@ impl Player {
         self.answered(now, words.as_slice())
     }
 
-    /// Hears what its host tells.
+    /// Takes in an event of its host.
     fn hear(&mut self, now: u64, event: &Event) -> Result<(), anyhow::Error> {
         match event {
             Event::Call {
@@ -182,7 +182,8 @@ impl Player {
         }
     }
 
-    /// Hears what its host tells, or else gives an answer whose time has come; whether there was one.
+    /// Takes in an event of its host, or else gives an answer whose time has come. Returns whether there was one of
+    /// them.
     pub fn step(&mut self, now: u64) -> Result<bool, anyhow::Error> {
         match self.host.next_event() {
             Some(event) => {
@@ -193,7 +194,7 @@ impl Player {
         }
     }
 
-    /// Gives an answer whose time has come; whether there was one.
+    /// Gives an answer whose time has come, and returns whether there was one.
     fn answer(&mut self, now: u64) -> bool {
         let Some(place) = self.late.iter().position(|late| late.at <= now) else {
             return false;
@@ -211,7 +212,7 @@ impl Player {
         earlier(answer, self.host.wake())
     }
 
-    /// Whether it wants to do something at this time.
+    /// Whether the player wants to do something at this time.
     pub fn is_due(&self, now: u64) -> bool {
         self.next_time().is_some_and(|time| time <= now)
     }

@@ -2,7 +2,7 @@ use crate::parting::Parting;
 use crate::phase::Phase;
 use crate::restart::Restart;
 
-/// What is played: clients that each make calls, one after the other, to one server.
+/// A scene: clients that each make calls, one after the other, to one server.
 #[derive(Clone, Copy)]
 pub struct Scene {
     pub name: &'static str,
@@ -20,7 +20,7 @@ pub struct Scene {
     pub lost: u64,
     pub repeated: u64,
     pub corrupted: u64,
-    /// How long a packet takes at least, in milliseconds, and by how much less than this more.
+    /// How long a packet takes at least, in milliseconds, and how much longer it may take: less than the second number.
     pub distance: u64,
     pub delay: u64,
     /// Of 100 packets, how many take up to 100 milliseconds more.

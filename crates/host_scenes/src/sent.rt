@@ -1,6 +1,6 @@
 use std::alloc::{AllocError, Global};
 
-/// What went out of an end of a connection.
+/// An end of a connection from which packets went out.
 #[derive(Clone, Copy)]
 struct End {
     /// The end's place and identifier.
@@ -9,7 +9,7 @@ struct End {
     next: u16,
 }
 
-/// What went out of all ends, by which an item or an opening packet is known that goes out again.
+/// The ends from which packets went out, by which an item or an opening packet that goes out again is known.
 #[derive(Drop)]
 pub struct Sent {
     ends: Vec<End>,
@@ -45,7 +45,7 @@ impl Sent {
         }
     }
 
-    /// How many went out again.
+    /// How many items and opening packets went out again.
     pub fn again(&self) -> usize {
         self.again
     }

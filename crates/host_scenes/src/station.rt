@@ -3,8 +3,8 @@ use std::alloc::Global;
 use xns_host::{Call, Event, Host, HostFault, Outgoing, Settings};
 use xns_idp::Address;
 
-/// A host that is played. Its calls are those of the host, and promise nothing: a play tells what came of them. So no proof of a play reads
-/// what the host promises.
+/// A host that is played. Its functions are those of the host, and promise nothing: a play shows what comes of them, and no proof of a play
+/// reads what the host promises.
 #[derive(Drop)]
 pub struct Station {
     host: Host,
@@ -95,7 +95,7 @@ impl Station {
     pub fn end(self) {}
 }
 
-/// Two hosts, unless the other was refused.
+/// The two hosts, unless the second was refused.
 pub fn both(
     one: Station,
     other: Result<Station, HostFault>,

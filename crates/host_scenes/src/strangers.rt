@@ -4,7 +4,7 @@ use std::alloc::{AllocError, Global};
 use xns_idp::Address;
 use xns_spp::Endpoint;
 
-/// The way by which packets of strangers come: nobody is there.
+/// The `via` of the packets of strangers: nobody is there.
 const NOWHERE: u64 = 1_000_000;
 
 /// The packet with which a stranger opens a connection comes to the server.

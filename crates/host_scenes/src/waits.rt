@@ -1,9 +1,10 @@
-//! Plays that show how long hosts wait for what is lost or late: by a fixed network, whose packets take as long each way as the scene says.
+//! Plays that show how long hosts wait for packets that are lost or late, by a fixed network whose packets take as long each way as the
+//! scene says.
 
 use crate::phase::Phase;
 use crate::scene::Scene;
 
-/// For good.
+/// The end of a phase that lasts for good.
 const FOR_GOOD: u64 = u64::MAX;
 
 /// A client that makes ten calls of 130,000 bytes, a millisecond away.

@@ -24,7 +24,7 @@ pub fn words_of(
     Ok(words)
 }
 
-/// What is answered to these words: their sum before them.
+/// The answer to these words: their sum, and then the words.
 pub fn answer_to(alloc: Global, words: &[u16]) -> Result<Vec<u16>, AllocError> {
     let mut answer = Vec::new(alloc);
     let mut sum: u16 = 1;
