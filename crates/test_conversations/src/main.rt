@@ -1,5 +1,5 @@
-//! Plays conversations with a server or a caller, reads messages and values, and checks shapes and tables, one a line; each line's
-//! answer is a line of the output.
+//! Plays conversations with a server or a caller, reads messages and values, and checks shapes and tables, one a line; the result
+//! of each line is a line of the output.
 //!
 //! `message HEX` tells what the bytes are, and `zeros COUNT` the fault of a message of so many bytes of 0. `server STEPS` feeds a server
 //! of the tally items, `caller STEPS` has a caller make calls and feeds it, and `own STEPS` does the same over the tally's own table. An
@@ -31,7 +31,7 @@ fn main(rt: HostRuntime) -> Result<(), anyhow::Error> {
     Ok(())
 }
 
-/// Prints what a line of the input is answered.
+/// Prints the result of a line of the input.
 fn show(rt: &HostRuntime, line: &str) -> Result<(), anyhow::Error> {
     let mut text = String::new(rt.alloc());
     answer(rt.alloc(), line, &mut text)?;
@@ -39,7 +39,7 @@ fn show(rt: &HostRuntime, line: &str) -> Result<(), anyhow::Error> {
     Ok(())
 }
 
-/// Puts what a line of the input is answered.
+/// Puts the result of a line of the input.
 fn answer(alloc: Global, line: &str, text: &mut String) -> Result<(), AllocError> {
     let (word, words) = line.split_once(' ').unwrap_or((line, ""));
     match word {
@@ -53,7 +53,7 @@ fn answer(alloc: Global, line: &str, text: &mut String) -> Result<(), AllocError
     }
 }
 
-/// Puts what a line of shapes, values and tables is answered.
+/// Puts the result of a line of shapes, values and tables.
 fn answer_values(alloc: Global, line: &str, text: &mut String) -> Result<(), AllocError> {
     let (word, words) = line.split_once(' ').unwrap_or((line, ""));
     match word {

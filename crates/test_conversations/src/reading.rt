@@ -4,7 +4,7 @@ use courier_messages::{Message, MessageRefusal, read_message, write_message};
 use std::alloc::{AllocError, Global};
 use std::fmt::Write;
 
-/// What stands before a message's words.
+/// The head of a message.
 fn put_head(text: &mut String, message: &Message) -> Result<(), AllocError> {
     match message {
         Message::Call {

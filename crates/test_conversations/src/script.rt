@@ -4,10 +4,10 @@ use std::alloc::{AllocError, Global};
 use std::fmt::{Debug, Write};
 use xns_spp::{Bytes, Item};
 
-/// More bytes or words are told by their number.
+/// How many bytes or words are told; of more only the number is.
 const MOST_SHOWN: usize = 40;
 
-/// No side has more items out at a time.
+/// How many items a side has out at a time at most.
 const MOST_ITEMS: usize = 300;
 
 /// What a hex digit stands for; 0 for any other sign.

@@ -31,7 +31,7 @@ fn put_step(
     put_out(text, || server.next_out())
 }
 
-/// What an item comes to: the call that it ends, or the fault.
+/// The result of feeding an item: the call that it ends, or the fault.
 fn put_fed(text: &mut String, fed: Result<Option<Call>, SessionFault>) -> Result<(), AllocError> {
     match fed {
         Ok(Some(call)) => put_call(text, &call),
@@ -40,7 +40,7 @@ fn put_fed(text: &mut String, fed: Result<Option<Call>, SessionFault>) -> Result
     }
 }
 
-/// What a server puts out at first, and what it answers to the items.
+/// The items that a server puts out at first, and those with which it answers calls.
 fn put_steps(
     alloc: Global,
     server: &mut Server<Tally>,
@@ -54,7 +54,7 @@ fn put_steps(
     Ok(())
 }
 
-/// What a server answers to the items, and the total at last.
+/// The items with which a server answers calls, and the total at last.
 pub fn play(alloc: Global, steps: &str, text: &mut String) -> Result<(), AllocError> {
     let table = tally_table(alloc)?;
     let mut server = Server::new(alloc, &table, Tally::new())?;
