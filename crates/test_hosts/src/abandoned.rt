@@ -36,7 +36,7 @@ impl Abandoned {
         })
     }
 
-    /// The call comes to the server.
+    /// Carries the call to the server.
     fn call(&mut self) -> Result<(), HostFault> {
         self.server.serve(SERVER.socket, &LISTED)?;
         self.number = self.client.connect(0, 0, 1_024, SERVER)?;
@@ -50,7 +50,7 @@ impl Abandoned {
         Ok(())
     }
 
-    /// What the server says comes to the client, at this time.
+    /// Carries the packets of the server to the client, at this time.
     fn reply(&mut self, now: u64) -> Result<(), HostFault> {
         for _ in 0..10 {
             let Some(out) = self.server.next_packet(now)? else {

@@ -31,7 +31,7 @@ impl Shown {
         }
     }
 
-    /// The clock's time at this time, when so many turns were made.
+    /// What the clock shows at this time, after so many turns.
     fn at(self, now: u64, turns: usize) -> u64 {
         match self {
             Shown::SetBack if now < 1_000 => now.saturating_add(AHEAD),
@@ -50,7 +50,7 @@ pub struct Clocked {
     now: u64,
     turns: usize,
     packets: usize,
-    /// When the program was told that the connection is closed.
+    /// When the program fetched the event that the connection is closed.
     told: Option<u64>,
 }
 
@@ -96,7 +96,8 @@ impl Clocked {
         Ok(())
     }
 
-    /// One turn of a program's loop: events, packets, and the wait; whether there is something to wait for.
+    /// Makes one turn of a program's loop: events, packets, and the wait. Returns whether there is something to wait
+    /// for.
     fn turn(&mut self) -> Result<bool, HostFault> {
         let now = self.clock();
         self.listen();

@@ -1,12 +1,12 @@
 //! Hosts over a network in played time that loses, repeats, delays and corrupts packets, and hosts whose peers are odd.
 //!
-//! A line says what came of each play: how many answers were right and wrong, how many connections were closed as asked, by the peer and
-//! else, both ends counted, how many packets went out, how many of them were items or openings that had gone out before, and how long it
-//! took in played time.
+//! A line says the outcome of each play: how many answers were right and wrong, how many connections were closed as asked, by the peer
+//! and else, both ends counted, how many packets went out, how many of them were items or openings that had gone out before, and how
+//! long it took in played time.
 //!
-//! With the word `crowd` and a number only the thousand connections are played, for so many seconds. With the word `refused` only the two
-//! hosts are that ask once more for what is refused memory: a test runs them with each growth refused in turn. With `hosts` or `parts`, and
-//! a number of connections and of calls, `bench/compare.py` times calls in memory.
+//! With the word `crowd` and a number only the thousand connections are played, for so many seconds. With the word `refused` only two hosts
+//! are played that ask once more where memory is refused: a test runs them with each growth refused in turn. With `hosts` or `parts`, and a
+//! number of connections and of calls, `bench/compare.py` times calls in memory.
 #![tactic(auto)]
 
 mod abandoned;
@@ -53,7 +53,7 @@ fn main(rt: HostRuntime) -> Result<(), anyhow::Error> {
     }
 }
 
-/// The word in this place; one with no letters where there is none.
+/// The word in this place; an empty one where there is none.
 fn word(words: &[String], place: usize) -> &str {
     match words.get(place) {
         Some(word) => word.as_str(),
@@ -90,7 +90,7 @@ fn show_partings(rt: &HostRuntime) -> Result<(), anyhow::Error> {
     Ok(())
 }
 
-/// Plays all that there is, and prints what came of it.
+/// Runs all plays, and prints their outcomes.
 fn show_all(rt: &HostRuntime) -> Result<(), anyhow::Error> {
     show_scenes(rt)?;
     show_waits(rt)?;
@@ -199,7 +199,7 @@ fn play_crowd(alloc: Global, seconds: u32, text: &mut String) -> Result<(), anyh
     Ok(())
 }
 
-/// Has two hosts talk that ask once more for what is refused memory, and prints whether all came as it should.
+/// Has two hosts talk that ask once more where memory is refused, and prints whether all came as it should.
 fn show_stubborn(rt: &HostRuntime) -> Result<(), anyhow::Error> {
     let what = if talk_stubbornly(rt.alloc())? {
         "done"
@@ -209,7 +209,7 @@ fn show_stubborn(rt: &HostRuntime) -> Result<(), anyhow::Error> {
     say(rt, "a whole conversation", what)
 }
 
-/// Has two hosts talk that ask once more for what is refused memory; whether all came as it should.
+/// Has two hosts talk that ask once more where memory is refused, and returns whether all came as it should.
 fn talk_stubbornly(alloc: Global) -> Result<bool, anyhow::Error> {
     let mut pairs = room(alloc)?;
     pairs.push(Stubborn::new(alloc)?)?;
@@ -220,7 +220,7 @@ fn talk_stubbornly(alloc: Global) -> Result<bool, anyhow::Error> {
     Ok(is_done)
 }
 
-/// Room for one of what has hosts, which is asked for once more where memory is refused. What is in it is dropped by one call.
+/// Room for one value that has hosts, which is asked for once more where memory is refused. The value in it is dropped by one call.
 fn room<T: Drop>(alloc: Global) -> Result<Vec<T>, AllocError> {
     match Vec::with_capacity(alloc, 1) {
         Err(_) => Vec::with_capacity(alloc, 1),

@@ -36,11 +36,11 @@ pub struct Meeting {
     alloc: Global,
     manner: Manner,
     host: Station,
-    /// `None`: it was not called yet.
+    /// The end of the peer. `None`: the peer was not called yet.
     peer: Option<Endpoint>,
-    /// What the peer has still to send.
+    /// The items that the peer has still to send.
     out: VecDeque<Item>,
-    /// What the peer said first.
+    /// The packet that the peer sent first.
     first: Option<Bytes>,
     now: u64,
     packets: usize,
@@ -57,7 +57,7 @@ fn item_of(alloc: Global, stream: u8, bytes: &[u8]) -> Result<Item, AllocError> 
     })
 }
 
-/// Puts a long call behind what is out.
+/// Puts a long call behind the items that are out.
 fn put_call(alloc: Global, transaction: u16, out: &mut VecDeque<Item>) -> Result<(), AllocError> {
     let mut words = Vec::new(alloc);
     words.extend_from_slice(&[0, transaction, 0, 7, 2, 1])?;
@@ -80,7 +80,7 @@ fn half_a_call(alloc: Global) -> Result<VecDeque<Item>, AllocError> {
     Ok(out)
 }
 
-/// The peer's end accepts what it has room for.
+/// Has the peer's end accept the items that it has room for.
 fn send_more(peer: &mut Endpoint, out: &mut VecDeque<Item>) {
     for _ in 0..out.len() {
         if peer.is_full() {
@@ -92,7 +92,7 @@ fn send_more(peer: &mut Endpoint, out: &mut VecDeque<Item>) {
     }
 }
 
-/// The peer reads all that came; whether that asks it to close.
+/// Has the peer read all that came, and returns whether that asks it to close.
 fn read_all(peer: &mut Endpoint) -> bool {
     let mut is_asked = false;
     for _ in 0..peer.waiting() {
@@ -149,7 +149,7 @@ impl Meeting {
         }
     }
 
-    /// The host calls the peer, by more words than the peer has room for; the number of the connection.
+    /// Has the host call the peer, with more words than the peer has room for, and returns the number of the connection.
     fn call(&mut self) -> Result<usize, HostFault> {
         let number = self.host.connect(0, 0, 1_024, PEER)?;
         self.host.call(0, number, 7, &[7; 5_000])?;
@@ -169,7 +169,7 @@ impl Meeting {
         Ok(())
     }
 
-    /// The peer hears the packet that opens the connection, and answers.
+    /// The peer receives the packet that opens the connection, and replies.
     fn open(&mut self, bytes: &[u8]) -> Result<(), AllocError> {
         let Some((caller, id)) = opening(bytes) else {
             return Ok(());
@@ -184,14 +184,14 @@ impl Meeting {
         Ok(())
     }
 
-    /// The peer says what it said first.
+    /// The peer sends again the packet that it sent first.
     fn say_again(&mut self) {
         if let Some(first) = &self.first {
             self.host.receive(self.now, 0, first.as_slice());
         }
     }
 
-    /// The peer hears a packet, and what it says comes to the host.
+    /// The peer receives a packet, and its packets come to the host.
     fn hear(&mut self, bytes: &[u8]) -> Result<(), AllocError> {
         let Some(peer) = &mut self.peer else {
             return self.open(bytes);
@@ -223,7 +223,7 @@ impl Meeting {
         Ok(())
     }
 
-    /// The host's next packet comes to the peer; whether there was one.
+    /// Carries the host's next packet to the peer, and returns whether there was one.
     fn step(&mut self) -> Result<bool, anyhow::Error> {
         let Some(out) = self.host.next_packet(self.now)? else {
             return Ok(false);
@@ -233,7 +233,7 @@ impl Meeting {
         Ok(true)
     }
 
-    /// What the host tells.
+    /// Takes in the events of the host.
     fn listen(&mut self) -> Result<(), anyhow::Error> {
         match self.host.next_event() {
             Some(event) => self.hear_event(&event),
@@ -277,7 +277,8 @@ impl Meeting {
         Ok(())
     }
 
-    /// Lets them talk while the host has packets, and goes on to when it wants to be asked again; whether there is such a time.
+    /// Lets both talk while the host has packets, and goes on to when the host wants to be asked again. Returns whether there is such a
+    /// time.
     fn talk(&mut self) -> Result<bool, anyhow::Error> {
         for _ in 0..100 {
             if !self.step()? {
@@ -295,7 +296,7 @@ impl Meeting {
         Ok(self.now <= LONGEST)
     }
 
-    /// Lets them talk until the host is at rest, or for ten minutes.
+    /// Lets both talk until the host is at rest, or for ten minutes.
     fn run(&mut self) -> Result<(), anyhow::Error> {
         for _ in 0..1_000 {
             if !self.talk()? {

@@ -9,7 +9,7 @@ use crate::speed::by_hand::ByHand;
 use crate::speed::pair::Pair;
 use std::alloc::Global;
 
-/// What makes the calls.
+/// The ends between which the calls are made.
 #[derive(Clone, Copy)]
 pub enum Made {
     /// Two hosts.

@@ -21,7 +21,8 @@ const CALLED: [u32; 3] = [7, 8, 7];
 /// How often both hosts talk at most.
 const TURNS: usize = 200;
 
-/// Two hosts that talk in memory. What is refused memory is asked once more, and must stand then as before.
+/// Two hosts that talk in memory. A function that is refused memory is called once more, and must have left all as it
+/// was before.
 #[derive(Drop)]
 pub struct Stubborn {
     alloc: Global,
@@ -34,7 +35,7 @@ pub struct Stubborn {
     /// Answers with the words of their call, and rejects of a program that is not listed.
     returned: usize,
     rejected: usize,
-    /// Anything that should not be.
+    /// How often something came that should not.
     wrong: usize,
     client_closed: Option<Why>,
     server_closed: Option<Why>,
@@ -127,7 +128,7 @@ impl Stubborn {
         Ok(())
     }
 
-    /// The next call, or the closing.
+    /// Makes the next call, or closes the connection.
     fn next(&mut self) -> Result<(), HostFault> {
         let Some(program) = CALLED.get(self.made) else {
             return self.client.close(self.now, self.number);
@@ -136,7 +137,7 @@ impl Stubborn {
         call(&mut self.client, self.now, self.number, *program)
     }
 
-    /// What the server is told.
+    /// Takes in the events of the server.
     fn serve_next(&mut self) -> Result<(), anyhow::Error> {
         match self.server.next_event() {
             Some(event) => self.serve_event(&event),
@@ -176,7 +177,7 @@ impl Stubborn {
         }
     }
 
-    /// What the client is told.
+    /// Takes in the events of the client.
     fn hear_next(&mut self) -> Result<(), anyhow::Error> {
         match self.client.next_event() {
             Some(event) => self.hear_event(&event),
@@ -215,7 +216,8 @@ impl Stubborn {
         host_scenes::player::earlier(self.client.wake(), self.server.wake())
     }
 
-    /// Lets both do what they can, and goes on to when they want to be asked again; whether there is such a time.
+    /// Lets both do what they can, and goes on to when they want to be asked again. Returns whether there is such a
+    /// time.
     fn turn(&mut self) -> Result<bool, anyhow::Error> {
         carry(self.now, &mut self.client, &mut self.server);
         self.serve_next()?;
@@ -228,7 +230,7 @@ impl Stubborn {
         Ok(true)
     }
 
-    /// Lets them talk until both are at rest.
+    /// Lets both hosts talk until both are at rest.
     fn run(&mut self) -> Result<(), anyhow::Error> {
         self.open()?;
         self.next()?;
@@ -251,7 +253,7 @@ impl Stubborn {
             && self.server.connections() == 0
     }
 
-    /// Runs it to its end; whether all came as it should.
+    /// Runs the play to its end, and returns whether all came as it should.
     pub fn run_and_judge(&mut self) -> Result<bool, anyhow::Error> {
         self.run()?;
         Ok(self.is_done())

@@ -89,7 +89,7 @@ impl ByHand {
         Ok(())
     }
 
-    /// Carries what the caller has out.
+    /// Carries the items that the caller has out.
     fn ask(&mut self) -> Result<(), AllocError> {
         carry(
             self.alloc,
@@ -99,7 +99,7 @@ impl ByHand {
         )
     }
 
-    /// Carries what the server has out.
+    /// Carries the items that the server has out.
     fn reply(&mut self) -> Result<(), AllocError> {
         carry(
             self.alloc,
@@ -143,7 +143,7 @@ impl ByHand {
         self.hear()
     }
 
-    /// Opens the connection, and makes so many calls; how many were answered.
+    /// Opens the connection, makes so many calls, and returns how many were answered.
     pub fn call_all(&mut self, calls: u32) -> Result<u32, AllocError> {
         self.open()?;
         for _ in 0..calls {

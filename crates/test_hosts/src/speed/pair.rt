@@ -19,7 +19,7 @@ pub const CLIENT: Address = Address {
     socket: 3_000,
 };
 
-/// What the service answers.
+/// The program that the service serves.
 pub const LISTED: Program = Program {
     number: 7,
     lowest: 2,
@@ -116,7 +116,7 @@ impl Pair {
         Ok(())
     }
 
-    /// Lets both do what they can.
+    /// Lets both hosts do what they can.
     fn talk(&mut self) -> Result<(), HostFault> {
         carry(self.now, &mut self.client, &mut self.service)?;
         self.answer()?;
@@ -132,7 +132,7 @@ impl Pair {
         self.talk()
     }
 
-    /// Opens a connection by a call; its number.
+    /// Opens a connection by a call, and returns its number.
     fn open(&mut self) -> Result<usize, HostFault> {
         let number = self.client.connect(self.now, 0, CLIENT.socket, SERVICE)?;
         self.call(number)?;
@@ -141,7 +141,7 @@ impl Pair {
         Ok(number)
     }
 
-    /// Serves the program, and opens so many connections; the number of the last one.
+    /// Serves the program, opens so many connections, and returns the number of the last one.
     fn open_all(&mut self, connections: u32) -> Result<usize, HostFault> {
         self.service.serve(SERVICE.socket, &[LISTED])?;
         let mut last = 0;
@@ -151,7 +151,7 @@ impl Pair {
         Ok(last)
     }
 
-    /// Opens so many connections, and makes so many calls on the last one; how many of these were answered.
+    /// Opens so many connections, makes so many calls on the last one, and returns how many of these were answered.
     pub fn call_all(&mut self, connections: u32, calls: u32) -> Result<u32, HostFault> {
         let last = self.open_all(connections)?;
         self.answered = 0;
