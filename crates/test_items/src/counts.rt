@@ -1,6 +1,6 @@
 use std::fmt;
 
-/// What was counted.
+/// The counts of a trial.
 #[derive(Clone, Copy)]
 pub struct Counts {
     /// Items that the receiver handed up.

@@ -1,5 +1,5 @@
-//! What two ends make of items: worked plays, the timeouts and packets of 640 items one way, and a play of 140,000 items each way, which
-//! `test_protocols` prints.
+//! Plays of items between two ends: worked plays, the timeouts and packets of 640 items one way, and a play of 140,000 items each way,
+//! which `test_protocols` prints.
 #![tactic(auto)]
 
 mod chance;

@@ -7,7 +7,7 @@ use std::fmt::{Debug, Write};
 use test_setting::{CALLER, ECHO_REQUEST, FIRST, SETUP};
 use xns_idp::{Address, HEADER_BYTES};
 
-/// Prints what comes of the steps, and which setups are good.
+/// Prints the traces of the steps, and which setups are good.
 pub fn show(rt: &HostRuntime) -> Result<(), anyhow::Error> {
     let mut text = String::new(rt.alloc());
     tell(rt.alloc(), &mut text)?;
@@ -195,7 +195,7 @@ fn put_both(text: &mut String, a: &Items, b: &Items, what: &str) -> Result<(), A
     write!(text, "{a} and {b} {what}, ")
 }
 
-/// How much came of a play.
+/// The counts of a play.
 fn put_counts(text: &mut String, name: &str, trace: &ItemTrace) -> Result<(), AllocError> {
     text.push_str(name)?;
     text.push_str(": ")?;

@@ -28,7 +28,7 @@ impl Step {
         })
     }
 
-    /// The step as text; of bytes from elsewhere not which.
+    /// The step as text; the text does not say which bytes from elsewhere come.
     pub fn put(self, text: &mut String) -> Result<(), AllocError> {
         match self {
             Step::Deliver(number) => write!(text, "Deliver({number})"),
