@@ -9,7 +9,7 @@ use std::alloc::{AllocError, Global};
 use xns_script::Script;
 use xns_world::{CallTrace, play_calls};
 
-/// A step has at most so many bytes.
+/// How many bytes a step has at most.
 const MOST_BYTES: usize = 4_096;
 
 pub fn put_carried(lines: &mut Lines, carried: &[Call]) {

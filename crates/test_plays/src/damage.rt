@@ -1,4 +1,4 @@
-//! Packets in which something is wrong.
+//! Packets in which a field or a byte is wrong.
 use crate::draft::{SOURCE, number_at, packet_of, put_byte, put_number};
 use crate::generator::Generator;
 use std::alloc::{AllocError, Global};

@@ -2,7 +2,7 @@
 use xns_spp::Bytes;
 
 /// Takes more bytes into a digest, which other bytes are unlikely to have: the bytes as digits of a number to base 31, of which the lowest
-/// 32 bits are kept. That of no bytes is 0.
+/// 32 bits are kept. The digest of no bytes is 0.
 pub fn with_bytes(digest: u32, bytes: &[u8]) -> u32 {
     let mut digest = digest;
     for byte in bytes {

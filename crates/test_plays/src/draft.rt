@@ -5,13 +5,13 @@ use test_setting::{CALLER, SERVER};
 use xns_idp::{MOST_DATA, Packet, encode, packet_type};
 use xns_spp::Bytes;
 
-/// A header has so many bytes.
+/// How many bytes a header has.
 const HEADER: usize = 12;
 
 /// Where the control byte stands in a header.
 pub const CONTROL: usize = 0;
 
-/// Where the datastream type stands, which is the other field of one byte.
+/// Where the datastream type stands in a header, the other field of one byte.
 pub const STREAM: usize = 1;
 
 /// Where the source's identifier begins.

@@ -9,7 +9,7 @@ use std::alloc::{AllocError, Global};
 use xns_script::{Command, read_command};
 use xns_spp::{Bytes, Item};
 
-/// Of a play with more packets only their number and digest are told.
+/// How many packets of a play are told; of more only the number and the digest are.
 const MOST_PACKETS: usize = 40;
 
 fn side(word: &str) -> Side {
@@ -25,7 +25,7 @@ fn read_stream(number: &str) -> u8 {
     u8::try_from(number).unwrap_or(0)
 }
 
-/// An item of the words: its bytes, and what is special of it. It ends a message and is of datastream 0 where they say no other.
+/// An item of the words: its bytes, and what is special of it. It ends a message and is of datastream 0 where the words say nothing else.
 fn item(alloc: Global, words: &str) -> Result<Item, AllocError> {
     let mut item = Item {
         stream: 0,

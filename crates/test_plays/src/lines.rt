@@ -3,11 +3,11 @@ use std::alloc::{AllocError, Global};
 use std::fmt::Write;
 use std::mem::swap;
 
-/// Nothing, where the lines were told, or the refusal of memory.
+/// Nothing where the lines were told, or the refusal of memory.
 pub type Told = Result<(), AllocError>;
 
-/// Lines of text, of which equal ones in a row are told once, with their number.
-/// A refused growth is remembered, and `text` then fails.
+/// Lines of text, of which equal ones in a row are told once, with their number. That memory was refused is remembered,
+/// and `text` then fails.
 #[derive(Drop)]
 pub struct Lines {
     /// The line that is being written.

@@ -1,4 +1,4 @@
-//! Plays what its lines say, one play a line; what comes of each is text on lines of its own. It is run to be compared: with text that
+//! Plays what its lines say, one play a line; the trace of each is text on lines of its own. It is run to be compared: with text that
 //! was worked out elsewhere, as another compiler builds it, and where memory is refused.
 //!
 //! A line is a kind, the ends' window and backlog, and steps that commas part: `3* STEP; STEP` is two steps three times.

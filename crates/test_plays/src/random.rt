@@ -17,7 +17,7 @@ use xns_world::ServeTrace;
 /// How many packets are made before the program looks again at what the server has made of all of them.
 const BLOCK: u16 = 8;
 
-/// A tally comes to at most so much.
+/// How much the total of a tally is at most.
 const MOST_TOTAL: u32 = 1_000_000;
 
 /// The header of a packet that the server sent.
@@ -66,10 +66,10 @@ const ADD: [u8; 26] = [
     0x50, 0, 0x12, 0x34, 0x56, 0x78, 0, 0, 0, 0, 0, 0, 0, 0, 0, 0, 0, 0, 0, 7, 0, 2, 0, 1, 0, 0,
 ];
 
-/// Where its transaction begins.
+/// Where the transaction of the call begins.
 const TRANSACTION: usize = 14;
 
-/// Where the number begins that it adds.
+/// Where the number begins that the call adds.
 const ADDED: usize = 24;
 
 /// The body of an honest caller's packet with this sequence number: the versions, or a call Add.
@@ -146,7 +146,7 @@ fn serve_within(
     }
 }
 
-/// Gives a server the packets, and adds a block that is made of what it answered; `false` where `serve_within` has no trace.
+/// Gives a server the packets, and adds a block that is made by its replies; `false` where `serve_within` has no trace.
 fn push_next(
     alloc: Global,
     setup: &Setup,
@@ -177,7 +177,7 @@ fn blocks_of(
     Ok(packets)
 }
 
-/// Gives a server one block of packets after another, each made of what it answered to those before, and looks after each whether its
+/// Gives a server one block of packets after another, each made by its replies to those before, and looks after each whether its
 /// trace is within its bounds.
 pub fn play(alloc: Global, lines: &mut Lines, setup: &Setup, steps: &str) -> Told {
     let Some((seed, blocks)) = read_numbers(steps) else {

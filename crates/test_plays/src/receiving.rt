@@ -23,7 +23,7 @@ const FIELDS: [(usize, &str); 6] = [
     (ALLOCATION, "allocation"),
 ];
 
-/// Changes the field in this place of a header. One of one byte is the number modulo 256.
+/// Changes the field in this place of a header. A field of one byte gets the number modulo 256.
 fn change(header: &mut [u8], place: usize, number: u16) {
     if place < SOURCE {
         let [_, low] = number.to_be_bytes();

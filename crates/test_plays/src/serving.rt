@@ -12,7 +12,7 @@ use std::alloc::{AllocError, Global};
 use xns_spp::Bytes;
 use xns_world::{ServeTrace, serve_bytes};
 
-/// Of more replies only the digest and the last two are told.
+/// How many replies are told; of more only the digest and the last two are.
 const MOST_REPLIES: usize = 44;
 
 /// Adds the packets of a group.
