@@ -1,9 +1,9 @@
-//! Reads descriptions of programs in Courier's notation, and answers lines of words by name: what a second account is compared
-//! with.
+//! Reads descriptions of programs in Courier's notation, and prints the calls, returns and aborts of its input by name. A
+//! second account is compared with what it prints.
 //!
-//! The arguments are files, each of which may depend upon those before it; the first fault is printed as
-//! `FILE:LINE:COLUMN REASON`. Each line of standard input is `call PROGRAM VERSION PROCEDURE WORDS`, `return PROGRAM VERSION
-//! PROCEDURE WORDS` or `abort PROGRAM VERSION ERROR WORDS`, and its answer is printed.
+//! The arguments are files, each of which may depend upon those before it; the first fault is printed as `FILE:LINE:COLUMN
+//! REASON`. Each line of standard input is `call PROGRAM VERSION PROCEDURE WORDS`, `return PROGRAM VERSION PROCEDURE WORDS`
+//! or `abort PROGRAM VERSION ERROR WORDS`, and its result is printed.
 #![tactic(auto)]
 
 mod answers;
@@ -21,7 +21,7 @@ fn reason_name(alloc: Global, reason: ProgramReason) -> Result<String, AllocErro
     }
 }
 
-/// Reads the text of a file; the answer is whether it is a program, and its fault is printed if not.
+/// Reads the text of a file, and returns whether it is a program. If it is none, its fault is printed.
 fn take_text(
     rt: &HostRuntime,
     file: &str,
