@@ -19,7 +19,7 @@ const OTHER_ID: u16 = 0x9abc;
 /// The place of the control byte in a packet.
 const CONTROL: usize = 30;
 
-/// A caller and a server, and what they sent last.
+/// A caller and a server, and the packets that they sent last.
 #[derive(Drop)]
 pub struct Ends {
     caller: Endpoint,
@@ -52,7 +52,7 @@ impl Ends {
         }
     }
 
-    /// Takes the steps, and leaves what the last answers.
+    /// Takes the steps, and leaves the result of the last one.
     pub fn take_steps(
         &mut self,
         alloc: Global,

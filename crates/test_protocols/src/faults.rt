@@ -1,4 +1,4 @@
-//! What faults say.
+//! The texts of faults.
 use std::alloc::AllocError;
 use std::error::Error;
 use std::fmt::Write;

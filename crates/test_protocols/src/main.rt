@@ -1,7 +1,7 @@
 //! What `xns_idp`, `xns_small` and `xns_spp` make of worked examples, and `item_world` of items, as the lines of the input say. The packets
 //! are by hand from the standard, and their sums were checked by a separate program.
 //!
-//! A line is `NAME = STEPS`, and comes back as its name and what the last step answers. Without a name it is done in
+//! A line is `NAME = STEPS`, and comes back as its name and the result of the last step. Without a name it is done in
 //! silence. Steps are parted by `;`, and `3 times STEPS` does them three times. `#` begins a comment.
 //!
 //! BYTES are hex digits, which spaces may part; `5a*534` is a byte 534 times, and `-` none. `packet 0` is the first
@@ -64,7 +64,7 @@ fn show(rt: &HostRuntime, ends: &mut Ends, line: &str) -> Result<(), anyhow::Err
     }
 }
 
-/// Takes the steps of a line, and prints the answer: nothing of steps without a name.
+/// Takes the steps of a line, and prints the result: nothing of steps without a name.
 fn show_answer(rt: &HostRuntime, ends: &mut Ends, line: &str) -> Result<(), anyhow::Error> {
     let (name, steps) = line.split_once(" = ").unwrap_or(("", line));
     let answer = answer(rt.alloc(), ends, steps)?;
@@ -74,14 +74,14 @@ fn show_answer(rt: &HostRuntime, ends: &mut Ends, line: &str) -> Result<(), anyh
     Ok(())
 }
 
-/// What the last of the steps answers.
+/// The result of the last of the steps.
 fn answer(alloc: Global, ends: &mut Ends, line: &str) -> Result<String, AllocError> {
     let mut text = String::new(alloc);
     repeat(alloc, ends, line, &mut text)?;
     Ok(text)
 }
 
-/// Takes the steps as often as the line says, and leaves what the last answers.
+/// Takes the steps as often as the line says, and leaves the result of the last one.
 fn repeat(alloc: Global, ends: &mut Ends, line: &str, text: &mut String) -> Result<(), AllocError> {
     let (count, steps) = line.split_once(" times ").unwrap_or(("1", line));
     for _ in 0..count.parse::<u16>().unwrap_or(0) {

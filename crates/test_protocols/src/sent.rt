@@ -1,11 +1,11 @@
-//! What ends sent last.
+//! The packets that ends sent last.
 use crate::reading;
 use crate::text::read_bytes;
 use std::alloc::{AllocError, Global};
 use xns_idp::decode;
 use xns_spp::Bytes;
 
-/// What ends sent last.
+/// The packets that ends sent last.
 #[derive(Drop)]
 pub struct Sent {
     /// The packets of the last `flush` or `tick`.
@@ -22,7 +22,7 @@ impl Sent {
         }
     }
 
-    /// Keeps the packets, and gives how many they are.
+    /// Keeps the packets, and returns how many there are.
     pub fn keep_packets(&mut self, packets: Vec<Bytes>) -> usize {
         self.packets = packets;
         self.packets.len()
