@@ -15,7 +15,7 @@ pub const REQUEST: Packet<'static> = Packet {
     body: &[0, 1, 0x48, 0x69],
 };
 
-/// Whether there is an answer, and it has so many bytes.
+/// Whether there is a result, and it has so many bytes.
 fn has_size(answer: &Option<Vec<u8>>, size: usize) -> bool {
     match answer {
         Some(bytes) => bytes.len() == size,

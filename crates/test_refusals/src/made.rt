@@ -2,7 +2,7 @@ use crate::outcome::{Outcome, done, refused};
 use crate::{courier, internet, sequenced};
 use std::alloc::{AllocError, Global};
 
-/// What is made from nothing that takes memory itself.
+/// The values that are made from nothing that takes memory itself.
 #[derive(Clone, Copy)]
 pub enum Made {
     EchoReply,
@@ -14,7 +14,7 @@ pub enum Made {
 }
 
 impl Made {
-    /// Makes a value of this kind, and says whether it is right.
+    /// Makes a value of this kind, and returns whether it is right.
     fn is_right(self, alloc: Global) -> Result<bool, AllocError> {
         match self {
             Made::EchoReply => internet::answers(alloc),

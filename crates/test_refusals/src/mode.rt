@@ -6,7 +6,7 @@ use xns_dump::dump;
 use xns_lines::RunFault;
 use xns_sim::sim;
 
-/// What is done with an input.
+/// The command that is run over an input.
 #[derive(Clone, Copy)]
 pub enum Mode {
     Dump,

@@ -6,7 +6,7 @@ use crate::written::Written;
 use crate::{courier, sequenced, values};
 use std::alloc::{AllocError, Global};
 
-/// What is called.
+/// The function that is called.
 #[derive(Clone, Copy)]
 pub enum Subject {
     Written(Written),

@@ -6,7 +6,7 @@ use xns_idp::{Packet, encode, encode_parts};
 use xns_small::{Echo, ErrorReport, Exchange, write_echo, write_error, write_exchange};
 use xns_spp::write_header;
 
-/// What is written behind the one byte that a vector has.
+/// The bytes that are written behind the one byte that a vector has.
 #[derive(Clone, Copy)]
 pub enum Written {
     Packet,
@@ -22,7 +22,7 @@ pub enum Written {
 const BEFORE: u8 = 0xaa;
 
 impl Written {
-    /// Writes it behind what the vector has.
+    /// Writes the bytes behind the byte that the vector has.
     fn write(self, alloc: Global, out: &mut Vec<u8>) -> Result<(), AllocError> {
         match self {
             Written::Packet => encode(alloc, &REQUEST, out),
@@ -60,7 +60,7 @@ impl Written {
         }
     }
 
-    /// Whether it is what these bytes are.
+    /// Whether these are the bytes that are written.
     fn is(self, bytes: &[u8]) -> bool {
         match self {
             Written::Packet | Written::Parts => bytes == ECHO_REQUEST.as_slice(),
@@ -71,7 +71,7 @@ impl Written {
         }
     }
 
-    /// Whether it stands behind the byte that was there before.
+    /// Whether the written bytes stand behind the byte that was there before.
     fn stands_in(self, out: &[u8]) -> bool {
         match out {
             [first, rest @ ..] => *first == BEFORE && self.is(rest),
