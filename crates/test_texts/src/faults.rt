@@ -15,7 +15,7 @@ struct Alike {
     written: usize,
 }
 
-/// No text has so many reads.
+/// More reads than any text has.
 const MOST_READS: usize = 1_000;
 
 /// What is written before each read that fails, and at last how the run ends with none failing.
@@ -63,7 +63,7 @@ fn read_failing(alloc: Global, mode: Mode, input: &[u8], most: usize, fails_at: 
     mode.outcome(alloc, &mut reader)
 }
 
-/// Whether a read failed. Shows those before it where this one comes to something else.
+/// Shows the reads before this one where it comes to something else. Returns whether a read failed.
 fn show_read(
     rt: &HostRuntime,
     whole: &Outcome,

@@ -12,7 +12,7 @@ pub struct Outcome {
     pub text: Vec<u8>,
 }
 
-/// What is made of a text.
+/// The command that is run over a text.
 #[derive(Clone, Copy)]
 pub enum Mode {
     Dump,
@@ -21,7 +21,7 @@ pub enum Mode {
 }
 
 impl Mode {
-    /// `Calls` and `Sim` of their names, else `Dump`.
+    /// `Calls` and `Sim` for their names, else `Dump`.
     pub fn named(name: &str) -> Mode {
         match name {
             "calls" => Mode::Calls,
@@ -30,7 +30,7 @@ impl Mode {
         }
     }
 
-    /// Reads the input, and writes what is made of it.
+    /// Reads the input, and writes the text that the command makes of it.
     pub fn run<R: Read, W: Write>(
         self,
         alloc: Global,
