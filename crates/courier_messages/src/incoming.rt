@@ -341,9 +341,9 @@ impl Incoming {
         }
     }
 
-    /// Takes in one more item: the message that it ends, if it ends one. Memory is only refused to bytes that are to be
-    /// kept behind others and with which nothing is wrong: then nothing is changed, and the item can be given again.
-    /// The first piece of a message takes no memory.
+    /// Takes in one more item, and returns the message that it ends, if it ends one. Memory is refused only to bytes
+    /// that are to be kept behind others and with which nothing is wrong: nothing is changed then, and the item can be
+    /// given again. The first piece of a message takes no memory.
     #[tactic(auto, using(crate::proofs::Runs::run_append, crate::proofs::Runs::said_append, crate::proofs::Runs::run_mark, crate::proofs::Runs::said_mark, crate::proofs::Runs::said_bytes))]
     #[inline(always)]
     pub fn take(&mut self, alloc: Global, item: Item) -> Result<Option<PiecedMessage>, SessionFault>

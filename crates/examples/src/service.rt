@@ -20,7 +20,7 @@ impl Service {
         Ok(Service { server, endpoint })
     }
 
-    /// Answers what came, a call by its own words, and gives the packets that are to go out.
+    /// Answers the call that came, by its own words, and returns the packets that are to go out.
     pub fn packets(&mut self, alloc: Global) -> Result<Vec<Bytes>, FeedRefusal> {
         pump(&mut self.server, alloc, &mut self.endpoint)?;
         let _ = self.server.reject_unlisted(alloc)?;
@@ -32,7 +32,7 @@ impl Service {
         Ok(self.endpoint.flush(alloc)?)
     }
 
-    /// Takes in a packet, and gives its reply.
+    /// Takes in a packet, and returns the reply.
     pub fn receive(&mut self, alloc: Global, packet: &[u8]) -> Result<Option<Bytes>, FeedRefusal> {
         Ok(self.endpoint.receive(alloc, packet)?.reply)
     }

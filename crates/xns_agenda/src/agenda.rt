@@ -190,7 +190,8 @@ impl Agenda {
         self.free.set(number, true);
     }
 
-    /// The number of a new connection: a free one; where there is none, that of a connection that gives way. `None`: none does.
+    /// The number that a new connection gets: a free one; where no number is free, that of the connection that gives way. `None`: no
+    /// connection gives way.
     pub fn place(&self) -> Option<usize>
         ensures within { IfSome result (λ k. k < length self.now.dues) }
         ensures some { (k : ℕ) → result ≡ Some k → GetsNumber self.now.free self.now.closed self.now.strangers k }

@@ -314,12 +314,12 @@ impl Wait {
         self.length = self.pace.next_length(self.length);
     }
 
-    /// What is to be done at this time: it counts as done. Before its time nothing is.
+    /// What is to be done at this time, which counts as done from then on. Nothing is done before its time.
     #[tactic(auto, using(crate::proofs::Later::due_later))]
     pub fn act(&mut self, now: u64) -> Act
         ensures act { result ≡ act_at self.old now }
         ensures after { self.new ≡ after_act self.old now }
-        // Nothing is due then, but at the end of time.
+        // What is due next is due after this time, unless time ends.
         ensures later { now < last_time → IsDueAfter now self.new.due }
     {
         let act = self.next_act(now);

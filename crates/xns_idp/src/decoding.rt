@@ -18,7 +18,7 @@ use crate::places::{read_address, read_word};
 /// and is never [`IdpFault::BadSum`].
 #[inline(always)]
 pub fn decode(bytes: &[u8]) -> Result<(Packet<'_>, usize), IdpFault>
-    // The packet of the bytes by the places of its fields, or their first fault.
+    // The result is the packet, read by the places of its fields, or the first fault of the bytes.
     ensures exact { decode_model result ≡ packet_of bytes.now }
     // The bytes that were taken spell the packet.
     ensures found { IfOk result (λ r. IsPacketAtFront bytes.now (packet_model r.0) r.1) }

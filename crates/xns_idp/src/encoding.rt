@@ -24,7 +24,7 @@ pub fn encode(alloc: Global, packet: &Packet<'_>, out: &mut Vec<u8>) -> Result<(
     ensures err { OnErr result (out.new.items ≡ out.old.items) }
     // Memory is refused only where `out` has no room for the packet's bytes.
     ensures memory { OnErr result (vec_capacity out.old < vec_len out.old + made_even (30 + length packet.now.body.now)) }
-    // No room is given back.
+    // `out` has no less room than before.
     ensures room { vec_capacity out.old ≤ vec_capacity out.new }
 {
     encode_parts(alloc, packet, &[], out)
@@ -47,7 +47,7 @@ pub fn encode_parts(
     // Memory is refused only where `out` has no room for the packet's bytes.
     ensures memory { OnErr result (vec_capacity out.old < vec_len out.old + made_even
         (30 + (length packet.now.body.now + length rest.now))) }
-    // No room is given back.
+    // `out` has no less room than before.
     ensures room { vec_capacity out.old ≤ vec_capacity out.new }
 {
     let size = packet.body.len() + rest.len();

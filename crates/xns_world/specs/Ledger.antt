@@ -10,7 +10,7 @@ pub record Ledger (S C O : Type 0) : Type 0 where
   pub seen : List O
   pub state : S
 
--- the call is decided in the state, which goes on
+-- the ledger once the next call is carried out: the call is decided in the state, which changes
 abbrev pub carried_out : {S C O : Type 0} → (S → C → S × O) → Ledger S C O → C → Ledger S C O
 carried_out decide l c = record l {
   carried = l.carried ++ c ∷ [];
@@ -31,7 +31,7 @@ pub record IsHistory {S C O : Type 0} (decide : S → C → S × O) (s : S) (l :
   pub first : l 0 ≡ record { made = []; carried = []; answered = []; seen = []; state = s }
   pub entries : (n : ℕ) → Entry decide (l n) (l (suc n))
 
--- the state and the outcomes, by one call more
+-- the state and the outcomes after one call more
 abbrev pub decided_then : {S C O : Type 0} → (S → C → S × O) → S × List O → C → S × List O
 decided_then decide x c = ((decide x.0 c).0, x.1 ++ (decide x.0 c).1 ∷ [])
 
