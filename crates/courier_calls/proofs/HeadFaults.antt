@@ -12,7 +12,7 @@ use Rattle.courier_messages.specs.Refusal.{Stops}
 use Rattle.courier_calls.specs.declared.answering.Target.{Target}
 use Rattle.courier_calls.specs.Calls.{SeenModel, found}
 use Rattle.courier_calls.specs.Table.{ProcedureModel, ErrorModel, EntryModel, table_model, error_of}
-use Rattle.courier_calls.specs.Caller.{CallerState, answer_to, expected, results_in, abort_in, error_in, refusal_in, message_refusal, RefusesMessage, unasked, head_fault, reply_fault, is_listed, listed_unless, IsRightButForWords, Judges, CallerHears}
+use Rattle.courier_calls.specs.Caller.{CallerState, answer_to, results_in, abort_in, error_in, refusal_in, message_refusal, RefusesMessage, head_fault, reply_fault, is_listed, listed_unless, IsRightButForWords, Judges, CallerHears}
 use Rattle.courier_calls.proofs.Serves.{weaker}
 
 whole : (m : Message) → m ≡ with_words (head_in m) (words_in m)

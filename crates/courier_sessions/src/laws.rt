@@ -24,8 +24,8 @@ ghost use Rattle.xns_spp.specs.declared.item.Item.{Item};
 
 /// What a session that calls has done, as long as it goes on. The versions and the items of its calls were given, in
 /// order, or are still out. Each message that the peer's items say was handed, in order, as the answer to the call of
-/// its number, or is there to be handed. An item with attention stops the session. Any other stops it exactly where the
-/// conversation stops or a message is no answer.
+/// its number, or is there to be handed. An item without attention that is not too long stops the session exactly where
+/// the conversation stops or a message is no answer.
 pub fn a_session_is_its_conversation()
     ensures start { HasDone [] [] [] [] new_talk }
     ensures call { (made : List RawCall) (fed given : List Item) (handed : List Message) (t : Talk) (c : RawCall)
@@ -46,8 +46,8 @@ pub fn a_session_is_its_conversation()
 /// What a session that is called has done, as long as it goes on. The items that it gave, and those that are out, are
 /// the versions and the answers made, each cut; the k-th answer has the transaction of the k-th call. The calls that it
 /// took, with the one that waits, are the peer's messages, in order, each once. The listed ones of the calls that it
-/// took were handed, or were rejected before they were handed. An item with attention stops the session. Any other stops
-/// it exactly where the conversation stops or a message is no call.
+/// took were handed, or were rejected before they were handed. An item without attention that is not too long stops the
+/// session exactly where the conversation stops or a message is no call.
 pub fn a_server_session_is_its_conversation()
     ensures start { (programs : List Program) → HasAnswered programs [] [] [] [] [] (new_answering programs) }
     ensures feed { (programs : List Program) (fed given : List Item) (taken handed answers : List Message) (a n : Answering) (x : Item)

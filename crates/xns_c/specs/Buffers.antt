@@ -19,7 +19,7 @@ pub record Writes {A : Type 0} (IsWanted : Type 0) (items : List A) (size : ℕ)
 abbrev pub WritesWhereRoom : {A : Type 0} → (items : List A) → (size : ℕ) → (old new : List A) → (had told result : ℕ) → Type 0
 WritesWhereRoom items size old new had told result = Writes (size ≤ length old) items size old new had told result
 
--- what carries these bytes is written so; where they are more than may be carried nothing is written
+-- bytes up to the most that may be carried are written; where there are more nothing is written
 pub record WritesUpTo (most : ℕ) (carried items : List ℕ) (size : ℕ) (old new : List ℕ) (had told result : ℕ) : Type 0 where
   pub long : most < length carried → (result ≡ too_long) × IsUnwritten old new had told
   pub written : length carried ≤ most → WritesWhereRoom items size old new had told result

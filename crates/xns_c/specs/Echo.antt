@@ -10,11 +10,11 @@ use Rattle.xns_c.specs.Views.{HasPacket, StandsIn}
 
 -- ---- the side that answers
 
--- the bytes are an Echo request to this address
+-- the bytes begin with an Echo request to this address
 abbrev pub IsRequestTo : Address → List ℕ → Type 0
 IsRequestTo own = HasPacket (IsAnswered own)
 
--- the reply to such a request is written, and to nothing else is there one
+-- the reply to an Echo request to this address is written; other bytes have no reply, and nothing is written
 abbrev pub WritesEchoReply : Address → (bytes old new : List ℕ) → (had told result : ℕ) → Type 0
 WritesEchoReply own bytes old new had told result = WritesIf (IsRequestTo own bytes) (λ r. echo_reply own r.packet) old new had told result
 
@@ -41,6 +41,6 @@ pub record IsEchoed (asked : Address) (p : PacketModel) : Type 0 where
   pub socket : p.source.socket ≡ asked.socket
   pub host : (p.source.host ≡ asked.host) ⊎ (asked.host ≡ broadcast)
 
--- the bytes are such a reply, and what it echoes stands at a place within them
+-- the bytes begin with such a reply, and what it echoes stands at a place within them
 abbrev pub IsEchoedIn : (asked : Address) → List ℕ → (place size : ℕ) → Type 0
 IsEchoedIn asked = StandsIn (IsEchoed asked) 2

@@ -12,7 +12,7 @@ use Rattle.xns_c.specs.Results.{ok, no_memory, no_endpoint, short_buffer}
 use Rattle.xns_c.specs.declared.item.XnsItem.{XnsItem}
 use Rattle.xns_c.specs.declared.received.XnsReceived.{XnsReceived}
 
--- the next item is handed up to a buffer that has room for the longest one; without that room nothing is, and that length is told
+-- the next item is handed up to a buffer that has room for the longest one. With less room no item is, and the length of the longest is told
 pub record HandsUp (old new : Option Line) (before after : XnsItem) (was is : List ℕ) (result : ℕ) : Type 0 where
   pub taken : (s : State) → Keeps old s → most_body ≤ length was → NextIsTaken (take_answer s) after was is result
   pub stands : (s : State) → Keeps old s → most_body ≤ length was → Keeps new (after_take s)
@@ -22,7 +22,8 @@ pub record HandsUp (old new : Option Line) (before after : XnsItem) (was is : Li
   pub unchanged : result ≢ ok → is ≡ was
   pub untold : result ≢ ok → result ≢ short_buffer → after ≡ before
 
--- a packet is taken in, and the reply goes to a buffer that has room for one; without that room nothing is, and that length is told
+-- a packet is taken in, and the reply goes to a buffer that has room for one. With less room nothing is taken in, and 42, the length of a reply,
+-- is told
 pub record TakesPacket (old new : Option Line) (bytes : List ℕ) (before after : XnsReceived) (was is : List ℕ) (result : ℕ) : Type 0 where
   pub stands : (s : State) → Keeps old s → result ≡ ok → Keeps new (after_receive s bytes)
   pub told : (s : State) → Keeps old s → result ≡ ok → TellsReceived s bytes after was is
@@ -33,8 +34,8 @@ pub record TakesPacket (old new : Option Line) (bytes : List ℕ) (before after 
   pub unchanged : result ≢ ok → (new ≡ old) × (is ≡ was)
   pub untold : result ≢ ok → result ≢ short_buffer → after ≡ before
 
--- the first packet that goes out again is written to a buffer that has room for the longest one; without that room none is, and that length is
--- told
+-- the first packet that goes out again is written to a buffer that has room for the longest one. With less room none is written, and the length
+-- of the longest is told
 pub record ResendsFirst (old new : Option Line) (was is : List ℕ) (had told result : ℕ) : Type 0 where
   pub given : (s : State) → Keeps old s → most_packet ≤ length was → PacketIsGiven (resend_answer s) was is told result
   pub stands : (s : State) → Keeps old s → most_packet ≤ length was → result ≢ no_memory → Keeps new (after_resend s)

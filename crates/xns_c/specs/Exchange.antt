@@ -13,7 +13,7 @@ use Rattle.xns_c.specs.Views.{HasPacket, StandsIn}
 abbrev pub most_exchanged : ℕ
 most_exchanged = 540
 
--- a packet with this many bytes of them has 36 and those, made even
+-- how long a packet of an exchange is that carries so many bytes of data: 36 bytes and those, made even
 abbrev pub exchange_size : ℕ → ℕ
 exchange_size count = made_even (36 + count)
 
@@ -49,7 +49,7 @@ pub record IsAsked (own : Address) (p : PacketModel) : Type 0 where
   pub host : (p.target.host ≡ own.host) ⊎ (p.target.host ≡ broadcast)
   pub from : p.source.host ≢ broadcast
 
--- the bytes are such a packet
+-- the bytes begin with such a packet
 abbrev pub IsAskedBy : Address → List ℕ → Type 0
 IsAskedBy own = HasPacket (IsAsked own)
 

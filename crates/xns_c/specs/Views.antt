@@ -30,7 +30,7 @@ pub record HasPacket (IsSuch : PacketModel → Type 0) (bytes : List ℕ) : Type
   pub reads : packet_of bytes ≡ Ok (packet, taken)
   pub such : IsSuch packet
 
--- the bytes are such a packet, and its own data, behind so many bytes of its body, stand at a place within them
+-- the bytes begin with such a packet, and its own data, behind so many bytes of its body, stand at a place within them
 pub record StandsIn (IsSuch : PacketModel → Type 0) (before : ℕ) (bytes : List ℕ) (place size : ℕ) : Type 0 where
   pub packet : PacketModel
   pub taken : ℕ

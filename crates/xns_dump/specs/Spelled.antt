@@ -20,7 +20,8 @@ SpellFrom IsOther n (line ∷ lines) (packet ∷ packets) =
     (Spells n line packet × SpellFrom IsOther (n + 1) lines packets) ⊎ (IsOther line × SpellFrom IsOther (n + 1) lines (packet ∷ packets))
 SpellFrom IsOther n _ _ = ⊥
 
--- the input spells each packet of the file in the line of its frame's number, and `IsOther` holds of the lines of other numbers
+-- the input spells each packet of the file in the line of its frame's number; `IsOther` holds of each other line before that of the last packet,
+-- and no line stands behind that one
 abbrev pub SpellsPackets : (List ℕ → Type 0) → List ℕ → List ℕ → Type 0
 SpellsPackets IsOther input file = SpellFrom IsOther 1 (lines_of input) (packets_of file)
 

@@ -32,7 +32,7 @@ pub fn places_are_ordered_by_numbers()
 
 /// Of a capture `dump` says what it says of lines of hex that spell the packets of the capture, each packet in the line of
 /// its frame's number. The lines of other numbers are no hex, and each of them prints one line, which says why it is
-/// refused. Without these lines the texts are the same.
+/// refused. Without these lines the texts are the same. The last line spells the last packet.
 pub fn captures_say_what_lines_say()
     ensures { CapturesSayWhatLinesSay }
 {}

@@ -4,8 +4,8 @@ use Rattle.xns_idp.specs.declared.address.Address.{Address}
 use Rattle.xns_small.specs.ErrorReport.{MayBeComplainedOf, complaint}
 use Rattle.xns_host.specs.declared.outgoing.Outgoing.{Outgoing}
 
--- the packets that wait, the first one first, at most so many; and whether memory was refused for the last packet that was to be answered here or to
--- open a connection
+-- the packets that wait, the first one first, at most so many; and whether memory was refused for a packet that was to be answered here or to
+-- open a connection, and none was put here since
 pub record StrayQueue : Type 0 where
   pub most : ℕ
   pub waiting : List Outgoing

@@ -19,7 +19,7 @@ use xns_spp::Bytes;
 pub struct Strays {
     waiting: VecDeque<Outgoing>,
     most: usize,
-    /// Whether memory was refused for the last packet that was to be answered here or to open a connection, which is lost.
+    /// Whether memory was refused for a packet that was to be answered here or to open a connection, and no packet was put here since.
     starved: bool,
 }
 

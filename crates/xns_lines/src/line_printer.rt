@@ -21,7 +21,7 @@ pub trait LinePrinter {
     // Whether one of the lines, or one of so many parts of the end behind them, is refused.
     ghost has_refused: { List (List ℕ) → ℕ → Bool };
 
-    // It is handed at most so many lines.
+    // The printer is handed at most so many lines.
     ghost limit: { ℕ };
 
     // How many parts the end of the input has behind these lines.

@@ -11,13 +11,13 @@ pub trait LineTaker {
     ghost use Rattle.xns_lines.specs.Lines.{most_line_bytes};
     ghost use Rattle.xns_lines.specs.Lines.Cutter.{StandsAfterLine};
 
-    // It is handed at most so many lines.
+    // The taker is handed at most so many lines.
     ghost limit: { ℕ };
 
     // The taker has taken these lines, and the writer, which held the first bytes, holds the second.
     ghost stands: { Self → Option (List ℕ) → Option (List ℕ) → List (List ℕ) → Type 0 };
 
-    // So too, but that a write failed.
+    // The taker has taken these lines, but a write failed.
     ghost fails: { Self → Option (List ℕ) → Option (List ℕ) → List (List ℕ) → Type 0 };
 
     /// Takes the line of that number, which counts from 1. The line has neither its byte 10 nor more than 4,096 bytes.
