@@ -2,16 +2,24 @@
 # All proofs, wrong bodies, tests and programs from nothing, then the figures of docs/PROOF.md, and then the scripts that try what was built.
 set -eu
 cd "$(dirname "$0")/.."
-# `rt ci` keeps no library for other commands. Those that the last scripts need are built of a copy meanwhile, and taken from there. A library
-# that is not built fails in those scripts.
+
+# `rt ci` keeps no library for other commands. The library for C and those below it are built of a copy meanwhile, and put in their places
+# for the last scripts. A library that is not built fails in those scripts.
 copy=$(mktemp -d)
 trap 'rm -rf "$copy"' EXIT
 cp -R crates crates.txt HANDLES "$copy"
 rm -rf "$copy"/crates/*/out
-for crate in xns_c xns_command; do
-    (cd "$copy/crates/$crate" && nice rt lib > /dev/null 2>&1) &
-done
+(cd "$copy/crates/xns_c" && rt lib > /dev/null 2>&1) &
+
+# One check a processor, where each has 5 GB of memory: `rt ci` by itself takes large crates to want more than they do, and leaves
+# processors idle.
+checks=$(awk '/^MemAvailable:/ { print int($2 / 5000000) }' /proc/meminfo)
+if [ "$checks" -ge "$(nproc)" ]; then
+    RT_JOBS=$(nproc)
+    export RT_JOBS
+fi
 rt ci
+
 BUILT_BY_GATE=yes
 export BUILT_BY_GATE
 python3 tests/reading.py --check
@@ -19,6 +27,16 @@ for script in pages program files notation conversations calls plays refusals; d
     sh "tests/$script.sh"
 done
 wait
+for folder in "$copy"/crates/*/out; do
+    out=crates/$(basename "$(dirname "$folder")")/out
+    mkdir -p "$out"
+    for part in rlib incremental; do
+        if [ -d "$folder/$part" ]; then
+            rm -rf "${out:?}/$part"
+            mv "$folder/$part" "$out/$part"
+        fi
+    done
+done
 for script in c network install captures; do
     sh "tests/$script.sh"
 done
