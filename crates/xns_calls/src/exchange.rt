@@ -13,7 +13,6 @@ use crate::carried::Carried;
 use crate::due::Due;
 use crate::early_items::EarlyItems;
 use crate::heading::Heading;
-use crate::kept_track::KeptTrack;
 use crate::near::near;
 use crate::scratch::Scratch;
 use crate::side::Side;
@@ -40,7 +39,7 @@ pub fn advance(
     ensures front { page.new.text.front ≡ page.old.text.front }
     ensures scene { OnOk result (scene own.new other.new page.new ≡ advanced heading.now number (scene own.old other.old page.old)) }
 {
-    let Some(track) = own.track.as_mut() else {
+    let Some(track) = &mut own.track else {
         return Ok(());
     };
     bring(
@@ -99,10 +98,9 @@ pub fn begin(
     ensures scene { OnOk result ((other : Side) → scene own.new other page.new
         ≡ begun_of heading.now (packet_model packet.now) header.now (scene own.old other page.old)) }
 {
-    if !own.has_begun() {
-        let track = KeptTrack::new(alloc, begun(alloc, header.sequence))?;
+    if own.track.is_none() {
         append_flow_line(&mut page.text, heading, packet, header)?;
-        own.track = track;
+        own.track = Some(begun(alloc, header.sequence));
     }
     Ok(())
 }
@@ -147,7 +145,7 @@ fn take_new(
     ensures scene { OnOk result (scene own.new other.new page.new
         ≡ after_new heading.now number (carried heading.now acknowledged header.now content.now) (scene own.old other.old page.old)) }
 {
-    let Some(track) = own.track.as_mut() else {
+    let Some(track) = &mut own.track else {
         return Ok(());
     };
     let item = Carried {

@@ -22,7 +22,7 @@ mod given;
 mod heading;
 mod heard;
 mod item_number;
-mod kept_track;
+mod kept_side;
 pub mod laws;
 mod line_end;
 mod lines_printer;

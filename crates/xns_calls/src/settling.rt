@@ -27,7 +27,7 @@ fn is_behind(next: u64, given: u64, number: u64) -> bool
 pub fn is_free(behind: &Side, given: u64, acknowledged: Option<u64>) -> bool
     ensures { result ≡ is_free_of behind.now.track given acknowledged }
 {
-    match (behind.track.as_ref(), acknowledged) {
+    match (&behind.track, acknowledged) {
         (Some(track), Some(number)) => is_behind(track.next, given, number),
         _ => true,
     }
@@ -82,7 +82,7 @@ fn read_own(
     ensures front { page.new.text.front ≡ page.old.text.front }
     ensures scene { OnOk result (scene own.new other.new page.new ≡ own_read heading.now (scene own.old other.old page.old)) }
 {
-    let Some(track) = own.track.as_mut() else {
+    let Some(track) = &mut own.track else {
         return Ok(());
     };
     read_first(

@@ -25,7 +25,7 @@ use xns_spp::control::SYSTEM;
 fn keeps_none(side: &Side) -> bool
     ensures { result ≡ keeps_none_of side.now.track }
 {
-    match side.track.as_ref() {
+    match &side.track {
         None => true,
         Some(track) => track.early.is_empty(),
     }
@@ -75,7 +75,7 @@ fn read_at_once(
     ensures scene { OnOk result (scene own.new other.new page.new
         ≡ read_once heading.now number header.now content.now (scene own.old other.old page.old)) }
 {
-    let Some(track) = own.track.as_mut() else {
+    let Some(track) = &mut own.track else {
         return Ok(());
     };
     let next = number + 1;
