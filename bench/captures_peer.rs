@@ -3,7 +3,7 @@
 #[path = "peer/packets.rs"]
 mod packets;
 
-use packets::{be, cycle, nearest, next_line, nibble};
+use packets::{NO_SUM, be, cycle, nearest, next_line, nibble};
 use std::collections::{BTreeMap, HashMap, VecDeque};
 use std::fmt::{self, Display, Formatter};
 use std::fs::File;
@@ -294,8 +294,8 @@ fn main() {
         if length > 576 { out.refused = true; writeln!(out.text, "{n} idp refused LengthLarge {length}").unwrap(); continue; }
         if have < needed { out.refused = true; writeln!(out.text, "{n} idp refused Cut {needed} {have}").unwrap(); continue; }
         let found = be(&bytes[0..2]) as u16;
-        let computed = cycle(&bytes[2..needed]);
-        if found != 0xffff && found != computed { out.refused = true; writeln!(out.text, "{n} idp refused BadSum {found:04x} {computed:04x}").unwrap(); continue; }
+        let computed = if found == NO_SUM { found } else { cycle(&bytes[2..needed]) };
+        if found != computed { out.refused = true; writeln!(out.text, "{n} idp refused BadSum {found:04x} {computed:04x}").unwrap(); continue; }
         if bytes[5] != 5 { continue; }
         let b = &bytes[30..length];
         if b.len() < 12 { out.refused = true; writeln!(out.text, "{n} inner refused Short {}", b.len()).unwrap(); continue; }

@@ -4,7 +4,7 @@
 #[path = "peer/packets.rs"]
 mod packets;
 
-use packets::{be, cycle, nearest, next_line, nibble};
+use packets::{NO_SUM, be, cycle, nearest, next_line, nibble};
 use std::collections::HashMap;
 use std::io::{self, Write};
 
@@ -60,11 +60,11 @@ fn main() {
                 else if have < needed { refused = true; writeln!(out, "{n} idp refused Cut {needed} {have}").unwrap(); }
                 else {
                     let found = be(&bytes[0..2]) as u16;
-                    let computed = cycle(&bytes[2..needed]);
-                    if found != 0xffff && found != computed { refused = true; writeln!(out, "{n} idp refused BadSum {found:04x} {computed:04x}").unwrap(); }
+                    let computed = if found == NO_SUM { found } else { cycle(&bytes[2..needed]) };
+                    if found != computed { refused = true; writeln!(out, "{n} idp refused BadSum {found:04x} {computed:04x}").unwrap(); }
                     else {
                         write!(out, "{n} idp length {length} sum ").unwrap();
-                        if found == 0xffff { out.extend_from_slice(b"none"); } else { write!(out, "{found:04x}").unwrap(); }
+                        if found == NO_SUM { out.extend_from_slice(b"none"); } else { write!(out, "{found:04x}").unwrap(); }
                         writeln!(out, " control {} type {} to {:08x}.{:012x}.{:04x} from {:08x}.{:012x}.{:04x}", bytes[4], bytes[5],
                             be(&bytes[6..10]), be(&bytes[10..16]), be(&bytes[16..18]), be(&bytes[18..22]), be(&bytes[22..28]), be(&bytes[28..30])).unwrap();
                         let b = &bytes[30..length];

@@ -3,6 +3,9 @@
 
 use std::io::BufRead;
 
+/// The field of a packet without a checksum.
+pub const NO_SUM: u16 = 0xffff;
+
 /// The checksum by the standard's loop: for each word add it with end-around carry, and rotate left by one.
 #[inline]
 pub fn cycle(bytes: &[u8]) -> u16 {
