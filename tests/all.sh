@@ -23,10 +23,18 @@ rt ci
 BUILT_BY_GATE=yes
 export BUILT_BY_GATE
 python3 tests/reading.py --check
-for script in pages program files notation conversations calls plays refusals; do
-    sh "tests/$script.sh"
-done
-wait
+# Runs the scripts side by side, and what else was begun to its end. What each script says is shown in turn; one that failed ends the run.
+run_scripts() {
+    for script in "$@"; do
+        (sh "tests/$script.sh" > "$copy/$script.said" 2>&1 && : > "$copy/$script.passed") &
+    done
+    wait
+    for script in "$@"; do
+        cat "$copy/$script.said"
+        [ -e "$copy/$script.passed" ]
+    done
+}
+run_scripts pages program files notation conversations calls plays refusals
 for folder in "$copy"/crates/*/out; do
     out=crates/$(basename "$(dirname "$folder")")/out
     mkdir -p "$out"
