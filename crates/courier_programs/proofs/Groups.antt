@@ -46,7 +46,7 @@ no_more_components {e} {one} {seen} {st} {groups} {i} r le = sym r.so_far ∙ ap
 
 -- ---- candidates
 
--- the same of candidates
+-- what is meant of the groups of candidates so far, with those that are left, is the total
 pub record CandidatesTo (e : Env) (tag : Option Members) (one : TypeModel → ℕ → Result (NamedModel × ℕ) NameFault) (taken : Members) (st : Candidates × ℕ) (groups : List (Vec Designator Global × WrittenType)) (i : ℕ) (total : Result (Candidates × ℕ) NameFault) : Type 0 where
   pub so_far : candidates_meant e tag one taken st (candidates_from (candidate_models (drop i groups))) ≡ total
 

@@ -103,7 +103,7 @@ ends_begin_all : (text : ℕ → List ℕ) → ((part : ℕ) → Begins (text pa
 ends_begin_all text grows part count few =
     let e : part + (count - part) ≡ count = omega (arith, few) in subst (λ n. Begins (text part) (text n)) e (ends_begin text grows part (count - part))
 
--- it stopped at a line
+-- a run that stopped at a line
 pub lines_short : (most : ℕ) (end_count : EndCount (List ℕ)) (f : RunFault) (input read : List ℕ) (left : ℕ → Says) → StopsShort most f read (left 0) → StopsAt most end_count f input read left
 lines_short most end_count f input read left h = record {
   good = h.good;
@@ -118,7 +118,7 @@ lines_short most end_count f input read left h = record {
 }
 
 module _ {P : Type 0} (most : ℕ) (output : Output P (List ℕ)) where
-  -- it stopped at the end
+  -- a run that stopped in the end of the input
   pub end_short : (f : RunFault) (pages : Pages P) (before after : Option (List ℕ)) (input : List ℕ) → IsWithinLimits most input
       → StopsInEnd output f (output.end_count (lines_of input)) pages before after (lines_of input)
       → StopsAt most output.end_count f input input (λ part. StandsAfter f (Stands output part pages before after) (HasFailed output part pages before after))

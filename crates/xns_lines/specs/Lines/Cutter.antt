@@ -48,7 +48,7 @@ StandsAfter _ stands fails lines = stands lines
 abbrev pub StandsAfterLine : RunFault → Says → Says → List (List ℕ) → List ℕ → Type 0
 StandsAfterLine f stands fails lines line = StandsAfterThing f stands fails lines line
 
--- it stopped within these bytes, and of the lines that are over at that place this is so
+-- the cutter stopped within these bytes, and `left` holds of the lines that are over at that place
 pub record IsCutShort (most : ℕ) (f : RunFault) (taken : List ℕ) (left : Says) : Type 0 where
   pub front : List ℕ
   pub more : List ℕ
