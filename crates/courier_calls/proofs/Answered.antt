@@ -9,7 +9,6 @@ use Rattle.xns_spp.specs.Growth.{Begins}
 use Rattle.xns_spp.specs.Fronts.{begins_itself, begins_map, begins_length, all_front, all_weaker}
 use Rattle.courier_types.specs.Laws.{WrittenValueIsRead}
 use Rattle.courier_messages.specs.declared.message.Message.{Message}
-use Rattle.courier_messages.specs.declared.message.Message.TheVariants.{Call, Reject, Return, Abort}
 use Rattle.courier_messages.specs.Called.{calls_of}
 use Rattle.courier_messages.specs.Conversation.{conversation}
 use Rattle.courier_messages.specs.RawCalls.{RawCall, IsShortCall, numbered, numbered_message, caller_items}
@@ -20,6 +19,7 @@ use Rattle.courier_calls.specs.Caller.{answers}
 use Rattle.courier_calls.specs.Server.{decided_calls, server_items}
 use Rattle.courier_calls.specs.Laws.{AllIsAnswered}
 use Rattle.courier_calls.proofs.Both.{server_items_are}
+use Rattle.courier_calls.proofs.FewCalls.{calls_few}
 use Rattle.courier_calls.proofs.Lawful.{Values, keeps_all}
 use Rattle.courier_calls.proofs.Sides.{replies, raws_numbered, length-replies, replies_short, answers_are}
 
@@ -55,14 +55,6 @@ back_of serving IsServiceState k s calls f g can fitting p q =
 
 length-numbered : (calls : List RawCall) → length (numbered 1 calls) ≡ length calls
 length-numbered calls = sym (length-map (numbered 1 calls) (λ (c : ℕ × RawCall). c.1)) ∙ ap (length {A = RawCall}) (raws_numbered 1 calls)
-
-calls_few : (ms : List Message) → length (calls_of ms) ≤ length ms
-unfolding calls_of
-calls_few [] = omega arith
-calls_few (Call t p v q ws ∷ ms) = omega (arith, calls_few ms)
-calls_few (Reject t r ws ∷ ms) = omega arith
-calls_few (Return t ws ∷ ms) = omega arith
-calls_few (Abort t e ws ∷ ms) = omega arith
 
 -- all calls were heard, and all answers read
 whole_read : {S : Type 0} (serving : Serving S) (IsServiceState : S → Type 0) → Known serving IsServiceState → (s : S) (calls : List RawCall) → IsServiceState s → AllByRecursion IsFitting calls

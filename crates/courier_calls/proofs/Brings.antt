@@ -6,8 +6,6 @@ use Rattle.xns_spp.specs.declared.item.Item.{Item}
 use Rattle.xns_spp.specs.Item.{IsItem}
 use Rattle.courier_types.specs.Laws.{WrittenValueIsRead}
 use Rattle.courier_messages.specs.declared.fault.SessionFault.{SessionFault}
-use Rattle.courier_messages.specs.declared.message.Message.{Message}
-use Rattle.courier_messages.specs.declared.message.Message.TheVariants.{Call, Reject, Return, Abort}
 use Rattle.courier_messages.specs.Message.{most_bytes}
 use Rattle.courier_messages.specs.Text.{signs}
 use Rattle.courier_messages.specs.Conversation.{Phase, conversation}
@@ -22,6 +20,7 @@ use Rattle.courier_messages.specs.Laws.{IsShort, OneItemMore, AServerHearsOneIte
 use Rattle.courier_messages.specs.Called.{calls_of, raws, server_ending}
 use Rattle.courier_calls.specs.Laws.{BringsNone, BringsOne, BringsAtMostOne}
 use Rattle.xns_spp.specs.Fronts.{all_front}
+use Rattle.courier_calls.proofs.FewCalls.{calls_few}
 use Rattle.courier_calls.proofs.Lawful.{Values, keeps, keeps_all}
 use Rattle.courier_calls.proofs.Numbers.{IsHeard, heard_numbers}
 use Rattle.courier_calls.proofs.Sent.{raws_words}
@@ -29,14 +28,6 @@ use Rattle.courier_calls.proofs.Serves.{answers_append}
 use Rattle.courier_calls.proofs.Sides.{reply_read}
 
 -- ---- the calls of one item
-
-calls_few : (ms : List Message) → length (calls_of ms) ≤ length ms
-unfolding calls_of
-calls_few [] = omega arith
-calls_few (Call t p v q ws ∷ ms) = omega (arith, calls_few ms)
-calls_few (Reject t r ws ∷ ms) = omega arith
-calls_few (Return t ws ∷ ms) = omega arith
-calls_few (Abort t n ws ∷ ms) = omega arith
 
 -- what the laws of messages give here
 pub record Messages : Type 0 where

@@ -1,5 +1,7 @@
 //! Reading an answer.
-ghost use Rattle.std.specs.Prelude.{◌≡◌, ℕ, List, Ok};
+ghost use Rattle.std.specs.Prelude.{◌≡◌, ℕ, List, None, Ok, Err, Some, is_ok, true};
+ghost use Rattle.courier_messages.specs.declared.fault.SessionFault.TheVariants.{NoMemory};
+ghost use Rattle.courier_messages.specs.declared.message.Message.TheVariants.{Abort};
 ghost use Rattle.courier_calls.specs.Table.{table_model, IsCheckedTable};
 ghost use Rattle.courier_messages.specs.Head.{with_words, words_in};
 ghost use Rattle.courier_calls.specs.Calls.{SeenModel, found};
@@ -34,8 +36,9 @@ fn read_return(
     message: &PiecedMessage,
 ) -> Result<Seen, SessionFault>
     requires { IsCheckedTable (table_model table.now) }
-    ensures { IsReadAs result (results_in (found (table_model table.now) target.program target.version target.procedure)
+    ensures read { IsReadAs result (results_in (found (table_model table.now) target.program target.version target.procedure)
         (words_in message.now)) }
+    ensures memory { result ≡ Err NoMemory → is_ok (found (table_model table.now) target.program target.version target.procedure) ≡ true }
 {
     let Ok((_, listed)) = table.find(target.program, target.version, target.procedure) else {
         return Err(SessionFault::BadReply);
@@ -56,8 +59,10 @@ fn read_abort(
     message: &PiecedMessage,
 ) -> Result<Seen, SessionFault>
     requires { IsCheckedTable (table_model table.now) }
-    ensures { IsReadAs result (abort_in (found (table_model table.now) target.program target.version target.procedure) error
+    ensures read { IsReadAs result (abort_in (found (table_model table.now) target.program target.version target.procedure) error
         (words_in message.now)) }
+    ensures memory { result ≡ Err NoMemory → (transaction : ℕ) → is_listed (found (table_model table.now) target.program
+        target.version target.procedure) (Abort transaction error (words_in message.now)) ≡ true }
 {
     let Ok((entry, _)) = table.find(target.program, target.version, target.procedure) else {
         return Err(SessionFault::BadReply);
@@ -72,7 +77,7 @@ fn read_abort(
 }
 
 /// Reads the message as the answer to the call that waits. An `Err` says why the message is no answer, or that memory
-/// was refused.
+/// was refused, which it is only where nothing but the message's words can be wrong.
 #[tactic(auto, unfolding(crate::specs::Caller::answer_to))]
 pub fn read_answer(
     alloc: Global,
@@ -82,7 +87,8 @@ pub fn read_answer(
     message: &PiecedMessage,
 ) -> Result<Seen, SessionFault>
     requires { IsCheckedTable (table_model table.now) }
-    ensures { IsReadAs result (answer_to (table_model table.now) expects target.program target.version target.procedure message.now) }
+    ensures read { IsReadAs result (answer_to (table_model table.now) expects target.program target.version target.procedure message.now) }
+    ensures memory { result ≡ Err NoMemory → head_fault (table_model table.now) expects (Some target) message.now ≡ None }
 {
     match message.head() {
         Head::Call { .. } => Err(SessionFault::BadReply),
@@ -116,15 +122,18 @@ fn is_listed(table: &Table, target: Target, head: Head) -> bool
     ensures { (words : List ℕ) → result ≡ is_listed (found (table_model table.now) target.program target.version target.procedure)
         (with_words head words) }
 {
-    let listed = table.find(target.program, target.version, target.procedure);
     match head {
         Head::Call { .. } => false,
         Head::Reject { .. } => true,
-        Head::Return { .. } => listed.is_ok(),
-        Head::Abort { error, .. } => match listed {
-            Ok((entry, _)) => entry.error(error).is_some(),
-            Err(_) => false,
-        },
+        Head::Return { .. } => table
+            .find(target.program, target.version, target.procedure)
+            .is_ok(),
+        Head::Abort { error, .. } => {
+            match table.find(target.program, target.version, target.procedure) {
+                Ok((entry, _)) => entry.error(error).is_some(),
+                Err(_) => false,
+            }
+        }
     }
 }
 

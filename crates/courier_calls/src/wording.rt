@@ -1,14 +1,15 @@
 //! The words of messages that go out.
 ghost use Rattle.std.specs.Prelude.{◌≡◌, [], ◌≤◌, ◌*◌, length, IfOk, Ok};
 ghost use Rattle.courier_messages.specs.Message.{message_words, most_words};
-ghost use Rattle.courier_calls.specs.Table.{entry_model, procedure_model, table_model};
-ghost use Rattle.courier_calls.specs.Calls.{AllowsOutcome, outcome_model, seen_of, unlisted_model, HasGoodArguments, call_model, raw_call};
+ghost use Rattle.courier_calls.specs.Table.{entry_model, procedure_model};
+ghost use Rattle.courier_calls.specs.Calls.{AllowsOutcome, outcome_model, seen_of, unlisted_model, arguments_model, raw_call};
+ghost use Rattle.courier_calls.specs.Written.{IsWritten};
 ghost use Rattle.courier_calls.specs.Calls.{SeenModel, invalid_arguments};
 ghost use Rattle.courier_calls.specs.Answers.{answer_message};
 ghost use Rattle.courier_messages.specs.RawCalls.{call_message};
 
-use crate::call::{Arguments, Call, Outcome};
-use crate::table::{Entry, Procedure, Table, Unlisted};
+use crate::call::{Call, Outcome, Written};
+use crate::table::{Entry, Procedure, Unlisted};
 use courier_messages::Spare;
 use courier_messages::kinds::{ABORT, CALL, REJECT, RETURN};
 use courier_types::write;
@@ -84,29 +85,23 @@ pub fn unread_words(alloc: Global, transaction: u16) -> Result<Vec<u16>, AllocEr
 }
 
 /// The words of a call's message, in the spare room.
-#[tactic(auto, unfolding(crate::specs::Calls::found))]
 pub fn call_words(
     alloc: Global,
-    table: &Table,
     transaction: u16,
     call: &Call,
+    written: Written,
     spare: &mut Spare,
 ) -> Result<Vec<u16>, AllocError>
-    requires { HasGoodArguments (table_model table.now) (call_model call.now) }
+    requires { IsWritten (arguments_model call.now.arguments) written }
     ensures { IfOk result (λ w. w.items ≡ message_words (call_message transaction (raw_call call.now))) }
 {
     let high = (call.program / 65536) as u16;
     let low = (call.program % 65536) as u16;
     let mut words = spare.take(alloc)?;
     words.extend_from_slice(&[CALL, transaction, high, low, call.version, call.procedure])?;
-    match &call.arguments {
-        Arguments::Raw(given) => words.extend_from_slice(given.as_slice())?,
-        Arguments::Typed(value) => {
-            let Ok((_, listed)) = table.find(call.program, call.version, call.procedure) else {
-                unreachable!()
-            };
-            write(alloc, &listed.arguments, value, &mut words)?;
-        }
+    match written {
+        Written::Words(given) => words.extend_from_slice(given)?,
+        Written::Value(shape, value) => write(alloc, shape, value, &mut words)?,
     }
     Ok(words)
 }

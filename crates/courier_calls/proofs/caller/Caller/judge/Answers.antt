@@ -1,4 +1,4 @@
-use Rattle.std.proofs.Common.{◌≡◌, ◌∙◌, ap, rules, subst, sym, ℕ, List, [], ◌∷◌, map, Err, Option, Result}
+use Rattle.std.proofs.Common.{◌≡◌, ◌∙◌, ap, inr, rules, subst, sym, ℕ, List, [], ◌∷◌, map, Err, Option, Result}
 use Rattle.std.specs.Option.{option_to_list}
 use Rattle.courier_messages.specs.declared.fault.SessionFault.{SessionFault}
 use Rattle.courier_messages.specs.declared.head.Head.{Head}
@@ -24,7 +24,7 @@ returns-in_err-head c =
 pub returns-in_default : goal.returns-in_default
 returns-in_default c =
     let k = rw c.as_slice.ensures at c.in_ok-head.ensures in
-    rw (← c.self.view_is) (nothing_yet _ _ _ k.0 (k.1 ∙ ap (λ (o : Option Head). option_to_list o) c.in_default.is))
+    rw (← c.self.view_is) (inr (nothing_yet _ _ _ k.0 (k.1 ∙ ap (λ (o : Option Head). option_to_list o) c.in_default.is)))
 
 pub returns-in-Some-head_fault : goal.returns-in-Some-head_fault
 returns-in-Some-head_fault c =
@@ -39,5 +39,5 @@ returns-in-Some-head_fault c =
 pub returns-in-None : goal.returns-in-None
 returns-in-None c =
     let k = rw c.as_slice.ensures at c.in_ok-head.ensures in
-    rw (← c.self.view_is) (right_head _ _ _ c.in-Some.head c.head_fault.result c.in-None.is k.0
-    (k.1 ∙ ap (λ (o : Option Head). option_to_list o) c.in-Some.is) c.head_fault.ensures)
+    rw (← c.self.view_is) (inr (right_head _ _ _ c.in-Some.head c.head_fault.result c.in-None.is k.0
+    (k.1 ∙ ap (λ (o : Option Head). option_to_list o) c.in-Some.is) c.head_fault.ensures))

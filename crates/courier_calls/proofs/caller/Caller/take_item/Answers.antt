@@ -20,7 +20,7 @@ pub returns-clause-heard : goal.returns-clause-heard
 returns-clause-heard c =
     let takes = c.in_ok-message.ensures.takes in
     rw (← c.self.view_is) (hears_answer _ _ _ _ c.in-Some.message (takes.1 ∙ ap (λ (o : Option Message). option_to_list o) c.in-Some.is) takes.0
-    (record { target = c.in-Some-waiting.target; seen = seen_model c.in_ok-seen.seen; waited = c.in-Some-waiting.is; answer = c.in_ok-seen.ensures; waiting = refl; outcome = refl }))
+    (record { target = c.in-Some-waiting.target; seen = seen_model c.in_ok-seen.seen; waited = c.in-Some-waiting.is; answer = c.in_ok-seen.ensures.read; waiting = refl; outcome = refl }))
 
 pub returns-in_default-clause-memory : goal.returns-in_default-clause-memory
 returns-in_default-clause-memory c = search rules

@@ -24,7 +24,7 @@ returns-in_err-answer-clause-taken g c =
     let m = c.args.message.now in
     let w : c.from_residual-in_err-answer.result ≡ Err NoMemory = search rules in
     let message = c.head.ensures ∙ ap (λ (h : Head). with_words h (words_in m)) c.in-Call.is in
-    runs_out g.S.Service.serving _ _ m c.from_residual-in_err-answer.result c.in-Call.transaction (words_call c.in-Call.program c.in-Call.version c.in-Call.procedure (words_in m)) w message (c.in_err-answer.ensures.silent ∙ sym c.requires) c.in_err-answer.ensures.refused
+    runs_out g.S.Service.serving _ _ m c.from_residual-in_err-answer.result c.in-Call.transaction (words_call c.in-Call.program c.in-Call.version c.in-Call.procedure (words_in m)) w message (c.in_err-answer.ensures.silent ∙ sym c.requires) (rw (c.as_slice.ensures, c.in_ok-words.ensures.words) at c.in_err-answer.ensures.refused)
 
 pub returns-clause-taken : goal.returns-clause-taken
 returns-clause-taken g c =
@@ -33,8 +33,8 @@ returns-clause-taken g c =
     let call = ap (λ (ws : List ℕ). Call c.in-Call.transaction c.in-Call.program c.in-Call.version c.in-Call.procedure ws) (sym c.in_ok-words.ensures.words) in
     one_call g.S.Service.serving _ _ _ _ c.in-Call.transaction (words_call c.in-Call.program c.in-Call.version c.in-Call.procedure c.in_ok-words.words)
     (ap (λ (n : Message). n ∷ []) (message ∙ call)) (ap (λ p. Ok p) (sym c.in_ok-answer.ensures.phase))
-    (rw (← c.in_ok-words.ensures.words) at c.in_ok-answer.ensures.state)
-    (rw (← c.in_ok-words.ensures.words) at c.in_ok-answer.ensures.out)
+    (rw c.as_slice.ensures at c.in_ok-answer.ensures.state)
+    (rw c.as_slice.ensures at c.in_ok-answer.ensures.out)
 
 pub returns-clause-out : goal.returns-clause-out
 returns-clause-out g c =
@@ -43,5 +43,5 @@ returns-clause-out g c =
     let call = ap (λ (ws : List ℕ). Call c.in-Call.transaction c.in-Call.program c.in-Call.version c.in-Call.procedure ws) (sym c.in_ok-words.ensures.words) in (
       c.in-Call.transaction,
       ap (λ (n : Message). n ∷ []) (message ∙ call),
-      rw (← c.in_ok-words.ensures.words) at c.in_ok-answer.ensures.out,
+      rw c.as_slice.ensures at c.in_ok-answer.ensures.out,
     )

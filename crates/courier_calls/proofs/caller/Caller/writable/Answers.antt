@@ -1,8 +1,8 @@
 use Rattle.std.proofs.Common.{rules}
-use Rattle.courier_calls.proofs.caller.Caller.call_fault.Goals as goal
+use Rattle.courier_calls.proofs.caller.Caller.writable.Goals as goal
 
-pub returns-then-not-has_good_arguments-clause-answer : goal.returns-then-not-has_good_arguments-clause-answer
-returns-then-not-has_good_arguments-clause-answer c = search rules
+pub returns-in_default-clause-answer : goal.returns-in_default-clause-answer
+returns-in_default-clause-answer c = search rules
 
 pub returns-then-is_none-clause-answer : goal.returns-then-is_none-clause-answer
 returns-then-is_none-clause-answer c = search rules
