@@ -1,4 +1,4 @@
--- What appending a text to a vector answers.
+-- What a function returns that appends a text to a vector.
 use Rattle.std.specs.Prelude.{◌≡◌, ℕ, ◌+◌, ◌<◌, ◌≤◌, List, ◌++◌, length, Result, Ok, Err, Vec, vec_len, vec_capacity}
 use Rattle.std.specs.Global.{Global}
 

@@ -1,10 +1,10 @@
 -- Calls, returns and aborts by name (XSIS 038112, Courier). The form of the texts is this project's.
-use Rattle.std.specs.Prelude.{◌≡◌, ℕ, List, ◌++◌, Option, Some, None, IsSomeAnd, Result, Ok, Err, codes}
+use Rattle.std.specs.Prelude.{◌≡◌, ℕ, List, ◌++◌, Option, Some, None, IsSomeAnd, Result, Ok, Err, codes, option_map}
 use Rattle.std.specs.Global.{Vec}
 use Rattle.std.specs.Fmt.{decimal}
 use Rattle.courier_programs.specs.declared.program.Program.{Program}
 use Rattle.courier_programs.specs.Declarations.{error_by, procedure_by}
-use Rattle.courier_programs.specs.Meanings.{ErrorModel, ProcedureModel, ResolvedModel, resolved_model}
+use Rattle.courier_programs.specs.Meanings.{FieldsModel, ResolvedModel, resolved_model}
 use Rattle.courier_programs.specs.Scopes.{program_by}
 use Rattle.call_texts.specs.declared.unread.Unshown.{Unshown}
 use Rattle.call_texts.specs.declared.unread.Unshown.TheVariants as unshown
@@ -26,47 +26,32 @@ ShowsDeclared (Err unshown.NoMemory) text = Unit {0}
 abbrev pub program_name : ResolvedModel → List ℕ
 program_name p = p.name ++ codes " " ++ decimal p.number ++ codes "." ++ decimal p.version
 
--- ---- calls
+-- ---- calls and what came back
 
-abbrev pub called : ResolvedModel → List ℕ → Option ProcedureModel → Option (Result (List ℕ) UnreadModel)
-called p words (Some q) = Some (behind (program_name p ++ codes " " ++ q.name ++ codes " ") (shown q.arguments words))
-called p words None = None
+-- The text of what a program declares, found in the program and shown. None where there is no program, or the program does not
+-- declare it.
+abbrev pub declared_shown : {A : Type 0} → (ResolvedModel → Option A) → (ResolvedModel → A → Result (List ℕ) UnreadModel) → Option Program → Option (Result (List ℕ) UnreadModel)
+declared_shown find show (Some p) = option_map (show (resolved_model p)) (find (resolved_model p))
+declared_shown find show None = None
 
-abbrev pub called_in : ℕ → List ℕ → Option Program → Option (Result (List ℕ) UnreadModel)
-called_in procedure words (Some p) = called (resolved_model p) words (procedure_by (resolved_model p).procedures procedure)
-called_in procedure words None = None
+-- a return or an abort: a name and components
+abbrev pub named_shown : List ℕ → FieldsModel → List ℕ → Result (List ℕ) UnreadModel
+named_shown name fields words = behind (name ++ codes " ") (shown fields words)
 
 -- a call: the program, the procedure and the arguments, where they are declared
 unfoldable pub call_shown : List Program → ℕ → ℕ → ℕ → List ℕ → Option (Result (List ℕ) UnreadModel)
-call_shown programs program version procedure words = called_in procedure words (program_by programs program version)
-
--- ---- returns
-
-abbrev pub returned : List ℕ → Option ProcedureModel → Option (Result (List ℕ) UnreadModel)
-returned words (Some q) = Some (behind (q.name ++ codes " ") (shown q.results words))
-returned words None = None
-
-abbrev pub returned_in : ℕ → List ℕ → Option Program → Option (Result (List ℕ) UnreadModel)
-returned_in procedure words (Some p) = returned words (procedure_by (resolved_model p).procedures procedure)
-returned_in procedure words None = None
+call_shown programs program version procedure words = declared_shown (λ p. procedure_by p.procedures procedure)
+    (λ p q. behind (program_name p ++ codes " " ++ q.name ++ codes " ") (shown q.arguments words)) (program_by programs program version)
 
 -- a return of a call: the procedure and the results
 unfoldable pub return_shown : List Program → ℕ → ℕ → ℕ → List ℕ → Option (Result (List ℕ) UnreadModel)
-return_shown programs program version procedure words = returned_in procedure words (program_by programs program version)
-
--- ---- aborts
-
-abbrev pub aborted : List ℕ → Option ErrorModel → Option (Result (List ℕ) UnreadModel)
-aborted words (Some r) = Some (behind (r.name ++ codes " ") (shown r.arguments words))
-aborted words None = None
-
-abbrev pub aborted_in : ℕ → List ℕ → Option Program → Option (Result (List ℕ) UnreadModel)
-aborted_in error words (Some p) = aborted words (error_by (resolved_model p).errors error)
-aborted_in error words None = None
+return_shown programs program version procedure words = declared_shown (λ p. procedure_by p.procedures procedure)
+    (λ p q. named_shown q.name q.results words) (program_by programs program version)
 
 -- an abort of a call: the error and its arguments
 unfoldable pub abort_shown : List Program → ℕ → ℕ → ℕ → List ℕ → Option (Result (List ℕ) UnreadModel)
-abort_shown programs program version error words = aborted_in error words (program_by programs program version)
+abort_shown programs program version error words = declared_shown (λ p. error_by p.errors error)
+    (λ p r. named_shown r.name r.arguments words) (program_by programs program version)
 
 -- ---- memory
 

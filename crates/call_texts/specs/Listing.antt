@@ -1,5 +1,5 @@
 -- A program line by line. The form of the lines is this project's.
-use Rattle.std.specs.Prelude.{◌≡◌, ℕ, List, [], ◌∷◌, ◌++◌, codes}
+use Rattle.std.specs.Prelude.{ℕ, List, [], ◌∷◌, ◌++◌, codes}
 use Rattle.std.specs.Fmt.{decimal}
 use Rattle.std.specs.List.{flat_map}
 use Rattle.courier_programs.specs.Meanings.{Components, ErrorModel, ProcedureModel, ResolvedModel}

@@ -19,7 +19,7 @@ use Rattle.call_texts.specs.declared.unread.Unshown.TheVariants as unshown
 abbrev pub UnreadModel : Type 0
 UnreadModel = ℕ × UnreadReason
 
--- a function answered that text, or why there is none, unless memory ran out
+-- a function returned that text, or why there is none, unless memory ran out
 abbrev pub Shows : Result (Vec ℕ) Unshown → Result (List ℕ) UnreadModel → Type 0
 Shows (Ok v) text = text ≡ Ok v.items
 Shows (Err (unshown.Unread u)) text = text ≡ Err (u.place, u.reason)

@@ -1,14 +1,14 @@
 //! The texts of calls, returns and aborts.
 
 ghost use Rattle.std.specs.Prelude.{◌≡◌, ◌+◌, ◌<◌, ◌++◌, IfOk, OnErr, codes, length, vec_capacity, vec_len};
-ghost use Rattle.courier_programs.specs.Meanings.{resolved_model};
-ghost use Rattle.call_texts.specs.Calls.{AbortWants, CallWants, ReturnWants, ShowsDeclared, abort_shown, call_shown, program_name, return_shown};
-ghost use Rattle.call_texts.specs.Showing.{IfNoMemory};
+ghost use Rattle.courier_programs.specs.Meanings.{fields_model, resolved_model};
+ghost use Rattle.call_texts.specs.Calls.{AbortWants, CallWants, ReturnWants, ShowsDeclared, abort_shown, call_shown, named_shown, program_name, return_shown};
+ghost use Rattle.call_texts.specs.Showing.{IfNoMemory, ShowingWants, Shows};
 
 use crate::appending::append_program_name;
 use crate::showing::show;
 use crate::unread::Unshown;
-use courier_programs::{Program, error_of, procedure_of, program_of};
+use courier_programs::{Fields, Program, error_of, procedure_of, program_of};
 use std::alloc::{AllocError, Global};
 
 /// The text behind a front.
@@ -33,14 +33,21 @@ fn call_front(alloc: Global, program: &Program, name: &[u8]) -> Result<Vec<u8>, 
     Ok(front)
 }
 
-/// What a text of an answer begins with.
-fn name_front(alloc: Global, name: &[u8]) -> Result<Vec<u8>, AllocError>
-    ensures { IfOk result (λ front. front.items ≡ name.now ++ codes " ") }
+/// The text of a return or an abort: the name, and the record that the words are.
+fn named_text(
+    alloc: Global,
+    name: &[u8],
+    fields: &Fields,
+    words: &[u16],
+) -> Result<Vec<u8>, Unshown>
+    ensures exact { Shows result (named_shown name.now (fields_model fields.now) words.now) }
+    ensures memory { IfNoMemory result (ShowingWants (fields_model fields.now) words.now) }
 {
+    let text = show(alloc, fields, words)?;
     let mut front = Vec::new(alloc);
     front.extend_from_slice(name)?;
     front.extend_from_slice(b" ")?;
-    Ok(front)
+    Ok(text_behind(front, &text)?)
 }
 
 /// The text of a call with these words as arguments. `None` where the program, in this version, or the procedure
@@ -57,17 +64,15 @@ pub fn call_text(
     ensures exact { ShowsDeclared result (call_shown programs.now program version procedure words.now) }
     ensures memory { IfNoMemory result (CallWants programs.now program version procedure words.now) }
 {
-    match program_of(programs, program, version) {
-        Some(found) => match procedure_of(&found.procedures, procedure) {
-            Some(called) => {
-                let text = show(alloc, &called.arguments, words)?;
-                let front = call_front(alloc, found, &called.name)?;
-                Ok(Some(text_behind(front, &text)?))
-            }
-            None => Ok(None),
-        },
-        None => Ok(None),
-    }
+    let Some(found) = program_of(programs, program, version) else {
+        return Ok(None);
+    };
+    let Some(called) = procedure_of(&found.procedures, procedure) else {
+        return Ok(None);
+    };
+    let text = show(alloc, &called.arguments, words)?;
+    let front = call_front(alloc, found, &called.name)?;
+    Ok(Some(text_behind(front, &text)?))
 }
 
 /// The text of a return of a call, with these words as results. `None` where the call's program, in this version,
@@ -84,15 +89,11 @@ pub fn return_text(
     ensures exact { ShowsDeclared result (return_shown programs.now program version procedure words.now) }
     ensures memory { IfNoMemory result (ReturnWants programs.now program version procedure words.now) }
 {
-    match program_of(programs, program, version) {
-        Some(found) => match procedure_of(&found.procedures, procedure) {
-            Some(called) => {
-                let text = show(alloc, &called.results, words)?;
-                let front = name_front(alloc, &called.name)?;
-                Ok(Some(text_behind(front, &text)?))
-            }
-            None => Ok(None),
-        },
+    let Some(found) = program_of(programs, program, version) else {
+        return Ok(None);
+    };
+    match procedure_of(&found.procedures, procedure) {
+        Some(called) => Ok(Some(named_text(alloc, &called.name, &called.results, words)?)),
         None => Ok(None),
     }
 }
@@ -111,15 +112,11 @@ pub fn abort_text(
     ensures exact { ShowsDeclared result (abort_shown programs.now program version error words.now) }
     ensures memory { IfNoMemory result (AbortWants programs.now program version error words.now) }
 {
-    match program_of(programs, program, version) {
-        Some(found) => match error_of(&found.errors, error) {
-            Some(raised) => {
-                let text = show(alloc, &raised.arguments, words)?;
-                let front = name_front(alloc, &raised.name)?;
-                Ok(Some(text_behind(front, &text)?))
-            }
-            None => Ok(None),
-        },
+    let Some(found) = program_of(programs, program, version) else {
+        return Ok(None);
+    };
+    match error_of(&found.errors, error) {
+        Some(raised) => Ok(Some(named_text(alloc, &raised.name, &raised.arguments, words)?)),
         None => Ok(None),
     }
 }

@@ -1,5 +1,5 @@
 -- A text read token by token, as the loop does.
-use Rattle.std.proofs.Common.{◌≡◌, ℕ, suc, ◌-◌, ◌+◌, ◌≤◌, ◌<◌, List, [], ◌∷◌, length, false, Result, Ok, Err, refl, sym, ap, ◌∙◌, ◌⊎◌, inl, inr, get_or, drop, arith}
+use Rattle.std.proofs.Common.{◌≡◌, ℕ, suc, ◌-◌, ◌+◌, ◌≤◌, ◌<◌, List, [], ◌∷◌, length, false, Result, Ok, Err, refl, sym, ap, ◌∙◌, ◌⊎◌, inl, inr, arith}
 use Rattle.courier_notation.specs.declared.reason.Reason.TheVariants.{TooManyTokens}
 use Rattle.courier_notation.specs.declared.stop.Stop.{Stop}
 use Rattle.courier_notation.specs.declared.stop.Stop.TheVariants as stops
@@ -7,10 +7,6 @@ use Rattle.courier_notation.specs.Reading.{Fault, Fails}
 use Rattle.courier_notation.specs.Lexing.{HasToken, Lexing, LexemeModel, with_lexeme, lexeme_in, skipped, lexed_at, lexed_from}
 
 -- a text that has bytes is its first byte and the others
-pub first_and_rest : (bytes : List ℕ) → 0 < length bytes → bytes ≡ get_or bytes 0 0 ∷ drop 1 bytes
-first_and_rest [] h = absurd (omega arith)
-first_and_rest (b ∷ bytes) h = refl
-
 pub text_ends : (most i : ℕ) (lexing : Lexing) (rest begun : List ℕ) (total : Result Lexing Fault) → i < most → begun ≡ skipped false rest → length begun ≡ 0 → lexed_from (most - i) lexing rest ≡ total → total ≡ Ok lexing
 unfolding lexed_from lexed_at
 text_ends most i lexing rest [] total lt h none so_far =

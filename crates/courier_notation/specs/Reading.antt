@@ -29,7 +29,7 @@ abbrev pub Fails : {Y : Type 0} → Stop → Result Y Fault → Type 0
 Fails (stops.Wrong left reason) reading = reading ≡ Err (left, reason)
 Fails stops.NoMemory reading = Unit {0}
 
--- a function answered what reading gives, seen by view, unless memory ran out
+-- a function returned what reading gives, seen by view, unless memory ran out
 abbrev pub Gives : {X Y : Type 0} → (X → Y) → Result X Stop → Result Y Fault → Type 0
 Gives view (Ok x) reading = reading ≡ Ok (view x)
 Gives view (Err stop) reading = Fails stop reading
@@ -39,7 +39,7 @@ abbrev pub Stops : {Y : Type 0} → Stop → Result Y Fault → Type 0
 Stops (stops.Wrong left reason) reading = reading ≡ Err (left, reason)
 Stops stops.NoMemory reading = ⊥
 
--- a function that wants no memory answered what reading gives, seen by view
+-- a function that wants no memory returned what reading gives, seen by view
 abbrev pub Reads : {X Y : Type 0} → (X → Y) → Result X Stop → Result Y Fault → Type 0
 Reads view (Ok x) reading = reading ≡ Ok (view x)
 Reads view (Err stop) reading = Stops stop reading
@@ -108,7 +108,7 @@ abbrev pub behind_comma : List Token → Option (List Token)
 behind_comma (tokens.Comma ∷ ts) = Some ts
 behind_comma ts = None
 
--- the other parts where there is a comma, else no more
+-- the parts behind a comma, if there is one; no more parts without it
 abbrev pub others_at : {A : Type 0} → Reader (List A) → List Token → Option (List Token) → Result (List A × List Token) Fault
 others_at others ts (Some next) = others next
 others_at others ts None = Ok ([], ts)

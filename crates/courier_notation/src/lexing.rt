@@ -11,7 +11,7 @@ use crate::stop::Stop;
 use crate::token::Token;
 use std::alloc::{AllocError, Global};
 
-/// Adds a name or a string, and answers its number.
+/// Adds a name or a string, and returns its number.
 fn add_text(alloc: Global, texts: &mut Vec<Vec<u8>>, text: &[u8]) -> Result<u32, AllocError>
     requires { vec_len texts.old < 65536 }
     ensures texts { OnOk result (map (λ v. v.items) texts.new.items ≡ map (λ v. v.items) texts.old.items ++ text.now ∷ []) }

@@ -4,6 +4,7 @@ pub mod LexedNamed
 pub mod Models
 pub mod Names
 pub mod ProgramsNamed
+pub mod Results
 pub mod TypesNamed
 pub mod Wants
 pub mod WrittenNamed

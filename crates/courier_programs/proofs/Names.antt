@@ -12,7 +12,7 @@ use Rattle.courier_programs.specs.Meanings.{MeaningList, MeaningModel, meaning_o
 use Rattle.courier_programs.specs.Refused.{NameFault, ◌>>=◌}
 use Rattle.courier_programs.specs.Scopes.{Env, look_up, program_named, text_of, type_by, type_named}
 
-same_bytes : (xs ys : List ℕ) → bytes_eq xs ys ≡ true → xs ≡ ys
+pub same_bytes : (xs ys : List ℕ) → bytes_eq xs ys ≡ true → xs ≡ ys
 same_bytes xs ys h = (bytes_eq-Decides xs ys).0 h
 
 by_test : (b : Bool) (x : List ℕ × MeaningModel) (xs : MeaningList) (name : List ℕ) (m : MeaningModel) → bytes_eq x.0 name ≡ b

@@ -18,7 +18,8 @@ use Rattle.courier_programs.specs.Resolving.{dependency_step, empty_program, rep
 use Rattle.courier_programs.specs.Scopes.{Env, depended_upon, dependency_of, program_by, program_named, read_or_unknown, spent, text_of, type_named, word_of}
 use Rattle.courier_programs.specs.Types.{array_meant, candidates_meant, choice_meant, components_meant, enumeration_meant, fields_meant, maximum_of, member_step, referred, sequence_meant, tag_members, type_level_meant, type_meant, variants_from}
 use Rattle.courier_programs.proofs.Names.{type_is_declared}
-use Rattle.courier_programs.proofs.TypesNamed.{FieldsIn, IsPlainIn, MakesAll, NamesIn, all_more, bind_ok, candidates_named, components_named, done, member_named, ok_is, over_ok, steps_keep}
+use Rattle.courier_programs.proofs.Results.{bind_ok, done, ok_is, over_ok}
+use Rattle.courier_programs.proofs.TypesNamed.{FieldsIn, IsPlainIn, MakesAll, NamesIn, all_more, candidates_named, components_named, member_named, steps_keep}
 
 -- ---- what is referred to
 

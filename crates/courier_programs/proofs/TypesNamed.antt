@@ -9,25 +9,12 @@ use Rattle.courier_notation.specs.Written.{TypeModel, FieldModels, no_fields, fi
 use Rattle.courier_texts.specs.Laws.{is_plain_name, NamesNoMember, HaveNames, NamesNoVariant, IsNamed, AreComponentsNamed, AreVariantsNamed}
 use Rattle.courier_texts.specs.Named.{NamedModel}
 use Rattle.courier_programs.specs.Meanings.{Components, components_from}
-use Rattle.courier_programs.specs.Refused.{NameFault, ◌>>=◌, over, steps}
+use Rattle.courier_programs.specs.Refused.{NameFault, steps}
+use Rattle.courier_programs.proofs.Results.{bind_ok, ok_is}
 use Rattle.courier_programs.specs.Scopes.{Env, spent, text_of}
-use Rattle.courier_programs.specs.Types.{Candidates, Designators, Members, candidate_group, candidate_step, candidates_meant, component_step, components_meant, designator_step, designator_word, member_step, member_word, new_name, once, variants_from, word_by_name}
+use Rattle.courier_programs.specs.Types.{Candidates, Designators, Members, candidate_group, candidate_step, candidates_meant, component_step, components_meant, designator_step, designator_word, member_step, member_word, named_part, new_name, once, variants_from, word_by_name}
 
 -- ---- steps
-
-pub bind_ok : {A B : Type 0} (r : Result A NameFault) (f : A → Result B NameFault) (t : B) → (r >>= f) ≡ Ok t → (x : A) × (r ≡ Ok x) × (f x ≡ Ok t)
-bind_ok (Ok x) f t is = (x, refl, is)
-bind_ok (Err e) f t is = absurd (cc)
-
-pub over_ok : {A B S : Type 0} (f : A → B) (r : Result (A × S) NameFault) (t : B × S) → over f r ≡ Ok t → (x : A × S) × (r ≡ Ok x) × (t ≡ (f x.0, x.1))
-over_ok f (Ok x) t is = (x, refl, cc)
-over_ok f (Err e) t is = absurd (cc)
-
-abbrev pub done : {A : Type 0} → A → Result A NameFault
-done x = Ok x
-
-pub ok_is : {A : Type 0} (x y : A) → done x ≡ done y → x ≡ y
-ok_is x y e = cc
 
 -- what each step keeps, all keep
 pub steps_keep : {S A : Type 0} (P : S → Type 0) (Q : A → Type 0) (f : S → A → Result S NameFault) → ((s : S) (x : A) (t : S) → f s x ≡ Ok t → Q x → P s → P t)
@@ -38,9 +25,6 @@ steps_keep P Q f one s (x ∷ xs) t is each here =
     steps_keep P Q f one b.0 xs t b.2 each.1 (one s x b.0 b.1 each.0 here)
 
 -- ---- members
-
-same_bytes : (xs ys : List ℕ) → bytes_eq xs ys ≡ true → xs ≡ ys
-same_bytes xs ys h = (bytes_eq-Decides xs ys).0 h
 
 bytes_differ : (xs ys : List ℕ) → bytes_eq xs ys ≡ false → xs ≢ ys
 bytes_differ xs ys h same =
@@ -120,14 +104,24 @@ Makes one = (room : ℕ) (t : NamedModel × ℕ) → one room ≡ Ok t → IsNam
 abbrev pub MakesAll : List (List ℕ) → (TypeModel → ℕ → Result (NamedModel × ℕ) NameFault) → Type 0
 MakesAll names one = (type : TypeModel) → NamesIn names type → Makes (one type)
 
+-- a part that is made is of that name, and its type is named
+part_named : (e : Env) (one : ℕ → Result (NamedModel × ℕ) NameFault) → Makes one → (room name : ℕ) (part : (List ℕ × NamedModel) × ℕ) → named_part e one room name ≡ Ok part
+    → IsNamed part.0.1 × (text_of e.names name ≡ part.0.0)
+unfolding named_part
+part_named e one makes room name part is =
+    let left = bind_ok (spent e room 1) _ part is in
+    let t = bind_ok (one left.0) _ part left.2 in
+    let same : ((text_of e.names name, t.0.0), t.0.1) ≡ part = ok_is _ part t.2 in
+    subst (λ (p : (List ℕ × NamedModel) × ℕ). IsNamed p.0.1 × (text_of e.names name ≡ p.0.0)) same (makes left.0 t.0 t.1, refl)
+
 component_named : (e : Env) (one : ℕ → Result (NamedModel × ℕ) NameFault) → Makes one → (st : Components × ℕ) (name : ℕ) (next : Components × ℕ) → component_step e one st name ≡ Ok next
     → AreComponentsNamed (components_from st.0) → AreComponentsNamed (components_from next.0)
 unfolding component_step
 component_named e one makes st name next is named =
-    let room = bind_ok (spent e st.1 1) _ next is in
-    let t = bind_ok (one room.0) _ next room.2 in
-    let more = components_more st.0 (text_of e.names name) t.0.0 named (makes room.0 t.0 t.1) in
-    subst (λ (n : Components × ℕ). AreComponentsNamed (components_from n.0)) (ok_is _ next t.2) more
+    let part = bind_ok (named_part e one st.1 name) _ next is in
+    let made = part_named e one makes st.1 name part.0 part.1 in
+    let more = components_more st.0 part.0.0.0 part.0.0.1 named made.0 in
+    subst (λ (n : Components × ℕ). AreComponentsNamed (components_from n.0)) (ok_is _ next part.2) more
 
 all_units : {A : Type 0} (xs : List A) → AllByRecursion (λ _. Unit {0}) xs
 all_units [] = tt
@@ -210,12 +204,14 @@ candidates_named_as e one makes [] st next is made =
     subst (λ (n : Candidates × ℕ). AreMade n.0 × (candidate_names n.0 ≡ candidate_names st.0 ++ [])) same (made, sym (append-nil (candidate_names st.0)))
 candidates_named_as e one makes (d ∷ chosen) st next is made =
     let step = bind_ok (candidate_step e one st d) _ next is in
-    let room = bind_ok (spent e st.1 1) _ step.0 step.1 in
-    let t = bind_ok (one room.0) _ step.0 room.2 in
+    let part = bind_ok (named_part e one st.1 d.0) _ step.0 step.1 in
+    let one_made = part_named e one makes st.1 d.0 part.0 part.1 in
     let name = text_of e.names d.0 in
-    let same : (st.0 ++ (name, (d.1, t.0.0)) ∷ [], t.0.1) ≡ step.0 = ok_is _ step.0 t.2 in
-    let here : AreMade step.0.0 = subst (λ (n : Candidates × ℕ). AreMade n.0) same (all_more (λ c. IsNamed c.1.1) st.0 (name, (d.1, t.0.0)) made (makes room.0 t.0 t.1)) in
-    let named : candidate_names step.0.0 ≡ candidate_names st.0 ++ name ∷ [] = subst (λ (n : Candidates × ℕ). candidate_names n.0 ≡ candidate_names st.0 ++ name ∷ []) same (map_more (λ c. c.0) st.0 (name, (d.1, t.0.0))) in
+    let same : (st.0 ++ (part.0.0.0, (d.1, part.0.0.1)) ∷ [], part.0.1) ≡ step.0 = ok_is _ step.0 part.2 in
+    let here : AreMade step.0.0 = subst (λ (n : Candidates × ℕ). AreMade n.0) same (all_more (λ c. IsNamed c.1.1) st.0 (part.0.0.0, (d.1, part.0.0.1)) made one_made.0) in
+    let put : candidate_names (st.0 ++ (part.0.0.0, (d.1, part.0.0.1)) ∷ []) ≡ candidate_names st.0 ++ name ∷ [] =
+    map_more (λ c. c.0) st.0 (part.0.0.0, (d.1, part.0.0.1)) ∙ ap (λ (n : List ℕ). candidate_names st.0 ++ n ∷ []) (sym one_made.1) in
+    let named : candidate_names step.0.0 ≡ candidate_names st.0 ++ name ∷ [] = subst (λ (n : Candidates × ℕ). candidate_names n.0 ≡ candidate_names st.0 ++ name ∷ []) same put in
     let more = candidates_named_as e one makes chosen step.0 next step.2 here in
     (more.0, more.1 ∙ ap (λ (ns : List (List ℕ)). ns ++ chosen_names e chosen) named ∙ append_assoc (candidate_names st.0) (name ∷ []) (chosen_names e chosen))
 

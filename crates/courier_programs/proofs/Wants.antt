@@ -3,27 +3,21 @@ use Rattle.std.proofs.Common.{◌≡◌, ℕ, zero, suc, ◌+◌, ◌-◌, ◌<�
 use Rattle.courier_notation.specs.declared.declared.Dependency.{Dependency}
 use Rattle.courier_notation.specs.Written.{TypeModel, field_models, fields_from, no_fields, field_and}
 use Rattle.courier_notation.specs.declared.written.WrittenType.{WrittenType}
-use Rattle.courier_texts.specs.declared.named.Named.{Named}
 use Rattle.courier_texts.specs.Named.{HasParts, NamedModel}
 use Rattle.courier_programs.specs.declared.program.Program.{Program}
 use Rattle.courier_programs.specs.declared.refusal.Refusal.{Refusal}
 use Rattle.courier_programs.specs.declared.refusal.Refusal.TheVariants as refusals
 use Rattle.courier_notation.specs.ProgramModels.{FieldList}
 use Rattle.courier_programs.specs.Declarations.{most_depth, record_shape, sound, whole_fields}
-use Rattle.courier_programs.specs.Meanings.{Components, FieldsModel, components_from, components_seen}
+use Rattle.courier_programs.specs.Meanings.{Components, FieldsModel, components_from}
 use Rattle.courier_programs.specs.Memory.{FirstWasRead, HasFields, TypeWants}
 use Rattle.courier_programs.specs.Refused.{IfNoMemory, IsWanted, NameFault, ◌>>=◌, over}
+use Rattle.courier_programs.proofs.Results.{done, first_was_right, ok_is}
 use Rattle.courier_programs.specs.Resolving.{dependency_step}
-use Rattle.courier_programs.specs.Scopes.{Env, dependency_of, program_by, spent, type_named, word_of}
-use Rattle.courier_programs.specs.Types.{array_meant, candidates_seen, candidates_meant, choice_meant, components_meant, enumeration_meant, fields_meant, maximum_of, referred, sequence_meant, tag_members, type_level_meant, type_meant, variants_from}
+use Rattle.courier_programs.specs.Scopes.{Env, dependency_of, program_by, spent, text_of, type_named, word_of}
+use Rattle.courier_programs.specs.Types.{array_meant, candidates_meant, choice_meant, components_meant, enumeration_meant, fields_meant, maximum_of, named_part, referred, sequence_meant, tag_members, type_level_meant, type_meant, variants_from}
 
 -- ---- answers
-
-abbrev done : {A : Type 0} → A → Result A NameFault
-done x = Ok x
-
-ok_is : {A : Type 0} (x y : A) → done x ≡ done y → x ≡ y
-ok_is x y e = cc
 
 -- memory was wanted of more, where it was of less
 pub wanted_more : (refusal : Refusal) (P Q : Type 0) → (P → Q) → IsWanted refusal P → IsWanted refusal Q
@@ -35,14 +29,6 @@ wants_more (Ok x) P Q f h = tt
 wants_more (Err refusal) P Q f h = wanted_more refusal P Q f h
 
 -- ---- parts
-
-pub has_components : (parts : List (Vec ℕ Global × Named)) → 0 < length parts → HasParts (NamedModel.components (components_from (components_seen parts)))
-has_components [] h = absurd (omega arith)
-has_components (p ∷ parts) h = tt
-
-pub has_variants : (parts : List (Vec ℕ Global × (ℕ × Named))) → 0 < length parts → HasParts (NamedModel.choice (variants_from (candidates_seen parts)))
-has_variants [] h = absurd (omega arith)
-has_variants (p ∷ parts) h = tt
 
 pub groups_were_there : (e : Env) (one : TypeModel → ℕ → Result (NamedModel × ℕ) NameFault) (room : ℕ) (groups : List (Vec ℕ Global × WrittenType)) (st : Components × ℕ)
     → components_meant e one [] ([], room) (fields_from (field_models groups)) ≡ Ok st → 0 < length st.0 → 0 < length groups
@@ -57,11 +43,6 @@ has_fields [] h = absurd (omega arith)
 has_fields (g ∷ groups) h = tt
 
 -- ---- types
-
--- what came behind a step came of an answer
-pub first_was_right : {A B : Type 0} (r : Result A NameFault) (f : A → Result B NameFault) (t : B) → (r >>= f) ≡ Ok t → IsOk r
-first_was_right (Ok x) f t is = refl
-first_was_right (Err e) f t is = absurd (cc)
 
 its_parts : (n : NamedModel) (room : ℕ) (t : NamedModel × ℕ) → done (n, room) ≡ done t → HasParts t.0 → HasParts n
 its_parts n room t is some =
@@ -100,6 +81,11 @@ type_wants e (suc depth) type room t is some = behind_room e (type_meant e depth
 pub had_room : (e : Env) (groups : FieldList) (room : ℕ) (x : FieldsModel × ℕ) → whole_fields e groups room ≡ Ok x → IsOk (spent e room 1)
 unfolding whole_fields
 had_room e groups room x is = first_was_right (spent e room 1) (λ left. components_meant e (type_meant e most_depth) [] ([], left) (fields_from groups) >>= λ parts. sound e (record_shape parts.0) >>= λ _. Ok ((parts.0, record_shape parts.0), parts.1)) x is
+
+-- a part that was made had room
+pub part_had_room : (e : Env) (one : ℕ → Result (NamedModel × ℕ) NameFault) (room name : ℕ) (x : (List ℕ × NamedModel) × ℕ) → named_part e one room name ≡ Ok x → IsOk (spent e room 1)
+unfolding named_part
+part_had_room e one room name x is = first_was_right (spent e room 1) (λ left. one left >>= λ t. Ok ((text_of e.names name, t.0), t.1)) x is
 
 -- ---- dependencies
 

@@ -23,7 +23,7 @@ abbrev pub Stops : {Y : Type 0} → Refusal → Result Y NameFault → Type 0
 Stops (refusals.Wrong name reason) meant = meant ≡ Err (name, reason)
 Stops refusals.NoMemory meant = ⊥
 
--- a function that wants no memory answered what is meant, seen by view
+-- a function that wants no memory returned what is meant, seen by view
 abbrev pub Finds : {X Y : Type 0} → (X → Y) → Result X Refusal → Result Y NameFault → Type 0
 Finds view (Ok x) meant = meant ≡ Ok (view x)
 Finds view (Err refusal) meant = Stops refusal meant
@@ -37,7 +37,7 @@ abbrev pub IfNoMemory : {X : Type 0} → Result X Refusal → Type 0 → Type 0
 IfNoMemory (Ok x) wants = Unit {0}
 IfNoMemory (Err refusal) wants = IsWanted refusal wants
 
--- a function answered what is meant, seen by view, unless memory ran out
+-- a function returned what is meant, seen by view, unless memory ran out
 abbrev pub Gives : {X Y : Type 0} → (X → Y) → Result X Refusal → Result Y NameFault → Type 0
 Gives view (Ok x) meant = meant ≡ Ok (view x)
 Gives view (Err refusal) meant = Refuses refusal meant

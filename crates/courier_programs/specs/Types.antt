@@ -65,9 +65,13 @@ has_name e seen name = list_any (λ n. bytes_eq (text_of e.names n) (text_of e.n
 abbrev pub once : Env → List ℕ → ℕ → Result (List ℕ) NameFault
 once e seen name = if has_name e seen name then Err (name, reasons.DoubledName) else Ok (seen ++ name ∷ [])
 
+-- a component or a candidate, whose type one makes: its name and its type
+unfoldable pub named_part : Env → (ℕ → Result (NamedModel × ℕ) NameFault) → ℕ → ℕ → Result ((List ℕ × NamedModel) × ℕ) NameFault
+named_part e one room name = spent e room 1 >>= λ left. (one left >>= λ t. Ok ((text_of e.names name, t.0), t.1))
+
 -- a component of the type that one makes
 unfoldable pub component_step : Env → (ℕ → Result (NamedModel × ℕ) NameFault) → Components × ℕ → ℕ → Result (Components × ℕ) NameFault
-component_step e one st name = spent e st.1 1 >>= λ room. (one room >>= λ t. Ok (st.0 ++ (text_of e.names name, t.0) ∷ [], t.1))
+component_step e one st name = named_part e one st.1 name >>= λ part. Ok (st.0 ++ part.0 ∷ [], part.1)
 
 -- the record of the components
 unfoldable pub fields_meant : Result (Components × ℕ) NameFault → Result (NamedModel × ℕ) NameFault
@@ -130,8 +134,7 @@ designator_step e tag st d = designator_word e tag st.0 d >>= λ word. Ok (st.0 
 
 -- a candidate of the type that one makes
 unfoldable pub candidate_step : Env → (ℕ → Result (NamedModel × ℕ) NameFault) → Candidates × ℕ → ℕ × ℕ → Result (Candidates × ℕ) NameFault
-candidate_step e one st chosen =
-    spent e st.1 1 >>= λ room. (one room >>= λ t. Ok (st.0 ++ (text_of e.names chosen.0, (chosen.1, t.0)) ∷ [], t.1))
+candidate_step e one st chosen = named_part e one st.1 chosen.0 >>= λ part. Ok (st.0 ++ (part.0.0, (chosen.1, part.0.1)) ∷ [], part.1)
 
 -- candidates that are written together, of the type that one makes, and all designators up to theirs
 unfoldable pub candidate_group : Env → Option Members → (ℕ → Result (NamedModel × ℕ) NameFault) → Members → Candidates × ℕ → List Designator → Result (Members × (Candidates × ℕ)) NameFault

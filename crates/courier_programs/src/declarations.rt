@@ -296,7 +296,7 @@ fn named_once(
     }
 }
 
-/// Adds a declaration to the program, and answers what is left of the room for parts.
+/// Adds a declaration to the program, and returns what is left of the room for parts.
 #[tactic(auto, unfolding(crate::specs::Declarations::declaration_step))]
 pub(crate) fn take_declaration(
     alloc: Global,

@@ -2,7 +2,7 @@
 //! several programs, and programs, procedures and errors are found by their numbers.
 //!
 //! `resolve` is exactly its definition, a function of the program that is written and of those that were read
-//! before, its first fault included. The types of what it answers refer to nothing, and their shapes are
+//! before, its first fault included. The types of what it returns refer to nothing, and their shapes are
 //! checked.
 #![tactic(auto)]
 

@@ -8,7 +8,7 @@ ghost use Rattle.courier_programs.specs.Memory.{TypeWants};
 ghost use Rattle.courier_programs.specs.Refused.{Finds, Gives, IfNoMemory, over, steps};
 ghost use Rattle.courier_programs.specs.Scopes.{env, spent, type_named as type_named_of, word_of as word_of_numeric};
 ghost use Rattle.courier_programs.specs.Types.{array_meant, candidate_group, candidate_step, candidates_meant, candidates_seen, choice_meant, component_step};
-ghost use Rattle.courier_programs.specs.Types.{components_meant, enumeration_meant, fields_meant, has_name as has_name_in, maximum_of as maximum_in, once as once_in};
+ghost use Rattle.courier_programs.specs.Types.{components_meant, enumeration_meant, fields_meant, has_name as has_name_in, maximum_of as maximum_in, named_part as named_part_of, once as once_in};
 ghost use Rattle.courier_programs.specs.Types.{referred as referred_in, sequence_meant, tag_members as tag_members_of, type_level_meant, type_meant};
 
 use crate::bytes::{is_same, text};
@@ -132,9 +132,29 @@ fn sequence(
     Ok((Named::Sequence(most, Box::new(alloc, part)?), left))
 }
 
+/// The name and the type of a component or a candidate, and what is left of the room for parts.
+#[cycle(types)]
+#[tactic(auto, unfolding(crate::specs::Types::named_part))]
+fn named_part(
+    alloc: Global,
+    depth: usize,
+    written: &WrittenType,
+    scope: &Scope,
+    room: usize,
+    name: u32,
+) -> Result<((Vec<u8>, Named), usize), Refusal>
+    ensures exact { Gives (λ x. ((x.0.0.items, named_model x.0.1), x.1)) result (named_part_of (env scope.now) (type_meant (env scope.now) depth (type_model written.now)) room name) }
+    ensures memory { IfNoMemory result (IsOk (spent (env scope.now) room 1)) }
+{
+    let left = spend(scope, room, 1)?;
+    let (part, left) = type_of(alloc, depth, written, scope, left)?;
+    let name = Vec::from_slice(alloc, text(scope.names, name))?;
+    Ok(((name, part), left))
+}
+
 /// Puts a component of the type behind the others.
 #[cycle(types)]
-#[tactic(auto, unfolding(crate::specs::Types::component_step))]
+#[tactic(auto, using(crate::proofs::Wants::part_had_room), unfolding(crate::specs::Types::component_step))]
 fn take_component(
     alloc: Global,
     depth: usize,
@@ -147,10 +167,8 @@ fn take_component(
     ensures exact { Gives (λ left. (components_seen parts.new.items, left)) result (component_step (env scope.now) (type_meant (env scope.now) depth (type_model written.now)) (components_seen parts.old.items, room) name) }
     ensures memory { IfNoMemory result (IsOk (spent (env scope.now) room 1)) }
 {
-    let left = spend(scope, room, 1)?;
-    let (part, left) = type_of(alloc, depth, written, scope, left)?;
-    let name = Vec::from_slice(alloc, text(scope.names, name))?;
-    parts.push((name, part))?;
+    let (part, left) = named_part(alloc, depth, written, scope, room, name)?;
+    parts.push(part)?;
     Ok(left)
 }
 
@@ -215,7 +233,7 @@ fn record_of(
 
 /// Puts a candidate of the type behind the others.
 #[cycle(types)]
-#[tactic(auto, unfolding(crate::specs::Types::candidate_step))]
+#[tactic(auto, using(crate::proofs::Wants::part_had_room), unfolding(crate::specs::Types::candidate_step))]
 fn take_candidate(
     alloc: Global,
     depth: usize,
@@ -228,9 +246,7 @@ fn take_candidate(
     ensures exact { Gives (λ left. (candidates_seen parts.new.items, left)) result (candidate_step (env scope.now) (type_meant (env scope.now) depth (type_model written.now)) (candidates_seen parts.old.items, room) chosen) }
     ensures memory { IfNoMemory result (IsOk (spent (env scope.now) room 1)) }
 {
-    let left = spend(scope, room, 1)?;
-    let (part, left) = type_of(alloc, depth, written, scope, left)?;
-    let name = Vec::from_slice(alloc, text(scope.names, chosen.0))?;
+    let ((name, part), left) = named_part(alloc, depth, written, scope, room, chosen.0)?;
     parts.push((name, (chosen.1, part)))?;
     Ok(left)
 }

@@ -1,6 +1,7 @@
 -- What was printed so far, and what is still printed.
-use Rattle.std.proofs.Common.{◌≡◌, ℕ, zero, suc, ◌+◌, ◌≤◌, ◌<◌, Bool, cond, List, [], ◌∷◌, ◌++◌, length, drop, get_or, codes, Vec, Box, Global, map, refl, sym, ap, ◌∙◌, append_assoc, arith, rules, eq-eqb, ne_eqb}
-use Rattle.std.proofs.lemmas.List.{drop_more}
+use Rattle.std.proofs.Common.{◌≡◌, ℕ, ◌+◌, ◌≤◌, ◌<◌, ◌==◌, Bool, cond, List, [], ◌∷◌, ◌++◌, length, drop, get_or, codes, Vec, Box, Global, map, refl, ap, ◌∙◌, append_assoc, arith, rules}
+use Rattle.std.proofs.lemmas.List.{drop_all, drop_more}
+use Rattle.courier_types.proofs.Loops.{item_here}
 use Rattle.courier_types.specs.declared.value.Value.{Value, Fields as VFields, Choice as VChoice, the_lemmas as value_lemmas}
 use Rattle.courier_types.specs.Value.{ValueModel, no_values, value_model, value_models}
 use Rattle.courier_texts.specs.declared.named.Named.{Named, Record, Choice, the_lemmas}
@@ -9,26 +10,16 @@ use Rattle.courier_texts.specs.Appending.{IsAppended}
 use Rattle.courier_texts.specs.Printing.{member_text, components_text, variant_text, value_text}
 use Rattle.courier_texts.proofs.Appends.{SoFar, goes_on, left_is}
 
-pub item_here : {X : Type 0} (xs : List X) (i : ℕ) (x : X) → i < length xs → x ≡ get_or xs i x → drop i xs ≡ x ∷ drop (i + 1) xs
-item_here xs i x lt e = drop_more xs i x lt ∙ ap (λ y. y ∷ drop (i + 1) xs) (sym e)
-
-pub drop_past : {A : Type 0} (xs : List A) (i : ℕ) → length xs ≤ i → drop i xs ≡ []
-drop_past [] zero h = refl
-drop_past [] (suc i) h = refl
-drop_past (x ∷ xs) zero h = absurd (omega arith)
-drop_past (x ∷ xs) (suc i) h = drop_past xs i (omega arith)
-
 pub some_left : {A : Type 0} (xs : List A) (i : ℕ) → i < length xs → (x : A) × (drop i xs ≡ x ∷ drop (i + 1) xs)
 some_left [] i lt = absurd (omega arith)
 some_left (x ∷ xs) i lt = (get_or (x ∷ xs) i x, drop_more (x ∷ xs) i x lt)
 
 -- ---- members
 
-pub at_member : (members : List (Vec ℕ Global × ℕ)) (i : ℕ) (m : Vec ℕ Global × ℕ) (word : ℕ) → drop i members ≡ m ∷ drop (i + 1) members → m.1 ≡ word → member_text (members_seen (drop i members)) word ≡ m.0.items
-at_member members i m word here h = ap (λ ms. member_text (members_seen ms) word) here ∙ ap (λ (b : Bool). cond b m.0.items (member_text (members_seen (drop (i + 1) members)) word)) (eq-eqb m.1 word h)
-
-pub past_member : (members : List (Vec ℕ Global × ℕ)) (i : ℕ) (m : Vec ℕ Global × ℕ) (word : ℕ) → drop i members ≡ m ∷ drop (i + 1) members → (m.1 ≡ word → ⊥) → member_text (members_seen (drop i members)) word ≡ member_text (members_seen (drop (i + 1) members)) word
-past_member members i m word here h = ap (λ ms. member_text (members_seen ms) word) here ∙ ap (λ (b : Bool). cond b m.0.items (member_text (members_seen (drop (i + 1) members)) word)) (ne_eqb m.1 word h)
+-- a member has the text's word or not, and else the text is that of those behind it
+pub next_member : (member : Vec ℕ Global × ℕ) (members : List (Vec ℕ Global × ℕ)) (word : ℕ) {is_it : Bool} → (member.1 == word) ≡ is_it
+    → member_text (members_seen (member ∷ members)) word ≡ cond is_it member.0.items (member_text (members_seen members) word)
+next_member member members word known = ap (λ (b : Bool). cond b member.0.items (member_text (members_seen members) word)) known
 
 -- ---- components
 
@@ -48,9 +39,11 @@ components_here front parts values i part v here there =
     ∙ append_assoc front (part_text part v) (more_text parts values i)
 
 -- the front of a component was printed
-pub front_printed : {old now next : Vec ℕ Global} {whole : List ℕ} (front : List ℕ) (parts : List (Vec ℕ Global × Named)) (values : List Value) (i : ℕ) (part : Vec ℕ Global × Named) (v : Value) → drop i parts ≡ part ∷ drop (i + 1) parts → drop i values ≡ v ∷ drop (i + 1) values
+pub front_printed : {old now next : Vec ℕ Global} {whole : List ℕ} (front : List ℕ) (parts : List (Vec ℕ Global × Named)) (values : List Value) (i : ℕ) (part : Vec ℕ Global × Named) (v : Value) → i < length parts → part ≡ get_or parts i part → i < length values → v ≡ get_or values i v
     → SoFar old now (components_text front (component_models (drop i parts)) (value_models (drop i values))) whole → IsAppended front now next → SoFar old next (part_text part v ++ more_text parts values i) whole
-front_printed {old} {now} {next} {whole} front parts values i part v here there s put =
+front_printed {old} {now} {next} {whole} front parts values i part v in_parts is_part in_values is_value s put =
+    let here = item_here parts i part in_parts is_part in
+    let there = item_here values i v in_values is_value in
     goes_on old now next front (part_text part v ++ more_text parts values i) whole (left_is old now _ _ whole s (components_here front parts values i part v here there)) put
 
 pub front_first : (front : List ℕ) (parts : List (Vec ℕ Global × Named)) (values : List Value) (i : ℕ) (part : Vec ℕ Global × Named) → drop i parts ≡ part ∷ drop (i + 1) parts → i < length values
@@ -66,7 +59,7 @@ none_left front (component_and name part parts) = refl
 
 pub no_value_text : (front : List ℕ) (parts : List (Vec ℕ Global × Named)) (values : List Value) (i : ℕ) → length values ≤ i → components_text front (component_models (drop i parts)) (value_models (drop i values)) ≡ []
 no_value_text front parts values i le =
-    ap (λ vs. components_text front (component_models (drop i parts)) (value_models vs)) (drop_past values i le) ∙ none_left front (component_models (drop i parts))
+    ap (λ vs. components_text front (component_models (drop i parts)) (value_models vs)) (drop_all i values le) ∙ none_left front (component_models (drop i parts))
 
 no_part_left : (front : List ℕ) (vs : List Value) → components_text front ComponentModels.no_components (value_models vs) ≡ []
 unfolding components_text
@@ -75,25 +68,15 @@ no_part_left front (v ∷ vs) = refl
 
 pub no_part_text : (front : List ℕ) (parts : List (Vec ℕ Global × Named)) (values : List Value) (i : ℕ) → length parts ≤ i → components_text front (component_models (drop i parts)) (value_models (drop i values)) ≡ []
 no_part_text front parts values i le =
-    ap (λ ps. components_text front (component_models ps) (value_models (drop i values))) (drop_past parts i le) ∙ no_part_left front (drop i values)
+    ap (λ ps. components_text front (component_models ps) (value_models (drop i values))) (drop_all i parts le) ∙ no_part_left front (drop i values)
 
 -- ---- candidates
 
-pub at_variant : (parts : List (Vec ℕ Global × (ℕ × Named))) (i : ℕ) (m : Vec ℕ Global × (ℕ × Named)) (d : ℕ) (v : ValueModel) → drop i parts ≡ m ∷ drop (i + 1) parts → m.1.0 ≡ d
-    → variant_text (variant_models (drop i parts)) d v ≡ m.0.items ++ codes " " ++ value_text (named_model m.1.1) v
+-- a candidate has the text's designator or not, and else the text is that of those behind it
+pub next_variant : (part : Vec ℕ Global × (ℕ × Named)) (parts : List (Vec ℕ Global × (ℕ × Named))) (d : ℕ) (v : ValueModel) {is_it : Bool} → (part.1.0 == d) ≡ is_it
+    → variant_text (variant_models (part ∷ parts)) d v ≡ cond is_it (part.0.items ++ codes " " ++ value_text (named_model part.1.1) v) (variant_text (variant_models parts) d v)
 unfolding variant_text value_text
-at_variant parts i m d v here h =
-    ap (λ ps. variant_text (variant_models ps) d v) here ∙ ap (λ (b : Bool). cond b (m.0.items ++ codes " " ++ value_text (named_model m.1.1) v) (variant_text (variant_models (drop (i + 1) parts)) d v)) (eq-eqb m.1.0 d h)
-
-pub past_variant : (parts : List (Vec ℕ Global × (ℕ × Named))) (i : ℕ) (m : Vec ℕ Global × (ℕ × Named)) (d : ℕ) (v : ValueModel) → drop i parts ≡ m ∷ drop (i + 1) parts → (m.1.0 ≡ d → ⊥)
-    → variant_text (variant_models (drop i parts)) d v ≡ variant_text (variant_models (drop (i + 1) parts)) d v
-unfolding variant_text value_text
-past_variant parts i m d v here h =
-    ap (λ ps. variant_text (variant_models ps) d v) here ∙ ap (λ (b : Bool). cond b (m.0.items ++ codes " " ++ value_text (named_model m.1.1) v) (variant_text (variant_models (drop (i + 1) parts)) d v)) (ne_eqb m.1.0 d h)
-
-pub no_variant : (parts : List (Vec ℕ Global × (ℕ × Named))) (i : ℕ) (d : ℕ) (v : ValueModel) → length parts ≤ i → variant_text (variant_models (drop i parts)) d v ≡ []
-unfolding variant_text
-no_variant parts i d v le = ap (λ ps. variant_text (variant_models ps) d v) (drop_past parts i le)
+next_variant part parts d v known = ap (λ (b : Bool). cond b (part.0.items ++ codes " " ++ value_text (named_model part.1.1) v) (variant_text (variant_models parts) d v)) known
 
 -- ---- what a type and a value are seen as
 

@@ -1,64 +1,38 @@
 -- The shapes of parts, one after the other.
-use Rattle.std.proofs.Common.{◌≡◌, ℕ, ◌+◌, ◌≤◌, ◌<◌, List, [], ◌∷◌, ◌++◌, length, drop, map, Vec, Global, Result, Ok, Err, refl, sym, ap, ◌∙◌, rules, arith}
+use Rattle.std.proofs.Common.{◌≡◌, ℕ, ◌≤◌, ◌<◌, List, [], ◌∷◌, length, take, map, Vec, Global, Result, Ok, Err, refl, sym, ap, ◌∙◌, rules, arith}
 use Rattle.std.specs.Prelude.{OnErr}
-use Rattle.courier_types.specs.declared.shape.Shape.{Shape, Fields, Choice, Enumeration as Words, the_lemmas}
-use Rattle.courier_types.specs.Shape.{ShapeModel, ShapeModels, no_shapes, shape_and, MemberModels, no_members, member_and, shape_model, shape_models, member_models}
+use Rattle.std.proofs.lemmas.List.{take_all}
+use Rattle.courier_types.specs.declared.shape.Shape.{Shape, Choice, Enumeration as Words, the_lemmas}
+use Rattle.courier_types.specs.Shape.{ShapeModel, shape_and, shapes_from, member_and, members_from, shape_model, shape_models, member_models}
 use Rattle.courier_texts.specs.declared.named.Named.{Named, Enumeration, the_lemmas as named_lemmas}
 use Rattle.courier_texts.specs.Named.{HasParts, NamedModel, named_model, members_seen, component_models, variant_models, shape_of, shapes_of, members_of}
-use Rattle.courier_texts.proofs.Printed.{drop_past}
 
--- shapes that stand before others
-abbrev pub shapes_before : List Shape → ShapeModels → ShapeModels
-shapes_before [] rest = rest
-shapes_before (s ∷ ss) rest = shape_and (shape_model s) (shapes_before ss rest)
+-- the shape of a component
+abbrev pub component_shape : Vec ℕ Global × Named → ShapeModel
+component_shape part = shape_of (named_model part.1)
 
-before_none : (ss : List Shape) → shapes_before ss no_shapes ≡ shape_models ss
-before_none [] = refl
-before_none (s ∷ ss) = ap (shape_and (shape_model s)) (before_none ss)
+shapes_listed : (parts : List (Vec ℕ Global × Named)) → shapes_from (map component_shape parts) ≡ shapes_of (component_models parts)
+shapes_listed [] = refl
+shapes_listed (part ∷ parts) = ap (shape_and (component_shape part)) (shapes_listed parts)
 
-before_push : (ss : List Shape) (s : Shape) (rest : ShapeModels) → shapes_before (ss ++ s ∷ []) rest ≡ shapes_before ss (shape_and (shape_model s) rest)
-before_push [] s rest = refl
-before_push (t ∷ ss) s rest = ap (shape_and (shape_model t)) (before_push ss s rest)
+pub all_shapes : (shapes : List Shape) (parts : List (Vec ℕ Global × Named)) (i : ℕ) → length parts ≤ i → map shape_model shapes ≡ map component_shape (take i parts) → shape_models shapes ≡ shapes_of (component_models parts)
+all_shapes shapes parts i le so_far = ap shapes_from (so_far ∙ ap (map component_shape) (take_all i parts le)) ∙ shapes_listed parts
 
-pub one_shape : (ss : List Shape) (s : Shape) (parts : List (Vec ℕ Global × Named)) (i : ℕ) (part : Vec ℕ Global × Named) (total : ShapeModels) → drop i parts ≡ part ∷ drop (i + 1) parts → shape_model s ≡ shape_of (named_model part.1)
-    → shapes_before ss (shapes_of (component_models (drop i parts))) ≡ total → shapes_before (ss ++ s ∷ []) (shapes_of (component_models (drop (i + 1) parts))) ≡ total
-one_shape ss s parts i part total here h so_far =
-    before_push ss s (shapes_of (component_models (drop (i + 1) parts)))
-    ∙ ap (λ m. shapes_before ss (shape_and m (shapes_of (component_models (drop (i + 1) parts))))) h
-    ∙ ap (λ ps. shapes_before ss (shapes_of (component_models ps))) (sym here) ∙ so_far
+-- a member of the shape of a choice, of the shape and of the candidate
+abbrev pub member_model : ℕ × Shape → ℕ × ShapeModel
+member_model member = (member.0, shape_model member.1)
 
-pub all_shapes : (ss : List Shape) (parts : List (Vec ℕ Global × Named)) (i : ℕ) (total : ShapeModels) → length parts ≤ i → shapes_before ss (shapes_of (component_models (drop i parts))) ≡ total → shape_models ss ≡ total
-all_shapes ss parts i total le so_far =
-    sym (before_none ss) ∙ ap (λ ps. shapes_before ss (shapes_of (component_models ps))) (sym (drop_past parts i le)) ∙ so_far
+abbrev pub variant_member : Vec ℕ Global × (ℕ × Named) → ℕ × ShapeModel
+variant_member part = (part.1.0, shape_of (named_model part.1.1))
 
--- members that stand before others
-abbrev pub members_before : List (ℕ × Shape) → MemberModels → MemberModels
-members_before [] rest = rest
-members_before (m ∷ ms) rest = member_and m.0 (shape_model m.1) (members_before ms rest)
+members_listed : (parts : List (Vec ℕ Global × (ℕ × Named))) → members_from (map variant_member parts) ≡ members_of (variant_models parts)
+members_listed [] = refl
+members_listed (part ∷ parts) = ap (member_and part.1.0 (shape_of (named_model part.1.1))) (members_listed parts)
 
-members_none : (ms : List (ℕ × Shape)) → members_before ms no_members ≡ member_models ms
-members_none [] = refl
-members_none (m ∷ ms) = ap (member_and m.0 (shape_model m.1)) (members_none ms)
-
-members_push : (ms : List (ℕ × Shape)) (m : ℕ × Shape) (rest : MemberModels) → members_before (ms ++ m ∷ []) rest ≡ members_before ms (member_and m.0 (shape_model m.1) rest)
-members_push [] m rest = refl
-members_push (n ∷ ms) m rest = ap (member_and n.0 (shape_model n.1)) (members_push ms m rest)
-
-pub one_member : (ms : List (ℕ × Shape)) (s : Shape) (parts : List (Vec ℕ Global × (ℕ × Named))) (i : ℕ) (part : Vec ℕ Global × (ℕ × Named)) (total : MemberModels) → drop i parts ≡ part ∷ drop (i + 1) parts → shape_model s ≡ shape_of (named_model part.1.1)
-    → members_before ms (members_of (variant_models (drop i parts))) ≡ total → members_before (ms ++ (part.1.0, s) ∷ []) (members_of (variant_models (drop (i + 1) parts))) ≡ total
-one_member ms s parts i part total here h so_far =
-    members_push ms (part.1.0, s) (members_of (variant_models (drop (i + 1) parts)))
-    ∙ ap (λ m. members_before ms (member_and part.1.0 m (members_of (variant_models (drop (i + 1) parts))))) h
-    ∙ ap (λ ps. members_before ms (members_of (variant_models ps))) (sym here) ∙ so_far
-
-pub all_members : (ms : List (ℕ × Shape)) (parts : List (Vec ℕ Global × (ℕ × Named))) (i : ℕ) (total : MemberModels) → length parts ≤ i → members_before ms (members_of (variant_models (drop i parts))) ≡ total → member_models ms ≡ total
-all_members ms parts i total le so_far =
-    sym (members_none ms) ∙ ap (λ ps. members_before ms (members_of (variant_models ps))) (sym (drop_past parts i le)) ∙ so_far
+pub all_members : (members : List (ℕ × Shape)) (parts : List (Vec ℕ Global × (ℕ × Named))) (i : ℕ) → length parts ≤ i → map member_model members ≡ map variant_member (take i parts) → member_models members ≡ members_of (variant_models parts)
+all_members members parts i le so_far = ap members_from (so_far ∙ ap (map variant_member) (take_all i parts le)) ∙ members_listed parts
 
 -- ---- what shapes are seen as
-
-pub shape_fields : (v : Vec Shape Global) → shape_model (Fields v) ≡ ShapeModel.fields (shape_models v.items)
-shape_fields v = search (rules, the_lemmas)
 
 pub shape_choice : (v : Vec (ℕ × Shape) Global) → shape_model (Choice v) ≡ ShapeModel.choice (member_models v.items)
 shape_choice v = search (rules, the_lemmas)

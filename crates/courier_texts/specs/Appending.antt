@@ -1,4 +1,4 @@
--- What appending a text to a vector answers. The limit is this project's rule.
+-- What a function returns that appends a text to a vector. The limit is this project's rule.
 use Rattle.std.specs.Prelude.{◌≡◌, ℕ, ◌+◌, ◌<◌, ◌≤◌, List, ◌++◌, length, Result, Ok, Err, Vec, vec_len, vec_capacity}
 use Rattle.std.specs.Global.{Global}
 use Rattle.courier_texts.specs.declared.appending.TheConstants.{MOST_TEXT}

@@ -2,7 +2,7 @@ use Rattle.std.proofs.Common.{◌<◌, length, refl, ap, ◌∙◌, arith}
 use Rattle.std.proofs.lemmas.Result.{err_from_is_err_and}
 use Rattle.courier_notation.specs.Written.{field_models, fields_from, type_model}
 use Rattle.courier_notation.proofs.Models.{model_choice as written_choice, model_record as written_record}
-use Rattle.courier_texts.proofs.Printed.{item_here}
+use Rattle.courier_types.proofs.Loops.{item_here}
 use Rattle.courier_programs.specs.Memory.{HasFields}
 use Rattle.courier_programs.specs.Types.{choice_meant, fields_meant, type_level_meant}
 use Rattle.courier_programs.proofs.Groups.{candidates_stop, components_stop, more_candidates, more_components, names_stop, no_more_candidates, no_more_components}

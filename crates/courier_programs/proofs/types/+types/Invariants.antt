@@ -32,43 +32,46 @@ invariant-take_groups-loop-group l =
     (candidates_meant (env l.scope) tag one (members_seen l.fn.taken.items) (candidates_seen l.fn.parts.items, l.fn.room) (candidates_from (candidate_models l.groups)))
 
 abbrev pub decreases-type_of : goal.decreases-type_of
-decreases-type_of l = 8 * l.depth
+decreases-type_of l = 9 * l.depth
+
+abbrev pub decreases-named_part : goal.decreases-named_part
+decreases-named_part l = 9 * l.depth + 1
 
 abbrev pub decreases-take_component : goal.decreases-take_component
-decreases-take_component l = 8 * l.depth + 1
+decreases-take_component l = 9 * l.depth + 2
 
 abbrev pub decreases-take_components : goal.decreases-take_components
-decreases-take_components l = 8 * l.depth + 2
+decreases-take_components l = 9 * l.depth + 3
 
 abbrev pub decreases-components_of : goal.decreases-components_of
-decreases-components_of l = 8 * l.depth + 3
+decreases-components_of l = 9 * l.depth + 4
 
 abbrev pub decreases-record_of : goal.decreases-record_of
-decreases-record_of l = 8 * l.depth + 4
+decreases-record_of l = 9 * l.depth + 5
 
 abbrev pub decreases-take_candidate : goal.decreases-take_candidate
-decreases-take_candidate l = 8 * l.depth + 1
+decreases-take_candidate l = 9 * l.depth + 2
 
 abbrev pub decreases-take_candidates : goal.decreases-take_candidates
-decreases-take_candidates l = 8 * l.depth + 2
+decreases-take_candidates l = 9 * l.depth + 3
 
 abbrev pub decreases-take_group : goal.decreases-take_group
-decreases-take_group l = 8 * l.depth + 3
+decreases-take_group l = 9 * l.depth + 4
 
 abbrev pub decreases-take_groups : goal.decreases-take_groups
-decreases-take_groups l = 8 * l.depth + 4
+decreases-take_groups l = 9 * l.depth + 5
 
 abbrev pub decreases-candidates_of : goal.decreases-candidates_of
-decreases-candidates_of l = 8 * l.depth + 5
+decreases-candidates_of l = 9 * l.depth + 6
 
 abbrev pub decreases-choice_of : goal.decreases-choice_of
-decreases-choice_of l = 8 * l.depth + 6
+decreases-choice_of l = 9 * l.depth + 7
 
 abbrev pub decreases-array : goal.decreases-array
-decreases-array l = 8 * l.depth + 1
+decreases-array l = 9 * l.depth + 1
 
 abbrev pub decreases-sequence : goal.decreases-sequence
-decreases-sequence l = 8 * l.depth + 1
+decreases-sequence l = 9 * l.depth + 1
 
 abbrev pub decreases-type_by : goal.decreases-type_by
-decreases-type_by l = 8 * l.depth + 7
+decreases-type_by l = 9 * l.depth + 8

@@ -1,35 +1,19 @@
-use Rattle.std.proofs.Common.{ap, ◌∙◌, ◌<◌, length, arith, rules}
+use Rattle.std.proofs.Common.{ap, ◌∙◌, ◌<◌, length, rules}
 use Rattle.courier_types.specs.Shape.{ShapeModel}
-use Rattle.courier_texts.specs.Named.{HasParts, NamedModel, named_model, component_models, variant_models, shapes_of, members_of}
-use Rattle.courier_texts.proofs.Printed.{item_here, named_record, named_choice}
-use Rattle.courier_texts.proofs.Shaped.{one_shape, all_shapes, one_member, all_members, shape_choice, enumeration_shape, has_components, has_variants, on_err}
+use Rattle.courier_texts.specs.Named.{HasParts, NamedModel, named_model, component_models}
+use Rattle.courier_texts.proofs.Printed.{named_record, named_choice}
+use Rattle.courier_texts.proofs.Shaped.{all_shapes, all_members, shape_choice, enumeration_shape, has_components, has_variants, on_err}
 use Rattle.courier_texts.proofs.shapes.+shapes.Goals as goal
-
-pub shapes_of_components-loop-component-preserved : goal.shapes_of_components-loop-component-preserved
-shapes_of_components-loop-component-preserved t c =
-    let l = c.loop-component in
-    let parts = c.args.components.now in
-    let part = c.component-item.result in
-    let here = item_here parts l.component-index part (omega arith) c.component-item.is in
-    rw c.in_ok-push.ensures.items (one_shape l.shapes.items c.in_ok-shape_of.field-0 parts l.component-index part (shapes_of (component_models parts)) here c.in_ok-shape_of.ensures.shape l.invariant)
 
 pub shapes_of_components-returns-clause-shapes : goal.shapes_of_components-returns-clause-shapes
 shapes_of_components-returns-clause-shapes t c =
     let l = c.loop-component in
-    all_shapes l.shapes.items c.args.components.now l.component-index (shapes_of (component_models c.args.components.now)) c.loop-component-test.false l.invariant
-
-pub members_of_variants-loop-variant-preserved : goal.members_of_variants-loop-variant-preserved
-members_of_variants-loop-variant-preserved t c =
-    let l = c.loop-variant in
-    let parts = c.args.variants.now in
-    let part = c.variant-item.result in
-    let here = item_here parts l.variant-index part (omega arith) c.variant-item.is in
-    rw c.in_ok-push.ensures.items (one_member l.members.items c.in_ok-shape_of.field-0 parts l.variant-index part (members_of (variant_models parts)) here c.in_ok-shape_of.ensures.shape l.invariant)
+    all_shapes l.shapes.items c.args.components.now l.component-index c.loop-component-test.false l.invariant
 
 pub members_of_variants-returns-clause-members : goal.members_of_variants-returns-clause-members
 members_of_variants-returns-clause-members t c =
     let l = c.loop-variant in
-    all_members l.members.items c.args.variants.now l.variant-index (members_of (variant_models c.args.variants.now)) c.loop-variant-test.false l.invariant
+    all_members l.members.items c.args.variants.now l.variant-index c.loop-variant-test.false l.invariant
 
 pub shape_of-returns-in_ok-words_of-in-Enumeration-clause-shape : goal.shape_of-returns-in_ok-words_of-in-Enumeration-clause-shape
 shape_of-returns-in_ok-words_of-in-Enumeration-clause-shape t c =

@@ -2,7 +2,7 @@ use Rattle.std.proofs.Common.{◌≢◌, ℕ, ◌+◌, List, [], drop, subst, ar
 use Rattle.std.proofs.lemmas.Result.{err_from_is_err_and}
 use Rattle.courier_programs.specs.Meanings.{meaning_model}
 use Rattle.program_tables.specs.Tables.{meaning_nodes}
-use Rattle.courier_texts.proofs.Printed.{item_here}
+use Rattle.courier_types.proofs.Loops.{item_here}
 use Rattle.program_tables.proofs.Nodes.{one_of_them}
 use Rattle.program_tables.proofs.tables.append_meanings.Goals as goal
 
