@@ -13,7 +13,7 @@ use std::alloc::Global;
 use std::io::{Read, Write};
 use xns_lines::{Pages, ThingPrinter};
 
-/// Reads a capture to its end, and prints what its packets say, in order, and what is said at its end. The answer is
+/// Reads a capture to its end, and prints what its packets say, in order, and what is said at its end. The result is
 /// whether a packet, or something at the end, was refused.
 ///
 /// # Errors

@@ -14,30 +14,30 @@ use Rattle.xns_lines.specs.declared.pages.Pages.{Pages}
 abbrev pub TextOf : Type 0 → Type 0
 TextOf A = List A → List ℕ
 
--- what they say, and so many parts of the end of the input behind them
+-- what things say, and so many parts of the end of the input behind the things
 abbrev pub TextWithEnd : Type 0 → Type 0
 TextWithEnd A = List A → ℕ → List ℕ
 
--- how many parts the end of the input has behind them
+-- how many parts the end of the input has behind things
 abbrev pub EndCount : Type 0 → Type 0
 EndCount A = List A → ℕ
 
--- what they say, and all parts of the end of the input behind them
+-- what things say, and all parts of the end of the input behind the things
 abbrev pub text_to_end : {A : Type 0} → TextWithEnd A → EndCount A → List A → List ℕ
 text_to_end text_of end_count things = text_of things (end_count things)
 
--- whether one of them is refused
+-- whether one of the things is refused
 abbrev pub HasRefused : Type 0 → Type 0
 HasRefused A = List A → Bool
 
 -- ---- a line, or another thing
 
--- its text begins behind these
+-- a thing's text begins on the page behind the text of the things before it
 pub record IsBegun {A : Type 0} (has_refused : HasRefused A) (page : Page) (things : List A) : Type 0 where
   pub text : page.text.line ≡ []
   pub refused : page.is_refused ≡ has_refused things
 
--- the next behind these is printed: its text is what they and it say more than they
+-- the next thing is printed: its text is what the things with it say more than the things without it
 pub record IsPrinted {A : Type 0} (has_printed : List A → Type 0) (text_of : TextOf A) (has_refused : HasRefused A) (page : Page)
     (things : List A) (next : A) : Type 0 where
   pub printed : has_printed (things ++ next ∷ [])
@@ -50,7 +50,7 @@ pub record IsEndPrinted (has_printed : ℕ → Type 0) (text_of : ℕ → List �
   pub text : text_of (part + 1) ≡ text_of part ++ page.text.line
   pub refused : page.is_refused ≡ has_refused (part + 1)
 
--- ---- between two of them
+-- ---- between two things
 
 -- what a printer puts out: what holds of it once it has printed some things and so many parts of the end behind them, what these say, whether
 -- something of them is refused, and how many parts the end has

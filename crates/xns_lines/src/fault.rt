@@ -1,4 +1,4 @@
-//! How a run ends without an answer.
+//! How a run ends before the end of its input.
 use thiserror::Error;
 
 /// Why a run stopped before the end of its input.

@@ -10,7 +10,7 @@ use crate::writing::write_whole;
 use std::alloc::Global;
 use std::io::Write;
 
-/// So many bytes of text are written at once.
+/// How many bytes of text are written at once.
 const FULL: usize = 65536;
 
 /// The text of an output, as far as it isn't written yet.

@@ -14,7 +14,7 @@ use std::alloc::Global;
 use std::io::{Read, Write};
 
 /// Reads an input of at most so many lines to its end, and prints what its lines say, in order, and what is said at its
-/// end. The answer is whether a line, or something at the end, was refused.
+/// end. The result is whether a line, or something at the end, was refused.
 ///
 /// Lines, their limits and faults are those of `take_lines`. Text is written before more of the input is awaited, and
 /// once there are 65,536 bytes of it: so less than that is held, and the text of one line or of one part of the end.

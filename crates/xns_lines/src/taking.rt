@@ -24,7 +24,7 @@ const PIECE: usize = 65536;
 /// `Read` where a read fails, for whatever reason; `LineTooLong` where a line has over 4,096 bytes, its byte 13 among
 /// them and its byte 10 not; `TooManyLines` where there are more lines than `most`; `NoMemory` where a growth is refused; and
 /// the taker's own faults, `NoMemory` and `Write`. Of the limits' faults the one that comes first in the input is
-/// answered. The lines before the fault are handed on.
+/// returned. The lines before the fault are handed on.
 pub fn take_lines<R: Read, T: LineTaker, W: Write>(
     alloc: Global,
     most: usize,

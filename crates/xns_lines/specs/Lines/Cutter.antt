@@ -21,7 +21,7 @@ pub record HasCut (most : ℕ) (cutter : Cutter) (taken : List ℕ) : Type 0 whe
   pub open_short : length (open_line taken) ≤ most_line_bytes
   pub few : length (lines_of taken) ≤ most
 
--- and the taker stands for the lines that are over
+-- the cutter has taken these bytes, and the taker stands for the lines that are over
 abbrev pub HasTaken : ℕ → Cutter → Says → List ℕ → Type 0
 HasTaken most cutter stands taken = HasCut most cutter taken × stands (closed_lines taken)
 
@@ -57,7 +57,7 @@ pub record IsCutShort (most : ℕ) (f : RunFault) (taken : List ℕ) (left : Say
   pub found : IsJustifiedAt most f front more
   pub is_left : left (closed_lines front)
 
--- after a fault: of the lines of what was read these are good, of which this is so, and those come next
+-- after a fault: the lines of what was read are the good ones, of which `left` holds, and the ones that come next
 pub record StopsShort (most : ℕ) (f : RunFault) (read : List ℕ) (left : Says) : Type 0 where
   pub good : List (List ℕ)
   pub next : List (List ℕ)
