@@ -8,7 +8,7 @@ use Rattle.xns_agenda.specs.declared.way.Way.{Way}
 use Rattle.xns_agenda.specs.declared.way.Way.TheVariants.{Lingers, Stranger, Nobody}
 
 -- what is known of connections by their numbers: when something is due; which may have a packet to send; which may have
--- an event; since when a closed one lingers; since when a stranger is silent; and which numbers no connection has.
+-- an event; when a closed one that lingers is forgotten; when a stranger was last heard; and which numbers no connection has.
 -- Where memory was refused for a packet and nothing was noted since, `short` is when packets are asked for again
 pub record Plan : Type 0 where
   pub dues : List (Option ℕ)
@@ -46,8 +46,8 @@ noted a number f = record a {
   dues = slice_set a.dues number f.due;
   packets = with_turn a.packets number f.has_packet;
   events = with_turn a.events number f.has_event;
-  closed = slice_set a.closed number f.lingers_since;
-  strangers = slice_set a.strangers number f.stranger_since;
+  closed = slice_set a.closed number f.forgotten_at;
+  strangers = slice_set a.strangers number f.stranger_heard_at;
   short = None;
 }
 
@@ -67,8 +67,8 @@ released a number = record {
 pub record IsNoted (a : Plan) (number : ℕ) (f : Facts) : Type 0 where
   pub due : slice_get a.dues number ≡ Some f.due
   pub packet : has_turn a.packets number ≡ f.has_packet
-  pub closed : slice_get a.closed number ≡ Some f.lingers_since
-  pub stranger : slice_get a.strangers number ≡ Some f.stranger_since
+  pub closed : slice_get a.closed number ≡ Some f.forgotten_at
+  pub stranger : slice_get a.strangers number ≡ Some f.stranger_heard_at
 
 -- no connection has this number, and nothing is to be done at it
 pub record HasNobody (a : Plan) (number : ℕ) : Type 0 where
@@ -113,6 +113,6 @@ pub record HasNoNumber (free : Line) (closed strangers : List (Option ℕ)) : Ty
 
 -- the number of the connection that gives way, if one does
 abbrev pub number_in : Way → Option ℕ
-number_in (Lingers number since) = Some number
-number_in (Stranger number since) = Some number
+number_in (Lingers number forgotten_at) = Some number
+number_in (Stranger number heard_at) = Some number
 number_in Nobody = None

@@ -166,8 +166,8 @@ impl Agenda {
         self.dues.set(number, facts.due);
         self.packets.set(number, facts.has_packet);
         self.events.set(number, facts.has_event);
-        self.places.set_closed(number, facts.lingers_since);
-        self.places.set_stranger(number, facts.stranger_since);
+        self.places.set_closed(number, facts.forgotten_at);
+        self.places.set_stranger(number, facts.stranger_heard_at);
         self.short = None;
     }
 

@@ -9,10 +9,10 @@ pub struct Facts {
     pub has_packet: bool,
     /// Whether there may be an event for the program.
     pub has_event: bool,
-    /// Since when the connection lingers, if it is closed and the program has fetched that event.
-    pub lingers_since: Option<u64>,
+    /// When the connection is forgotten, if it is closed and the program has fetched that event.
+    pub forgotten_at: Option<u64>,
     /// When the peer was last heard, if it opened the connection, has not confirmed it, and the program has fetched no event of it.
-    pub stranger_since: Option<u64>,
+    pub stranger_heard_at: Option<u64>,
 }
 
 impl Facts {
@@ -21,7 +21,7 @@ impl Facts {
         due: None,
         has_packet: false,
         has_event: false,
-        lingers_since: None,
-        stranger_since: None,
+        forgotten_at: None,
+        stranger_heard_at: None,
     };
 }

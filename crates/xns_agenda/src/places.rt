@@ -28,23 +28,23 @@ impl Places {
         Ok(Places { closed, strangers })
     }
 
-    /// Notes since when the connection with this number lingers. `None`: it does not linger.
+    /// Notes when the connection with this number, which lingers, is forgotten. `None`: it does not linger.
     #[inline(always)]
-    pub fn set_closed(&mut self, number: usize, since: Option<u64>)
+    pub fn set_closed(&mut self, number: usize, forgotten_at: Option<u64>)
         requires { number < length self.old.closed }
-        ensures { self.new ≡ record self.old { closed = slice_set self.old.closed number since } }
+        ensures { self.new ≡ record self.old { closed = slice_set self.old.closed number forgotten_at } }
     {
-        self.closed.set(number, since);
+        self.closed.set(number, forgotten_at);
     }
 
-    /// Notes since when the peer of the connection with this number is silent, which opened it and never confirmed it. `None`: its peer is
-    /// no such peer.
+    /// Notes when the peer of the connection with this number was last heard, where that peer opened it and never confirmed it. `None`: its
+    /// peer is no such peer.
     #[inline(always)]
-    pub fn set_stranger(&mut self, number: usize, since: Option<u64>)
+    pub fn set_stranger(&mut self, number: usize, heard_at: Option<u64>)
         requires { number < length self.old.strangers }
-        ensures { self.new ≡ record self.old { strangers = slice_set self.old.strangers number since } }
+        ensures { self.new ≡ record self.old { strangers = slice_set self.old.strangers number heard_at } }
     {
-        self.strangers.set(number, since);
+        self.strangers.set(number, heard_at);
     }
 
     /// The connection that gives way to a new one, where there is no room: the closed one that lingers longest. Where none
@@ -54,11 +54,11 @@ impl Places {
         ensures stranger { (k t : ℕ) → result ≡ Stranger k t → HasEarliest self.now.closed None × IsEarliest self.now.strangers k t }
         ensures nobody { result ≡ Nobody → HasEarliest self.now.closed None × HasEarliest self.now.strangers None }
     {
-        if let Some((number, since)) = self.closed.first() {
-            return Way::Lingers(number, since);
+        if let Some((number, forgotten_at)) = self.closed.first() {
+            return Way::Lingers(number, forgotten_at);
         }
         match self.strangers.first() {
-            Some((number, since)) => Way::Stranger(number, since),
+            Some((number, heard_at)) => Way::Stranger(number, heard_at),
             None => Way::Nobody,
         }
     }

@@ -5,9 +5,9 @@ ghost use Rattle.std.specs.Prelude.{◌≡◌};
 /// Which connection gives way to a new one.
 #[derive(Clone, Copy, Debug, PartialEq, Eq)]
 pub enum Way {
-    /// The connection with this number, which is closed and lingers since this time.
+    /// The connection with this number, which is closed, lingers, and is forgotten at this time.
     Lingers(usize, u64),
-    /// The connection with this number, which its peer opened and never confirmed, and which is silent since this time.
+    /// The connection with this number, which its peer opened and never confirmed. The peer was last heard at this time.
     Stranger(usize, u64),
     /// No connection gives way.
     Nobody,

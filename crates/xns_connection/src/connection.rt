@@ -334,7 +334,8 @@ impl Connection {
         self.told
     }
 
-    /// Whether the peer has replied.
+    /// Whether the end knows its peer's identifier: of a connection that we opened, whether the peer has replied; of one that a peer opened,
+    /// always.
     pub fn is_open(&self) -> bool
         ensures { (s : State) → StandsFor self.now.conversation.endpoint s → result ≡ is_open s.ends }
     {

@@ -50,7 +50,7 @@ fn asks_word(conversation: &Conversation, waiting: Option<u64>) -> bool
     waiting.is_none() && conversation.wants_word()
 }
 
-/// Restarts the timer of an open connection after a step.
+/// Takes a step of an open connection into its wait: its timer starts or stops, and one that runs for the same cause goes on.
 #[tactic(auto, using(crate::proofs::Moments::one_step))]
 pub fn wait_on(conversation: &Conversation, wait: &mut Wait, now: u64)
     requires { is_open_due wait.old.due ≡ true }
@@ -64,7 +64,7 @@ pub fn wait_on(conversation: &Conversation, wait: &mut Wait, now: u64)
     wait.step(waiting, asks_word(conversation, waiting), now);
 }
 
-/// After items moved: records the close reason, if any, and restarts the timer.
+/// After items moved: records the close reason, if any, and takes the step into the wait.
 #[tactic(auto, using(crate::proofs::Moments::no_step, crate::proofs::Moments::one_close))]
 fn after_moving(
     conversation: &mut Conversation,
@@ -99,7 +99,8 @@ fn is_starved(moved: Result<(), FeedRefusal>) -> bool
     matches!(moved, Err(FeedRefusal::NoMemory))
 }
 
-/// Moves items until none can move; then records the close reason, if any, and what the connection owes, and restarts the timer.
+/// Moves items until none can move; then records the close reason, if any, and what the connection owes, and takes the step into the
+/// wait.
 pub fn settled(
     conversation: &mut Conversation,
     alloc: Global,
@@ -224,7 +225,7 @@ pub fn owed_after(owed: Owed, act: Act) -> Owed
     after
 }
 
-/// Restarts the timer of a connection after a step that closed none. The timer of a closed connection stays as it is.
+/// Takes a step that closed nothing into the wait of the connection. The wait of a closed connection stays as it is.
 #[tactic(auto, using(crate::proofs::Moments::no_step))]
 pub fn wait_unless(conversation: &Conversation, closed: Option<Why>, wait: &mut Wait, now: u64)
     requires open_due { closed ≡ None → is_open_due wait.old.due ≡ true }

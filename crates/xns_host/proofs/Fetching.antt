@@ -57,13 +57,3 @@ told_by false (Some w) none = absurd (cc)
 pub untold : (old new : Connection) → new ≡ record old { told = new.told } → new.told ≡ (old.told || is_some old.closed)
     → None ≡ (if old.told then None else old.closed) → new ≡ old
 untold old new is told none = is ∙ ap (λ (b : Bool). record old { told = b }) (told ∙ told_by old.told old.closed none)
-
-told_true : (b : Bool) (o : Option Why) (w : Why) → Some w ≡ (if b then None else o) → (b || is_some o) ≡ true
-told_true true o w some = refl
-told_true false None w some = absurd (cc)
-told_true false (Some v) w some = refl
-
--- where there is one, the program is told from now on
-pub told_now : (old new : Connection) (w : Why) → new ≡ record old { told = new.told } → new.told ≡ (old.told || is_some old.closed)
-    → Some w ≡ (if old.told then None else old.closed) → new ≡ record old { told = true }
-told_now old new w is told some = is ∙ ap (λ (b : Bool). record old { told = b }) (told ∙ told_true old.told old.closed w some)

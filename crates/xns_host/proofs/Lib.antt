@@ -13,11 +13,11 @@ mod Hearing
 mod Joining
 mod Leaving
 mod Meant
-mod Noting
+pub mod Noting
 mod OnTerms
 mod Openers
 mod Ordered
-mod Placed
+pub mod Placed
 mod Registered
 mod Serving
 mod Turns

@@ -66,15 +66,15 @@ other_noted a b k p is dues packets events closed strangers free = record {
 note_other : (a : Plan) (n k : ℕ) (f : Facts) (p : Option Guest) → k ≢ n → IsNotedIn a k p → IsNotedIn (noted a n f) k p
 note_other a n k f p other is =
     other_noted a (noted a n f) k p is (place_other a.dues n k f.due other) (turn_other a.packets n k f.has_packet other)
-    (turn_other a.events n k f.has_event other) (place_other a.closed n k f.lingers_since other)
-    (place_other a.strangers n k f.stranger_since other) refl
+    (turn_other a.events n k f.has_event other) (place_other a.closed n k f.forgotten_at other)
+    (place_other a.strangers n k f.stranger_heard_at other) refl
 
 note_same : (a : Plan) (n most : ℕ) (f : Facts) → IsFor a most → n < most → IsNoted (noted a n f) n f
 note_same a n most f is less = record {
   due = place_set a.dues n f.due (omega (arith, is.dues, less));
   packet = turn_same a.packets n f.has_packet (omega (arith, is.packets, less));
-  closed = place_set a.closed n f.lingers_since (omega (arith, is.closed, less));
-  stranger = place_set a.strangers n f.stranger_since (omega (arith, is.strangers, less));
+  closed = place_set a.closed n f.forgotten_at (omega (arith, is.closed, less));
+  stranger = place_set a.strangers n f.stranger_heard_at (omega (arith, is.strangers, less));
 }
 
 there_none : {X : Type 0} (o : Option X) → is_some o ≡ false → o ≡ None

@@ -1,16 +1,17 @@
 -- A step of a host from one of the connection in a place.
-use Rattle.std.proofs.Common.{◌≡◌, ◌≢◌, ◌⊎◌, inl, inr, ◌<◌, ◌∙◌, ap, refl, sym, subst, ℕ, Bool, List, Option, Some, None, Result, get_or, slice_get, slice_set, length, true, false}
+use Rattle.std.proofs.Common.{◌≡◌, ◌≢◌, ◌⊎◌, inl, inr, ◌<◌, ◌∙◌, ap, refl, sym, subst, ℕ, Bool, List, Option, Some, None, Result, Ok, get_or, slice_get, slice_set, length, true, false}
 use Rattle.std.specs.Prelude.{◌||◌, if◌then◌else◌}
 use Rattle.std.specs.Option.{is_some}
 use Rattle.std.proofs.lemmas.List.{length-set}
 use Rattle.std.proofs.lemmas.Option.{slice_get_read}
 use Rattle.courier_messages.specs.declared.message.Message.{Message}
-use Rattle.xns_agenda.specs.Agenda.{Plan}
+use Rattle.xns_agenda.specs.Agenda.{Plan, noted}
+use Rattle.xns_agenda.specs.Clock.{time_at}
 use Rattle.xns_agenda.specs.Waiting.{act_at}
 use Rattle.xns_connection.specs.Deeds.{Deed, heard, told_by}
 use Rattle.xns_connection.specs.Ends.{AConnectionKeepsItsEnd, KeepsEnd}
 use Rattle.xns_host.specs.Events.{event_by, event_for, is_newly_open, later_event}
-use Rattle.xns_host.specs.Hosting.{HasNoneDone, IsAllNoted, IsApart, IsNotDone, IsNotDoneIn, IsNotedBut, has_guest, may_go}
+use Rattle.xns_host.specs.Hosting.{HasNoneDone, IsAllNoted, IsNotDone, IsNotDoneIn, IsNotedBut, facts_in, has_guest, may_go}
 use Rattle.xns_host.specs.Knowing.{known_in, known_of}
 use Rattle.xns_host.specs.Places.{places_with, vacated_if}
 use Rattle.xns_host.specs.Registered.{HasStory, IsAllRegistered}
@@ -22,6 +23,8 @@ use Rattle.xns_connection.specs.declared.connection.Connection.{Connection}
 use Rattle.xns_host.specs.declared.event.Event.{Event}
 use Rattle.xns_host.specs.declared.event.Event.TheVariants.{Opened}
 use Rattle.xns_host.specs.declared.guest.Guest.{Guest}
+use Rattle.xns_host.specs.Turn.{Frame, Turn}
+use Rattle.xns_host.specs.declared.host.Host.{Host}
 use Rattle.xns_host.specs.declared.host_fault.HostFault.{HostFault}
 use Rattle.xns_host.specs.declared.outgoing.Outgoing.{Outgoing}
 use Rattle.xns_host.specs.declared.register.Register.{Register}
@@ -29,6 +32,7 @@ use Rattle.xns_connection.specs.declared.why.Why.{Why}
 use Rattle.xns_host.proofs.Ends.{from_story, goes_story, hears_story, still_keeps, still_story}
 use Rattle.xns_host.proofs.Meant.{acts_so, given_so, handed_story, handing, handing_steps, heard_hears}
 use Rattle.xns_agenda.proofs.Putting.{place_other, place_set, same_or_other}
+use Rattle.xns_host.proofs.Apart.{set_apart}
 use Rattle.xns_host.proofs.Noting.{kept_but}
 use Rattle.xns_host.proofs.Placed.{set_back, settled_apart, settled_gone, settled_kept}
 use Rattle.xns_host.proofs.Registered.{still_registered}
@@ -229,9 +233,27 @@ who None has = absurd (cc)
 who (Some None) has = absurd (cc)
 who (Some (Some g)) has = (g, refl)
 
--- only one place has another
-pub set_apart : (gs : Places) (n : ℕ) (v : Option Guest) → IsApart gs (slice_set gs n v) n
-set_apart gs n v = record { others = λ k other. place_other gs n k v other }
+-- a connection is in the place that was read, so a function that was called of it finds one
+pub is_found : (gs : Places) (n : ℕ) (old : Option Guest) (g : Guest) → n < length gs → old ≡ get_or gs n old → old ≡ Some g → has_guest (slice_get gs n) ≡ false → ⊥
+is_found gs n old g less read is none = let some = not_none gs n g (is_there gs n old g less read is) in absurd (cc)
 
 pub one_guest : (gs : Places) (n : ℕ) (g f : Guest) → slice_get gs n ≡ Some (Some g) → slice_get gs n ≡ Some (Some f) → g ≡ f
 one_guest gs n g f here there = cc
+
+-- the connection in the place that was read is the one that has the number
+pub is_the_one : (gs : Places) (n : ℕ) (old : Option Guest) (g f : Guest) → n < length gs → old ≡ get_or gs n old → old ≡ Some g → slice_get gs n ≡ Some (Some f) → g ≡ f
+is_the_one gs n old g f less read is there = one_guest gs n g f (is_there gs n old g less read is) there
+
+-- one deed was done at the connection with a number, and nothing else
+pub turned : (now number t : ℕ) (deed : Deed) (old new : Host) (place : Option Guest) (g h : Guest) → t ≡ time_at old.clock now → number < length old.guests.items → place ≡ get_or old.guests.items number place
+    → place ≡ Some g → GuestStep t deed g h → new.guests.items ≡ slice_set old.guests.items number (Some h)
+    → ((p : Option Guest) → slice_get new.guests.items number ≡ Some p → new.agenda ≡ noted old.agenda number (facts_in p)) → Frame now old new → Turn now number deed (Ok tt) old new
+turned now number t deed old new place g h told less read is step there marked frame = record {
+  went = subst (λ (gs : Places). Went (time_at old.clock now) deed (slice_get old.guests.items number) (slice_get gs number)) (sym there)
+      (went_set t (time_at old.clock now) deed old.guests.items number place g h told less read is step);
+  apart = set_apart old.guests.items new.guests.items number (Some h) there;
+  noted = marked;
+  unchanged = tt;
+  unnoted = tt;
+  frame = frame;
+}

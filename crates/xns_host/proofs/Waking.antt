@@ -4,7 +4,7 @@ use Rattle.std.specs.Prelude.{position}
 use Rattle.std.proofs.lemmas.Option.{slice_get-get_or, slice_get_within}
 use Rattle.xns_agenda.specs.Agenda.{Plan, IsFor, IsWake, IsWanted, asked_at, packet_waits, event_waits, is_due, GivesWay, longest_closed, longest_silent}
 use Rattle.xns_agenda.specs.Agenda.{GetsNumber, free_number, given_way, HasNoNumber}
-use Rattle.xns_host.specs.Hosting.{IsAllNoted, IsNotedIn, facts_in, lingers_since, stranger_since, Wants, for_stray, for_packet, for_event, for_due, IsFirstWant, MayTell}
+use Rattle.xns_host.specs.Hosting.{IsAllNoted, IsNotedIn, facts_in, forgotten_at, stranger_heard_at, Wants, for_stray, for_packet, for_event, for_due, IsFirstWant, MayTell}
 use Rattle.xns_host.specs.Events.{event_in}
 use Rattle.xns_host.specs.Hosting.{IsFull, HasNoneSooner, IsPlace, free_place, of_closed, of_stranger, HasNoRoom}
 use Rattle.xns_host.specs.Identifiers.{is_free}
@@ -122,12 +122,12 @@ none_sooner : (gs : Places) (times : List (Option ℕ)) (since : Guest → Optio
 none_sooner gs times since first noted earliest = λ k t g there is. earliest.least k t (noted k g there ∙ ap Some is)
 
 none_closed : (a : Plan) (gs : Places) (first : Option ℕ) → IsAllNoted a gs → HasEarliest a.closed first
-    → HasNoneSooner (λ h. lingers_since h.connection) gs first
+    → HasNoneSooner (λ h. forgotten_at h.connection) gs first
 none_closed a gs first all earliest =
-    none_sooner gs a.closed (λ h. lingers_since h.connection) first (λ k g there. (all.each k (Some g) there).facts.closed) earliest
+    none_sooner gs a.closed (λ h. forgotten_at h.connection) first (λ k g there. (all.each k (Some g) there).facts.closed) earliest
 
-none_strange : (a : Plan) (gs : Places) (first : Option ℕ) → IsAllNoted a gs → HasEarliest a.strangers first → HasNoneSooner stranger_since gs first
-none_strange a gs first all earliest = none_sooner gs a.strangers stranger_since first (λ k g there. (all.each k (Some g) there).facts.stranger) earliest
+none_strange : (a : Plan) (gs : Places) (first : Option ℕ) → IsAllNoted a gs → HasEarliest a.strangers first → HasNoneSooner stranger_heard_at gs first
+none_strange a gs first all earliest = none_sooner gs a.strangers stranger_heard_at first (λ k g there. (all.each k (Some g) there).facts.stranger) earliest
 
 free_in : (a : Plan) (gs : Places) (k : ℕ) (p : Option Guest) → IsNotedIn a k p → slice_get gs k ≡ Some p → has_turn a.free k ≡ true → IsPlace gs k
 free_in a gs k None noted there has = free_place k there
@@ -136,12 +136,12 @@ free_in a gs k (Some g) noted there has = let no : has_turn a.free k ≡ false =
 way_in : {k : ℕ} (a : Plan) (gs : Places) → IsAllNoted a gs → IsFor a (length a.dues) → Sized a gs → HasNoTurn a.free
     → GivesWay a.closed a.strangers k → IsPlace gs k
 way_in a gs all for_most sized none (longest_closed k t e) =
-    let here : HasTime gs k t (λ g. lingers_since g.connection)
-    = has_time a gs k t a.closed (λ f. f.lingers_since) (for_most.closed ∙ sym sized) refl (λ p there. (all.each k p there).facts.closed) e.there in
+    let here : HasTime gs k t (λ g. forgotten_at g.connection)
+    = has_time a gs k t a.closed (λ f. f.forgotten_at) (for_most.closed ∙ sym sized) refl (λ p there. (all.each k p there).facts.closed) e.there in
     of_closed k t here.guest (full a gs all none) here.there here.is (none_closed a gs (Some t) all e.least)
 way_in a gs all for_most sized none (longest_silent k t nobody_closed e) =
-    let here : HasTime gs k t stranger_since
-    = has_time a gs k t a.strangers (λ f. f.stranger_since) (for_most.strangers ∙ sym sized) refl (λ p there. (all.each k p there).facts.stranger) e.there in
+    let here : HasTime gs k t stranger_heard_at
+    = has_time a gs k t a.strangers (λ f. f.stranger_heard_at) (for_most.strangers ∙ sym sized) refl (λ p there. (all.each k p there).facts.stranger) e.there in
     of_stranger k t here.guest (full a gs all none) (none_closed a gs None all nobody_closed) here.there here.is (none_strange a gs (Some t) all e.least)
 
 pub gets_place : {k : ℕ} (a : Plan) (gs : Places) → IsAllNoted a gs → IsFor a (length a.dues) → Sized a gs → GetsNumber a.free a.closed a.strangers k → IsPlace gs k

@@ -45,13 +45,13 @@ tells c = has_message c.conversation.side || (is_some c.closed && not c.told)
 abbrev pub may_tell : Guest → Bool
 may_tell g = is_newly_open g || tells g.connection
 
--- since when the connection lingers, if it is closed and the program was told
-abbrev pub lingers_since : Connection → Option ℕ
-lingers_since c = if is_some c.closed && c.told then due_time c.wait.due else None
+-- when the connection is forgotten, if it is closed and the program was told
+abbrev pub forgotten_at : Connection → Option ℕ
+forgotten_at c = if is_some c.closed && c.told then due_time c.wait.due else None
 
 -- when its peer was last heard, if that peer only opened the connection, and nothing came of the connection yet
-abbrev pub stranger_since : Guest → Option ℕ
-stranger_since g =
+abbrev pub stranger_heard_at : Guest → Option ℕ
+stranger_heard_at g =
     if is_some (opener_of g.connection) && (not g.confirmed && (not g.heard_of &&
     (not (is_some g.connection.closed) && not (tells g.connection)))) then Some g.connection.wait.heard_at else None
 
@@ -60,8 +60,8 @@ facts_of g = record {
   due = due_time g.connection.wait.due;
   has_packet = g.connection.owed.fresh;
   has_event = may_tell g;
-  lingers_since = lingers_since g.connection;
-  stranger_since = stranger_since g;
+  forgotten_at = forgotten_at g.connection;
+  stranger_heard_at = stranger_heard_at g;
 }
 
 -- a connection that is closed lingers no more, or is dead and did not linger
@@ -206,16 +206,16 @@ HasNoneSooner since guests first = (k t : ℕ) (g : Guest) → slice_get guests 
 -- lingers, that of the one longest silent of those that a peer opened and never confirmed
 pub data IsPlace (guests : List (Option Guest)) : ℕ → Type 0 where
   free_place : (k : ℕ) → slice_get guests k ≡ Some None → IsPlace guests k
-  of_closed : (k t : ℕ) (g : Guest) → IsFull guests → slice_get guests k ≡ Some (Some g) → lingers_since g.connection ≡ Some t
-      → HasNoneSooner (λ h. lingers_since h.connection) guests (Some t) → IsPlace guests k
-  of_stranger : (k t : ℕ) (g : Guest) → IsFull guests → HasNoneSooner (λ h. lingers_since h.connection) guests None
-      → slice_get guests k ≡ Some (Some g) → stranger_since g ≡ Some t → HasNoneSooner stranger_since guests (Some t) → IsPlace guests k
+  of_closed : (k t : ℕ) (g : Guest) → IsFull guests → slice_get guests k ≡ Some (Some g) → forgotten_at g.connection ≡ Some t
+      → HasNoneSooner (λ h. forgotten_at h.connection) guests (Some t) → IsPlace guests k
+  of_stranger : (k t : ℕ) (g : Guest) → IsFull guests → HasNoneSooner (λ h. forgotten_at h.connection) guests None
+      → slice_get guests k ≡ Some (Some g) → stranger_heard_at g ≡ Some t → HasNoneSooner stranger_heard_at guests (Some t) → IsPlace guests k
 
 -- no place is free, and no connection gives way
 pub record HasNoRoom (guests : List (Option Guest)) : Type 0 where
   pub full : IsFull guests
-  pub lingers : HasNoneSooner (λ h. lingers_since h.connection) guests None
-  pub strangers : HasNoneSooner stranger_since guests None
+  pub lingers : HasNoneSooner (λ h. forgotten_at h.connection) guests None
+  pub strangers : HasNoneSooner stranger_heard_at guests None
 
 -- ---- a new connection
 

@@ -19,7 +19,7 @@ opener_to socket (Some o) = Some (peer_at o.0 o.1 socket)
 abbrev pub who_opened : Guest → Option Peer
 who_opened g = opener_to g.connection.conversation.endpoint.ends.own.socket (opener_of g.connection)
 
--- what a host knows of a connection beside what the connection is: by which way its packets go out, and its peer
+-- what a host knows of a connection beside what the connection is: by which via its packets go out, and its peer
 pub record Known : Type 0 where
   pub via : ℕ
   pub peer : Address

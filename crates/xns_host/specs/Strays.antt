@@ -5,7 +5,7 @@ use Rattle.xns_small.specs.ErrorReport.{MayBeComplainedOf, complaint}
 use Rattle.xns_host.specs.declared.outgoing.Outgoing.{Outgoing}
 
 -- the packets that wait, the first one first, at most so many; and whether memory was refused for a packet that was to be answered here or to
--- open a connection, and none was put here since
+-- open a connection, and none was put here since, with room for it or without
 pub record StrayQueue : Type 0 where
   pub most : ℕ
   pub waiting : List Outgoing

@@ -56,8 +56,8 @@ pub record GuestUnserved (now error : ℕ) (g h : Guest) : Type 0 where
 abbrev pub GuestAnnounced : (g h : Guest) → Type 0
 GuestAnnounced g h = h ≡ record g { opening_untold = false }
 
--- the message that waits was handed, and the program was told of a call of the connection from then on; where none waits, the program was
--- told why the connection is closed. That it is open is not told any longer
+-- the message that waits was handed, and the host knows from then on that the program was handed one; where none waits, the program was told
+-- why the connection is closed. That it is open is not told any longer
 pub record GuestTells (now : ℕ) (g h : Guest) : Type 0 where
   pub same : h ≡ record g {
     connection = h.connection;

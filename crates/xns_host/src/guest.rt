@@ -3,7 +3,7 @@
 ghost use Rattle.std.specs.Prelude.{◌≡◌, ◌≢◌, ◌<◌, ℕ, List, OnErr, OnOk, Ok, None, Some, false, true};
 ghost use Rattle.xns_agenda.specs.Waiting.{IsDueAfter, last_time};
 ghost use Rattle.xns_host.specs.Events.{event_for, is_newly_open};
-ghost use Rattle.xns_host.specs.Hosting.{IsNotDone, facts_of, lingers_since, may_go, stranger_since};
+ghost use Rattle.xns_host.specs.Hosting.{IsNotDone, facts_of, forgotten_at, may_go, stranger_heard_at};
 ghost use Rattle.xns_host.specs.Knowing.{id_of, who_opened};
 ghost use Rattle.xns_spp.specs.Ends.{is_ours_at};
 ghost use Rattle.xns_spp.specs.Held.{StandsFor};
@@ -39,9 +39,9 @@ pub struct Guest {
     pub peer: Address,
     /// Whether a packet of the connection with our identifier came.
     pub confirmed: bool,
-    /// Whether the program was told of a call of the connection.
+    /// Whether the program was handed a message of the connection: a call, where the peer opened it.
     pub heard_of: bool,
-    /// Whether the program is still to be told that the connection is open, once that is confirmed: nothing of the connection was told yet.
+    /// Whether the program is still to be told that the connection is open, once it is confirmed: nothing of the connection was told yet.
     pub opening_untold: bool,
     /// The program's own number for the connection, which its events have. 0: none was set.
     pub tag: u64,
@@ -207,10 +207,11 @@ impl Guest {
             && self.connection.is_out(quote.sequence)
     }
 
-    /// Since when the connection lingers. `None`: it is open, or the program was not told that it is closed.
+    /// When the connection, which lingers, is forgotten. `None`: it is open, or the program was not told that it is closed, or it lingers no
+    /// more.
     #[inline(always)]
-    fn lingers_since(&self) -> Option<u64>
-        ensures { result ≡ lingers_since self.now.connection }
+    fn forgotten_at(&self) -> Option<u64>
+        ensures { result ≡ forgotten_at self.now.connection }
     {
         if self.connection.is_closed() && self.connection.is_told() {
             self.connection.due().time()
@@ -221,8 +222,8 @@ impl Guest {
 
     /// When its peer was last heard, if that peer only opened the connection.
     #[inline(always)]
-    fn stranger_since(&self) -> Option<u64>
-        ensures { result ≡ stranger_since self.now }
+    fn stranger_heard_at(&self) -> Option<u64>
+        ensures { result ≡ stranger_heard_at self.now }
     {
         if self.connection.peer_opened()
             && !self.confirmed
@@ -245,8 +246,8 @@ impl Guest {
             due: self.connection.due().time(),
             has_packet: self.connection.has_packet(),
             has_event: self.is_newly_open() || self.connection.has_event(),
-            lingers_since: self.lingers_since(),
-            stranger_since: self.stranger_since(),
+            forgotten_at: self.forgotten_at(),
+            stranger_heard_at: self.stranger_heard_at(),
         }
     }
 

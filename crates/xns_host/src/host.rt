@@ -152,8 +152,8 @@ impl Host {
     /// Opens a connection from this socket of ours to the peer, whose side calls; its number. Its packets go out by this `via`. From then on
     /// the host complains of sequenced packets to the socket that are of no connection.
     ///
-    /// An `Err`, which changes nothing, is [`HostFault::EveryHost`] to or from the broadcast host, [`HostFault::NoSocket`] to or from socket
-    /// 0, [`HostFault::NoRoom`] where there is no room and none gives way, or [`HostFault::NoMemory`].
+    /// An `Err`, which changes nothing but the host's time, is [`HostFault::EveryHost`] to or from the broadcast host, [`HostFault::NoSocket`] to or from socket
+    /// 0, [`HostFault::NoRoom`] where there is no room and none gives way or each identifier is in use, or [`HostFault::NoMemory`].
     pub fn connect(
         &mut self,
         now: u64,
@@ -210,7 +210,7 @@ impl Host {
 
     /// Puts out a call on a connection that was opened by [`connect`](Host::connect).
     ///
-    /// An `Err`, which changes nothing, is [`HostFault::NoConnection`], [`HostFault::PeerCalls`] where the peer opened it,
+    /// An `Err`, which changes nothing but the host's time, is [`HostFault::NoConnection`], [`HostFault::PeerCalls`] where the peer opened it,
     /// [`HostFault::Closing`] where it is closed or was asked to close, [`HostFault::Busy`] while a call waits or its answer was not
     /// fetched, [`HostFault::TooLong`] over 65,530 words, or [`HostFault::NoMemory`].
     #[tactic(auto, using(crate::proofs::Noting::put_back))]
@@ -236,7 +236,7 @@ impl Host {
 
     /// Answers the call that was handed of this connection.
     ///
-    /// An `Err`, which changes nothing, is [`HostFault::NoConnection`], [`HostFault::NoCall`] where no call was handed that is not
+    /// An `Err`, which changes nothing but the host's time, is [`HostFault::NoConnection`], [`HostFault::NoCall`] where no call was handed that is not
     /// answered, [`HostFault::Closing`] where the connection is closed, [`HostFault::TooLong`] over 131,072 bytes, or
     /// [`HostFault::NoMemory`].
     #[tactic(auto, using(crate::proofs::Noting::put_back))]
@@ -266,7 +266,8 @@ impl Host {
         Ok(())
     }
 
-    /// Closes a connection once all that it has to say is said. An `Err`, which changes nothing, is [`HostFault::NoConnection`].
+    /// Closes a connection once all that it has to say is said. An `Err`, which changes nothing but the host's time, is
+    /// [`HostFault::NoConnection`].
     #[tactic(auto, using(crate::proofs::Noting::put_back))]
     pub fn close(&mut self, now: u64, number: usize) -> Result<(), HostFault>
         ensures none { has_guest (slice_get self.old.guests.items number) ≡ false → result ≡ Err (NoConnection number) }
@@ -297,7 +298,7 @@ impl Host {
         }
     }
 
-    /// Gives a connection up at once: it is gone, nothing of it goes out any longer, its closing is not told, and its number is free. What
+    /// Abandons a connection: it is gone at once, nothing of it goes out any longer, its closing is not told, and its number is free. What
     /// still comes for it is as of a connection that is not there. An `Err`, which changes nothing, is [`HostFault::NoConnection`].
     pub fn abandon(&mut self, number: usize) -> Result<(), HostFault>
         ensures none { has_guest (slice_get self.old.guests.items number) ≡ false → result ≡ Err (NoConnection number) }

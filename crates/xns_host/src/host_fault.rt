@@ -14,7 +14,7 @@ pub enum HostFault {
     /// No connection has this number.
     #[error("no connection has the number {number}")]
     NoConnection { number: usize },
-    /// As many connections are there as the settings say, and none gives way.
+    /// As many connections are there as the settings say, and none gives way; or each identifier is in use.
     #[error("as many connections are there as the host may have")]
     NoRoom,
     /// A connection is to the broadcast host, which is every host, or from it.

@@ -19,7 +19,8 @@ use xns_spp::Bytes;
 pub struct Strays {
     waiting: VecDeque<Outgoing>,
     most: usize,
-    /// Whether memory was refused for a packet that was to be answered here or to open a connection, and no packet was put here since.
+    /// Whether memory was refused for a packet that was to be answered here or to open a connection, and no packet was put here since, with
+    /// room for it or without.
     starved: bool,
 }
 

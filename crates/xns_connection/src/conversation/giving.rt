@@ -30,7 +30,8 @@ impl Conversation {
         Ok(())
     }
 
-    /// Makes the packet of the first item that is not acknowledged. `None`: each item is acknowledged.
+    /// Makes the first of the packets that a tick sends: that of the first item that is not acknowledged, or a probe where it may not go
+    /// out, or the opening packet again. `None`: each item is acknowledged.
     fn again(&mut self, alloc: Global) -> Result<Option<Bytes>, AllocError>
         ensures answer { IfOk result (λ o. (s : State) → StandsFor self.old.endpoint s → o ≡ resend_answer s) }
         ensures side { (self.new.side ≡ self.old.side) × (self.new.closing ≡ self.old.closing) }

@@ -22,7 +22,8 @@ impl Host {
     ghost use Rattle.xns_host.specs.declared.guest.Guest.{Guest};
     ghost use Rattle.xns_host.specs.declared.host_fault.HostFault.TheVariants.{NoMemory};
 
-    /// Takes the next event of connection `number`, and moves it to the back of the queue. `None`: it has no event, and leaves the queue.
+    /// Takes the next event of connection `number`, which goes to the back of the queue if it may have another. `None`: the connection has no
+    /// event, and leaves the queue.
     #[tactic(auto, using(crate::proofs::Turns::put_registered, crate::proofs::Turns::put_undone))]
     fn event(&mut self, number: usize) -> Option<Event>
         requires { number < length self.old.guests.items }
@@ -112,7 +113,8 @@ impl Host {
         }
     }
 
-    /// Takes the next packet of connection `number`, and moves it to the back of the queue. `None`: it has no packet, and leaves the queue.
+    /// Takes the next packet of connection `number`, which goes to the back of the queue if it may have another. `None`: the connection has no
+    /// packet, and leaves the queue. Where memory is refused, what is to go out stays so.
     #[tactic(auto, using(crate::proofs::Noting::put_back, crate::proofs::Turns::put_registered, crate::proofs::Turns::put_undone))]
     fn packet(&mut self, now: u64, number: usize) -> Result<Option<Outgoing>, HostFault>
         requires within { number < length self.old.guests.items }

@@ -42,8 +42,8 @@ impl Host {
     ghost use Rattle.xns_host.specs.Went.{GuestHears, GuestUnserved};
     ghost use Rattle.xns_host.specs.declared.guest.Guest.{Guest};
 
-    /// Takes a packet in that came by this `via`, and says whether it was for the host. One that was not changes nothing: it is the
-    /// program's to use.
+    /// Takes a packet in that came by this `via`, and says whether it was for the host. One that was not changes nothing but the host's time:
+    /// it is the program's to use.
     pub fn receive(&mut self, now: u64, via: u64, bytes: &[u8]) -> bool
         ensures takes { TakesIn now via bytes.now result self.old self.new }
     {
@@ -258,8 +258,8 @@ impl Host {
         true
     }
 
-    /// Takes in a packet that names no connection, if it opens one at a socket that is served; whether it does. Where there is no room, the
-    /// host complains; where memory is refused, that is noted, and the packet is as if lost.
+    /// Takes in a packet that names no connection, if it opens one at a socket that is served; whether it does. Where there is no room or no
+    /// identifier, the host complains; where memory is refused, that is noted, and the packet is as if lost.
     fn opening(
         &mut self,
         now: u64,

@@ -3,10 +3,10 @@ use Rattle.std.specs.Prelude.{slice_set}
 use Rattle.std.proofs.lemmas.List.{length-set}
 use Rattle.xns_host.specs.Hosting.{ActsIn}
 use Rattle.xns_host.specs.declared.guest.Guest.{Guest}
-use Rattle.xns_host.proofs.Apart.{apart_then, set_there}
+use Rattle.xns_host.proofs.Apart.{apart_then, set_apart, set_there}
 use Rattle.xns_host.proofs.Done.{act_settled}
 use Rattle.xns_host.proofs.Placed.{acts_at, no_place, other_place, settled_apart, settled_gone, settled_kept}
-use Rattle.xns_host.proofs.Turns.{acted_stays, acted_undone, is_there, one_guest, set_apart, settled_undone, stays_noted, stays_registered}
+use Rattle.xns_host.proofs.Turns.{acted_stays, acted_undone, is_there, one_guest, settled_undone, stays_noted, stays_registered}
 use Rattle.xns_host.proofs.host.Host.act.Goals as goal
 
 pub note-requires-clause-others : goal.note-requires-clause-others
@@ -61,5 +61,5 @@ pub returns-clause-apart : goal.returns-clause-apart
 returns-clause-apart c =
     let mid : List (Option Guest) = slice_set c.args.self.now.guests.items c.args.number (Some c.act.new.self) in
     apart_then c.args.self.now.guests.items mid c.settle_in.new.guests.items c.args.number
-    (set_apart c.args.self.now.guests.items c.args.number (Some c.act.new.self))
+    (set_apart c.args.self.now.guests.items mid c.args.number (Some c.act.new.self) refl)
     (settled_apart mid c.settle_in.new.guests.items c.note.new.agenda c.settle_in.new.agenda c.args.number c.is_done-over.result c.settle_in.ensures.places)

@@ -1,9 +1,9 @@
-use Rattle.std.proofs.Common.{subst, ◌≡◌, refl, rules, arith, Some, Ok}
+use Rattle.std.proofs.Common.{subst, ◌≡◌, refl, rules, arith, Ok}
 use Rattle.xns_connection.specs.Deeds.{gave}
 use Rattle.xns_connection.specs.Reasons.{answer_fault_of}
 use Rattle.xns_host.specs.Refusing.{TellsRefusal}
 use Rattle.xns_host.specs.declared.guest.Guest.{Guest}
-use Rattle.xns_host.proofs.Turns.{is_there, not_none, one_guest, set_apart, stays_noted, stays_registered, stays_undone, step_stays, step_undone, went_set}
+use Rattle.xns_host.proofs.Turns.{is_found, is_the_one, stays_noted, stays_registered, stays_undone, step_stays, step_undone, turned}
 use Rattle.xns_host.proofs.host.Host.answer.Goals as goal
 
 pub note-requires-clause-others : goal.note-requires-clause-others
@@ -23,23 +23,15 @@ invariant_of-self-2-clause-not_done c =
 
 pub returns-clause-none : goal.returns-clause-none
 returns-clause-none c = λ none.
-    let there = not_none c.args.self.now.guests.items c.args.number c.in-Some.guest
-    (is_there c.args.self.now.guests.items c.args.number c.index_mut.result.now c.in-Some.guest (omega arith) (search rules) c.in-Some.is) in
-    absurd (cc)
+    absurd (is_found c.args.self.now.guests.items c.args.number c.index_mut.result.now c.in-Some.guest (omega arith) (search rules) c.in-Some.is none)
 
 pub returns-clause-turn : goal.returns-clause-turn
-returns-clause-turn c = record {
-  went = went_set c.tell-now.result _ (gave c.args.answer c.args.words.now) c.args.self.now.guests.items c.args.number c.index_mut.result.now c.in-Some.guest c.answer.new.self c.tell-now.ensures.result
-      (omega arith) (search rules) c.in-Some.is c.in_ok-answer.ensures.step;
-  apart = set_apart c.args.self.now.guests.items c.args.number (Some c.answer.new.self);
-  noted = λ place there. c.note.ensures.is place (search rules);
-  unchanged = tt;
-  unnoted = tt;
-  frame = record { clock = c.tell-now.ensures.told; network = refl; host = refl; settings = refl; services = refl; register = refl; strays = refl };
-}
+returns-clause-turn c =
+    turned c.args.now c.args.number c.tell-now.result (gave c.args.answer c.args.words.now) c.args.self.now _ c.index_mut.result.now c.in-Some.guest c.answer.new.self c.tell-now.ensures.result (omega arith) (search rules) c.in-Some.is
+    c.in_ok-answer.ensures.step refl (λ place there. c.note.ensures.is place (search rules))
+    (record { clock = c.tell-now.ensures.told; network = refl; host = refl; settings = refl; services = refl; register = refl; strays = refl })
 
 pub returns-clause-refused : goal.returns-clause-refused
 returns-clause-refused c = λ g there.
-    let here = is_there c.args.self.now.guests.items c.args.number c.index_mut.result.now c.in-Some.guest (omega arith) (search rules) c.in-Some.is in
-    let same : c.in-Some.guest ≡ g = one_guest c.args.self.now.guests.items c.args.number c.in-Some.guest g here there in
+    let same : c.in-Some.guest ≡ g = is_the_one c.args.self.now.guests.items c.args.number c.index_mut.result.now c.in-Some.guest g (omega arith) (search rules) c.in-Some.is there in
     subst (λ (x : Guest). TellsRefusal (answer_fault_of x.connection.conversation c.args.answer c.args.words.now) (Ok tt)) same c.in_ok-answer.ensures.refused

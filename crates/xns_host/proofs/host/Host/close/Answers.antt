@@ -1,6 +1,6 @@
-use Rattle.std.proofs.Common.{refl, rules, arith, Some}
+use Rattle.std.proofs.Common.{refl, rules, arith}
 use Rattle.xns_connection.specs.Deeds.{asked}
-use Rattle.xns_host.proofs.Turns.{is_there, not_none, set_apart, stays_noted, stays_registered, stays_undone, step_stays, step_undone, went_set}
+use Rattle.xns_host.proofs.Turns.{is_found, stays_noted, stays_registered, stays_undone, step_stays, step_undone, turned}
 use Rattle.xns_host.proofs.host.Host.close.Goals as goal
 
 pub note-requires-clause-others : goal.note-requires-clause-others
@@ -20,17 +20,10 @@ invariant_of-self-2-clause-not_done c =
 
 pub returns-clause-none : goal.returns-clause-none
 returns-clause-none c = λ none.
-    let there = not_none c.args.self.now.guests.items c.args.number c.in-Some.guest
-    (is_there c.args.self.now.guests.items c.args.number c.index_mut.result.now c.in-Some.guest (omega arith) (search rules) c.in-Some.is) in
-    absurd (cc)
+    absurd (is_found c.args.self.now.guests.items c.args.number c.index_mut.result.now c.in-Some.guest (omega arith) (search rules) c.in-Some.is none)
 
 pub returns-clause-turn : goal.returns-clause-turn
-returns-clause-turn c = record {
-  went = went_set c.tell-now.result _ asked c.args.self.now.guests.items c.args.number c.index_mut.result.now c.in-Some.guest c.close.new.self c.tell-now.ensures.result
-      (omega arith) (search rules) c.in-Some.is c.close.ensures;
-  apart = set_apart c.args.self.now.guests.items c.args.number (Some c.close.new.self);
-  noted = λ place there. c.note.ensures.is place (search rules);
-  unchanged = tt;
-  unnoted = tt;
-  frame = record { clock = c.tell-now.ensures.told; network = refl; host = refl; settings = refl; services = refl; register = refl; strays = refl };
-}
+returns-clause-turn c =
+    turned c.args.now c.args.number c.tell-now.result asked c.args.self.now _ c.index_mut.result.now c.in-Some.guest c.close.new.self c.tell-now.ensures.result (omega arith) (search rules) c.in-Some.is
+    c.close.ensures refl (λ place there. c.note.ensures.is place (search rules))
+    (record { clock = c.tell-now.ensures.told; network = refl; host = refl; settings = refl; services = refl; register = refl; strays = refl })

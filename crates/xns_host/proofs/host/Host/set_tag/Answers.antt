@@ -2,7 +2,7 @@ use Rattle.std.proofs.Common.{refl, rules, arith, Some}
 use Rattle.xns_host.specs.Went.{GuestTagged}
 use Rattle.xns_host.proofs.Apart.{set_there}
 use Rattle.xns_host.proofs.Placed.{turns_at}
-use Rattle.xns_host.proofs.Turns.{is_there, not_none, stays_noted, stays_registered, stays_undone, tagged_stays, tagged_undone}
+use Rattle.xns_host.proofs.Turns.{is_found, is_there, stays_noted, stays_registered, stays_undone, tagged_stays, tagged_undone}
 use Rattle.xns_host.proofs.host.Host.set_tag.Goals as goal
 
 pub note-requires-clause-others : goal.note-requires-clause-others
@@ -22,9 +22,7 @@ invariant_of-self-2-clause-not_done c =
 
 pub returns-clause-none : goal.returns-clause-none
 returns-clause-none c = λ none.
-    let there = not_none c.args.self.now.guests.items c.args.number c.in-Some.guest
-    (is_there c.args.self.now.guests.items c.args.number c.index_mut.result.now c.in-Some.guest (omega arith) (search rules) c.in-Some.is) in
-    absurd (cc)
+    absurd (is_found c.args.self.now.guests.items c.args.number c.index_mut.result.now c.in-Some.guest (omega arith) (search rules) c.in-Some.is none)
 
 pub returns-clause-tags : goal.returns-clause-tags
 returns-clause-tags c =
