@@ -99,11 +99,11 @@ called now way socket here peer h j c =
           };
     }
 
-pub awaits_on : (h j : Host) (here : ℕ) (a b : Station) (programs : List Program) (d : Conversation) (m : Meeting) (taken : Option (List ℕ)) (did : ℕ → Deeds → Deeds) (gave : ℕ → List (List ℕ)) (told : ℕ → Bool)
-    → HostAwaits h here a b programs d m → EachFollowed (MayTake taken) did gave told h j → MayTake taken m A
-    → StandsOn a b programs m A (did here) (gave here) (told here) (slice_get h.guests.items here) (slice_get j.guests.items here) (HostAwaits j here a b programs d)
-awaits_on h j here a b programs d m taken did gave told s each may =
-    side_on A h j here a b programs m taken did gave told (HostAwaits j here a b programs d) s.meets s.calls each may (λ n meets has same.
+pub awaits_on : (h j : Host) (here : ℕ) (a b : Station) (programs : List Program) (d : Conversation) (most : ℕ) (m : Meeting) (taken : Option (List ℕ)) (did : ℕ → Deeds → Deeds) (gave : ℕ → List (List ℕ)) (told : ℕ → Bool)
+    → HostAwaits h here a b programs d m → EachFollowed most (MayTake taken) did gave told h j → MayTake taken m A
+    → StandsOn a b programs most m A (did here) (gave here) (told here) (slice_get h.guests.items here) (slice_get j.guests.items here) (HostAwaits j here a b programs d)
+awaits_on h j here a b programs d most m taken did gave told s each may =
+    side_on A h j here a b programs most m taken did gave told (HostAwaits j here a b programs d) s.meets s.calls each may (λ n meets has same.
     record { station = s.station; peer = s.peer; meets = meets; calls = has; new = same ∙ s.new })
 
 -- ---- what its packets say
@@ -301,7 +301,7 @@ opened_at law now way there bytes k l a o from =
         silent = o.answering.made.made.silent;
       };
       meets = λ h here m s may.
-          let led : LeadsTo a b o.programs m B o.next no_more [] = hears_it now bytes false g o.next law o.hears a b o.programs m B s.meets (ap (λ (x : Party). x.conversation) s.new) may in (
+          let led : LeadsTo a b o.programs 1 m B o.next no_more [] = hears_it now bytes false g o.next law o.hears a b o.programs m B s.meets (ap (λ (x : Party). x.conversation) s.new) may in (
             led.next,
             record {
               station = s.station;

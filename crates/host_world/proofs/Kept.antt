@@ -30,7 +30,7 @@ use Rattle.xns_connection.specs.declared.conversation.Conversation.{Conversation
 use Rattle.xns_connection.specs.declared.side.Side.{Side as Kind}
 use Rattle.xns_connection.specs.declared.side.Side.TheVariants.{Calls, Answers}
 use Rattle.host_world.specs.Meeting.{Meeting, at, new_meeting, led, Next, went_on, HasMade}
-use Rattle.host_world.specs.Meets.{heard_story, Meets, opens, acts, gives, arrives, strays, IsMet}
+use Rattle.host_world.specs.Meets.{heard_story, Meets, Moves, acts, arrives, gives, moves, opens, strays, IsMet}
 use Rattle.host_world.specs.Pairing.{MayCome, WasMade, made as comes}
 use Rattle.host_world.specs.Station.{IsStation, calling_end, called_end}
 use Rattle.host_world.specs.declared.station.Station.{Station}
@@ -259,12 +259,15 @@ opens_keeps laws stories a b programs c d here there calls answers none empty =
       ];
     }
 
+moves_keep : EndLaws → EachStepKeepsTheOrder → StoryLaws → {a b : Station} {programs : List Program} {m n : Meeting} → Keeps a b programs m → Moves m n → Keeps a b programs n
+moves_keep laws keeps stories {m = m} k (acts side act n same) = acts_keeps laws keeps stories m side n k act same
+moves_keep laws keeps stories {m = m} k (gives side packet n out) = gives_keeps laws keeps stories m side packet n k out
+moves_keep laws keeps stories {m = m} k (arrives j x is lives n same) = arrives_keeps laws keeps stories m j x is lives n k same
+moves_keep laws keeps stories {m = m} k (strays side bytes foreign n same) = strays_keeps laws keeps stories m side bytes foreign n k same
+
 pub kept : EndLaws → EachStepKeepsTheOrder → StoryLaws → (a b : Station) (programs : List Program) → IsStation a → IsStation b → {m : Meeting} → Meets a b programs m → Keeps a b programs m
 kept laws keeps stories a b programs here there (opens c d calls answers none empty) = opens_keeps laws stories a b programs c d here there calls answers none empty
-kept laws keeps stories a b programs here there (acts {m = m} before side act n same) = acts_keeps laws keeps stories m side n (kept laws keeps stories a b programs here there before) act same
-kept laws keeps stories a b programs here there (gives {m = m} before side packet n out) = gives_keeps laws keeps stories m side packet n (kept laws keeps stories a b programs here there before) out
-kept laws keeps stories a b programs here there (arrives {m = m} before k x is lives n same) = arrives_keeps laws keeps stories m k x is lives n (kept laws keeps stories a b programs here there before) same
-kept laws keeps stories a b programs here there (strays {m = m} before side bytes foreign n same) = strays_keeps laws keeps stories m side bytes foreign n (kept laws keeps stories a b programs here there before) same
+kept laws keeps stories a b programs here there (moves before step) = moves_keep laws keeps stories (kept laws keeps stories a b programs here there before) step
 
 -- ---- the items that an end handed up
 

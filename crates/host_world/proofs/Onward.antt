@@ -21,7 +21,7 @@ use Rattle.item_world.specs.declared.side.Side.TheVariants.{A, B}
 use Rattle.xns_connection.specs.Story.{Story}
 use Rattle.host_world.specs.Going.{CanFinish}
 use Rattle.host_world.specs.Meeting.{Meeting, at, led, Next}
-use Rattle.host_world.specs.Meets.{Meets, opens, acts, gives, arrives, strays}
+use Rattle.host_world.specs.Meets.{Meets, Moves, acts, arrives, gives, moves, opens, strays}
 use Rattle.host_world.specs.Station.{IsStation, calling_end, called_end}
 use Rattle.host_world.specs.declared.station.Station.{Station}
 use Rattle.host_world.proofs.Kept.{Keeps, StoryLaws, kept, acts_end, same_marked, new_holds}
@@ -69,21 +69,18 @@ arrived_end w j x s e =
     same_end marks side (after_receive (end_of marks side) x.bytes) (option_to_list (receive_answer (end_of marks side) x.bytes).reply)
     ∙ ap (λ (t : State). after_receive t x.bytes) (same_marked w j x side ∙ e)
 
+moves_soundly : Laws → {a b : Station} {programs : List Program} {m n : Meeting} → Keeps a b programs m → IsSound m.world → Moves m n → IsSound n.world
+moves_soundly laws {m = m} k s (acts side act n same) = led_sound laws m.world side n (k.ends side ∙ sym (acts_end act)) s
+moves_soundly laws {m = m} k s (gives side packet n out) = led_sound laws m.world side n (k.ends side) s
+moves_soundly laws {m = m} k s (arrives j x is lives n same) =
+    led_sound laws (answered m.world j x) (other x.side) n (arrived_end m.world j x (at m (other x.side)).story.state (k.ends (other x.side))) (arrived_sound laws m.world j x is lives s)
+moves_soundly laws {m = m} k s (strays side bytes foreign n same) =
+    led_sound laws m.world side n (k.ends side ∙ sym (laws.ends.foreign.after (at m side).story.state bytes foreign)) s
+
 pub sound : Laws → (a b : Station) (programs : List Program) → IsStation a → IsStation b → {m : Meeting} → Meets a b programs m → IsSound m.world
 sound laws a b programs here there (opens c d calls answers none empty) = (new_holds laws.ends a b here there, new_linked a b)
-sound laws a b programs here there (acts {m = m} before side act n same) =
-    let k : Keeps a b programs m = kept laws.ends laws.order laws.stories a b programs here there before in
-    led_sound laws m.world side n (k.ends side ∙ sym (acts_end act)) (sound laws a b programs here there before)
-sound laws a b programs here there (gives {m = m} before side packet n out) =
-    let k : Keeps a b programs m = kept laws.ends laws.order laws.stories a b programs here there before in
-    led_sound laws m.world side n (k.ends side) (sound laws a b programs here there before)
-sound laws a b programs here there (arrives {m = m} before j x is lives n same) =
-    let k : Keeps a b programs m = kept laws.ends laws.order laws.stories a b programs here there before in
-    led_sound laws (answered m.world j x) (other x.side) n (arrived_end m.world j x (at m (other x.side)).story.state (k.ends (other x.side)))
-    (arrived_sound laws m.world j x is lives (sound laws a b programs here there before))
-sound laws a b programs here there (strays {m = m} before side bytes foreign n same) =
-    let k : Keeps a b programs m = kept laws.ends laws.order laws.stories a b programs here there before in
-    led_sound laws m.world side n (k.ends side ∙ sym (laws.ends.foreign.after (at m side).story.state bytes foreign)) (sound laws a b programs here there before)
+sound laws a b programs here there (moves before step) =
+    moves_soundly laws (kept laws.ends laws.order laws.stories a b programs here there before) (sound laws a b programs here there before) step
 
 pub can_finish : Laws → (a b : Station) (programs : List Program) (m : Meeting) → IsStation a → IsStation b → Meets a b programs m → CanFinish m
 can_finish laws a b programs m here there meets =

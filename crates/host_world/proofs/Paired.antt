@@ -1,5 +1,5 @@
 -- What a call on the pair comes to.
-use Rattle.std.proofs.Common.{◌≡◌, ◌∙◌, ap, sym, refl, subst, ℕ, false, List, [], ◌∷◌, ◌++◌, append-nil, Bool, true, Option, Some, None, Result, Ok, Err, OnOk, OnErr, IfOk, IfSome}
+use Rattle.std.proofs.Common.{◌≡◌, ◌∙◌, ap, sym, refl, subst, ℕ, zero, suc, ◌+◌, ◌≤◌, arith, false, List, [], ◌∷◌, ◌++◌, append-nil, Bool, true, Option, Some, None, Result, Ok, Err, OnOk, OnErr, IfOk, IfSome}
 use Rattle.std.specs.Prelude.{slice_get, if◌then◌else◌}
 use Rattle.std.specs.Option.{option_to_list}
 use Rattle.courier_messages.specs.RawCalls.{RawCall}
@@ -37,7 +37,7 @@ use Rattle.xns_connection.specs.declared.refusal.Refusal.TheVariants.{Closing}
 use Rattle.xns_connection.specs.declared.side.Side.{Side as Kind}
 use Rattle.xns_connection.specs.declared.side.Side.TheVariants.{Calls, Answers}
 use Rattle.host_world.specs.Meeting.{Meeting, at, Next, led, went_on}
-use Rattle.host_world.specs.Meets.{heard_story, Meets, opens, acts, gives, arrives, strays}
+use Rattle.host_world.specs.Meets.{heard_story, IsWithin, Meets, Moves, acts, arrives, gives, moves, no_step, one_more, opens, strays}
 use Rattle.host_world.specs.Pairing.{AreKept, connection_at, with_connection, DoesAt, Steps, StepsByBytes, MayCome, made, foreign, no_more, one_call_more, one_message_more, one_answer_more}
 use Rattle.host_world.specs.declared.pair.Pair.{Pair}
 use Rattle.host_world.specs.declared.station.Station.{Station}
@@ -54,54 +54,78 @@ went_told m u A n l given k B = k B
 went_told m u B n l given k A = k A
 went_told m u B n l given k B = n.tells
 
+told_by : {m n : Meeting} → AreTold m → Moves m n → AreTold n
+told_by {m = m} before (acts side {l = l} act n same) = went_told m m.world side n l (at m side).given before
+told_by {m = m} before (gives side packet n out) = went_told m m.world side n (at m side).deeds ((at m side).given ++ option_to_list packet) before
+told_by {m = m} before (arrives k x is lives n same) = went_told m (answered m.world k x) (other x.side) n (at m (other x.side)).deeds (at m (other x.side)).given before
+told_by {m = m} before (strays side bytes strange n same) = went_told m m.world side n (at m side).deeds (at m side).given before
+
 pub told : {a b : Station} {programs : List Program} {m : Meeting} → Meets a b programs m → AreTold m
 told (opens c d calls answers none empty) A = calls
 told (opens c d calls answers none empty) B = answers
-told (acts {m = m} before side {l = l} act n same) s = went_told m m.world side n l (at m side).given (told before) s
-told (gives {m = m} before side packet n out) s = went_told m m.world side n (at m side).deeds ((at m side).given ++ option_to_list packet) (told before) s
-told (arrives {m = m} before k x is lives n same) s = went_told m (answered m.world k x) (other x.side) n (at m (other x.side)).deeds (at m (other x.side)).given (told before) s
-told (strays {m = m} before side bytes strange n same) s = went_told m m.world side n (at m side).deeds (at m side).given (told before) s
+told (moves before step) s = told_by (told before) step s
+
+-- ---- how many steps
+
+pub wider : {m n : Meeting} (few most : ℕ) → few ≤ most → IsWithin few m n → IsWithin most m n
+wider few most less no_step = no_step
+wider (suc few) (suc most) less (one_more before step) = one_more (wider few most (omega (arith, less)) before) step
+wider (suc few) zero less (one_more before step) = absurd (omega (arith, less))
+
+pub within_then : {m n o : Meeting} (few more most : ℕ) → few + more ≤ most → IsWithin few m n → IsWithin more n o → IsWithin most m o
+within_then few more most less first no_step = wider few most (omega (arith, less)) first
+within_then few (suc more) (suc most) less first (one_more next step) = one_more (within_then few more most (omega (arith, less)) first next) step
+within_then few (suc more) zero less first (one_more next step) = absurd (omega (arith, less))
 
 -- ---- one step more
 
--- steps led on, to this conversation at this side
-pub record Onward (a b : Station) (programs : List Program) (m : Meeting) (side : Side) (d : Conversation) (did : Deeds → Deeds) (gave : List (List ℕ)) : Type 0 where
+-- at most so many steps led on, to this conversation at this side
+pub record Onward (a b : Station) (programs : List Program) (most : ℕ) (m : Meeting) (side : Side) (d : Conversation) (did : Deeds → Deeds) (gave : List (List ℕ)) : Type 0 where
   pub next : Meeting
   pub meets : Meets a b programs next
   pub conversation : (at next side).conversation ≡ d
-  pub does : DoesAt m next side did gave
+  pub does : DoesAt most m next side did gave
 
 went_there : (m : Meeting) (u : World) (side : Side) {base : Story} (n : Next base) (l : Deeds) (given : List (List ℕ)) → (at (went_on m u side n l given) side).conversation ≡ n.conversation
 went_there m u A n l given = refl
 went_there m u B n l given = refl
 
-went_does : (m : Meeting) (u : World) (side : Side) {base : Story} (n : Next base) (did : Deeds → Deeds) (more : List (List ℕ)) → AreKept m.world.bag u.bag → DoesAt m (went_on m u side n (did (at m side).deeds) ((at m side).given ++ more)) side did more
-went_does m u A n did more kept = record { deeds = refl; given = refl; other = refl; kept = kept_then m.world.bag u.bag (led u A n.on.path).bag kept (led_kept u A n.on.path) }
-went_does m u B n did more kept = record { deeds = refl; given = refl; other = refl; kept = kept_then m.world.bag u.bag (led u B n.on.path).bag kept (led_kept u B n.on.path) }
+went_does : (m : Meeting) (u : World) (side : Side) {base : Story} (n : Next base) (did : Deeds → Deeds) (more : List (List ℕ)) → AreKept m.world.bag u.bag → Moves m (went_on m u side n (did (at m side).deeds) ((at m side).given ++ more))
+    → DoesAt 1 m (went_on m u side n (did (at m side).deeds) ((at m side).given ++ more)) side did more
+went_does m u A n did more kept step = record { within = one_more no_step step; deeds = refl; given = refl; other = refl; kept = kept_then m.world.bag u.bag (led u A n.on.path).bag kept (led_kept u A n.on.path) }
+went_does m u B n did more kept step = record { within = one_more no_step step; deeds = refl; given = refl; other = refl; kept = kept_then m.world.bag u.bag (led u B n.on.path).bag kept (led_kept u B n.on.path) }
 
-went_idly : (m : Meeting) (u : World) (side : Side) {base : Story} (n : Next base) (did : Deeds → Deeds) → AreKept m.world.bag u.bag → DoesAt m (went_on m u side n (did (at m side).deeds) (at m side).given) side did []
-went_idly m u side n did kept = subst (λ (given : List (List ℕ)). DoesAt m (went_on m u side n (did (at m side).deeds) given) side did []) (append-nil (at m side).given) (went_does m u side n did [] kept)
+went_idly : (m : Meeting) (u : World) (side : Side) {base : Story} (n : Next base) (did : Deeds → Deeds) → AreKept m.world.bag u.bag → Moves m (went_on m u side n (did (at m side).deeds) (at m side).given)
+    → DoesAt 1 m (went_on m u side n (did (at m side).deeds) (at m side).given) side did []
+went_idly m u side n did kept step =
+    let same : (at m side).given ++ [] ≡ (at m side).given = append-nil (at m side).given in
+    subst (λ (given : List (List ℕ)). DoesAt 1 m (went_on m u side n (did (at m side).deeds) given) side did []) same
+    (went_does m u side n did [] kept (subst (λ (given : List (List ℕ)). Moves m (went_on m u side n (did (at m side).deeds) given)) (sym same) step))
 
 pub acts_on : {a b : Station} {programs : List Program} (m : Meeting) → Meets a b programs m → (side : Side) (base : Story) (did : Deeds → Deeds) (d : Conversation) → Acts (at m side).conversation (at m side).story (at m side).deeds base (did (at m side).deeds)
-    → d.packets ≡ (at m side).conversation.packets → (n : Story) → Tells d n → GoesOn base n → Onward a b programs m side d did []
+    → d.packets ≡ (at m side).conversation.packets → (n : Story) → Tells d n → GoesOn base n → Onward a b programs 1 m side d did []
 acts_on m meets side base did d act same n tells on =
     let next : Next base = record { conversation = d; story = n; tells = tells; on = on } in
+    let to : Meeting = went_on m m.world side next (did (at m side).deeds) (at m side).given in
+    let step : Moves m to = acts side act next same in
     record {
-      next = went_on m m.world side next (did (at m side).deeds) (at m side).given;
-      meets = acts meets side act next same;
+      next = to;
+      meets = moves meets step;
       conversation = went_there m m.world side next (did (at m side).deeds) (at m side).given;
-      does = went_idly m m.world side next did (kept_itself m.world.bag);
+      does = went_idly m m.world side next did (kept_itself m.world.bag) step;
     }
 
-pub gives_on : {a b : Station} {programs : List Program} (m : Meeting) → Meets a b programs m → (side : Side) (packet : Option (List ℕ)) (d : Conversation) → Gives (at m side).conversation d packet → Onward a b programs m side d no_more (option_to_list packet)
+pub gives_on : {a b : Station} {programs : List Program} (m : Meeting) → Meets a b programs m → (side : Side) (packet : Option (List ℕ)) (d : Conversation) → Gives (at m side).conversation d packet → Onward a b programs 1 m side d no_more (option_to_list packet)
 gives_on m meets side packet d gave =
     let on = gave.on (at m side).story (told meets side) in
     let next : Next (at m side).story = record { conversation = d; story = on.0; tells = on.1; on = on.2 } in
+    let to : Meeting = went_on m m.world side next (at m side).deeds ((at m side).given ++ option_to_list packet) in
+    let step : Moves m to = gives side packet next on.3 in
     record {
-      next = went_on m m.world side next (at m side).deeds ((at m side).given ++ option_to_list packet);
-      meets = gives meets side packet next on.3;
+      next = to;
+      meets = moves meets step;
       conversation = went_there m m.world side next (at m side).deeds ((at m side).given ++ option_to_list packet);
-      does = went_does m m.world side next no_more (option_to_list packet) (kept_itself m.world.bag);
+      does = went_does m m.world side next no_more (option_to_list packet) (kept_itself m.world.bag) step;
     }
 
 kept_answered : (w : World) (k : ℕ) (x : Emitted) → slice_get w.bag k ≡ Some x → AreKept w.bag (answered w k x).bag
@@ -112,36 +136,41 @@ kept_answered w k x is =
     kept_then w.bag u.bag (answered w k x).bag (kept_marked w.bag k x is) (kept_moved u side (after_receive (end_of u side) x.bytes) bs)
 
 pub hears_on : {a b : Station} {programs : List Program} (m : Meeting) → Meets a b programs m → (side : Side) (bytes : List ℕ) (d : Conversation) → Hears (at m side).conversation d bytes → d.packets ≡ (at m side).conversation.packets → MayCome m side bytes
-    → Onward a b programs m side d no_more []
+    → Onward a b programs 1 m side d no_more []
 hears_on m meets side bytes d hears same (foreign strange) =
     let on = hears.on (at m side).story (told meets side) in
     let next : Next (heard_story (at m side) bytes) = record { conversation = d; story = on.0; tells = on.1; on = on.2 } in
+    let to : Meeting = went_on m m.world side next (at m side).deeds (at m side).given in
+    let step : Moves m to = strays side bytes strange next same in
     record {
-      next = went_on m m.world side next (at m side).deeds (at m side).given;
-      meets = strays meets side bytes strange next same;
+      next = to;
+      meets = moves meets step;
       conversation = went_there m m.world side next (at m side).deeds (at m side).given;
-      does = went_idly m m.world side next no_more (kept_itself m.world.bag);
+      does = went_idly m m.world side next no_more (kept_itself m.world.bag) step;
     }
-hears_on {a} {b} {programs} m meets side bytes d hears same (made k x here_it_is lives here alike) = subst (λ (s : Side). Hears (at m s).conversation d bytes → d.packets ≡ (at m s).conversation.packets → Onward a b programs m s d no_more []) here there hears same where
-  there : Hears (at m (other x.side)).conversation d bytes → d.packets ≡ (at m (other x.side)).conversation.packets → Onward a b programs m (other x.side) d no_more []
+hears_on {a} {b} {programs} m meets side bytes d hears same (made k x here_it_is lives here alike) = subst (λ (s : Side). Hears (at m s).conversation d bytes → d.packets ≡ (at m s).conversation.packets → Onward a b programs 1 m s d no_more []) here there hears same where
+  there : Hears (at m (other x.side)).conversation d bytes → d.packets ≡ (at m (other x.side)).conversation.packets → Onward a b programs 1 m (other x.side) d no_more []
   there hears same =
       let on = subst (λ (bs : List ℕ). Hears (at m (other x.side)).conversation d bs) (sym alike) hears in
       let goes = on.on (at m (other x.side)).story (told meets (other x.side)) in
       let next : Next (heard_story (at m (other x.side)) x.bytes) = record { conversation = d; story = goes.0; tells = goes.1; on = goes.2 } in
+      let to : Meeting = went_on m (answered m.world k x) (other x.side) next (at m (other x.side)).deeds (at m (other x.side)).given in
+      let step : Moves m to = arrives k x here_it_is lives next same in
       record {
-        next = went_on m (answered m.world k x) (other x.side) next (at m (other x.side)).deeds (at m (other x.side)).given;
-        meets = arrives meets k x here_it_is lives next same;
+        next = to;
+        meets = moves meets step;
         conversation = went_there m (answered m.world k x) (other x.side) next (at m (other x.side)).deeds (at m (other x.side)).given;
-        does = went_idly m (answered m.world k x) (other x.side) next no_more (kept_answered m.world k x here_it_is);
+        does = went_idly m (answered m.world k x) (other x.side) next no_more (kept_answered m.world k x here_it_is) step;
       }
 
 -- one step after the other
-pub then_on : {a b : Station} {programs : List Program} {m : Meeting} {side : Side} {c d : Conversation} {given : List (List ℕ)} → (one : Onward a b programs m side c no_more []) → Onward a b programs one.next side d no_more given → Onward a b programs m side d no_more given
+pub then_on : {a b : Station} {programs : List Program} {m : Meeting} {side : Side} {c d : Conversation} {given : List (List ℕ)} → (one : Onward a b programs 1 m side c no_more []) → Onward a b programs 1 one.next side d no_more given → Onward a b programs 2 m side d no_more given
 then_on {m = m} {side = side} {given = given} one two = record {
   next = two.next;
   meets = two.meets;
   conversation = two.conversation;
   does = record {
+    within = within_then 1 1 2 (omega arith) one.does.within two.does.within;
     deeds = two.does.deeds ∙ one.does.deeds;
     given = two.does.given ∙ ap (λ (l : List (List ℕ)). l ++ given) (one.does.given ∙ append-nil (at m side).given);
     other = two.does.other ∙ one.does.other;
@@ -163,10 +192,10 @@ beside p A d = refl
 beside p B d = refl
 
 -- where a connection goes on from each meeting, the pair steps
-steps : (p : Pair) (c d : Connection) (side : Side) (did : Deeds → Deeds) (given : List (List ℕ)) → c ≡ connection_at p side
-    → ((a b : Station) (programs : List Program) (m : Meeting) → Meets a b programs m → (at m side).conversation ≡ c.conversation → Onward a b programs m side d.conversation did given)
-    → Steps p (with_connection p side d) side did given
-steps p c d side did given is onward = record {
+steps : (most : ℕ) (p : Pair) (c d : Connection) (side : Side) (did : Deeds → Deeds) (given : List (List ℕ)) → c ≡ connection_at p side
+    → ((a b : Station) (programs : List Program) (m : Meeting) → Meets a b programs m → (at m side).conversation ≡ c.conversation → Onward a b programs most m side d.conversation did given)
+    → Steps most p (with_connection p side d) side did given
+steps most p c d side did given is onward = record {
   on = λ a b programs m stands.
       let on = onward a b programs m stands.meets (stands.same side ∙ ap (λ (k : Connection). k.conversation) (sym is)) in
       (on.next, record { calls = stands.calls; called = stands.called; meets = on.meets; same = same_after p d side m on.next stands.same on.conversation on.does.other }, on.does);
@@ -174,8 +203,8 @@ steps p c d side did given is onward = record {
 }
 
 pub pair_acts : (p : Pair) (c d : Connection) (side : Side) (did : Deeds → Deeds) (base : Story → Story) → c ≡ connection_at p side → d.conversation.packets ≡ c.conversation.packets
-    → ((h : Story) (l : Deeds) → Acts c.conversation h l (base h) (did l)) → GoesFrom c.conversation d.conversation base → Steps p (with_connection p side d) side did []
-pair_acts p c d side did base is same act on = steps p c d side did [] is
+    → ((h : Story) (l : Deeds) → Acts c.conversation h l (base h) (did l)) → GoesFrom c.conversation d.conversation base → Steps 1 p (with_connection p side d) side did []
+pair_acts p c d side did base is same act on = steps 1 p c d side did [] is
     (λ a b programs m meets here.
     let goes = subst (λ (k : Conversation). GoesFrom k d.conversation base) (sym here) on (at m side).story (told meets side) in
     acts_on m meets side (base (at m side).story) did d.conversation
@@ -183,16 +212,16 @@ pair_acts p c d side did base is same act on = steps p c d side did [] is
     (subst (λ (k : Conversation). d.conversation.packets ≡ k.packets) (sym here) same)
     goes.0 goes.1 goes.2)
 
-pub pair_goes : (p : Pair) (c d : Connection) (side : Side) → c ≡ connection_at p side → d.conversation.packets ≡ c.conversation.packets → Goes c.conversation d.conversation → Steps p (with_connection p side d) side no_more []
+pub pair_goes : (p : Pair) (c d : Connection) (side : Side) → c ≡ connection_at p side → d.conversation.packets ≡ c.conversation.packets → Goes c.conversation d.conversation → Steps 1 p (with_connection p side d) side no_more []
 pair_goes p c d side is same goes = pair_acts p c d side no_more (λ h. h) is same (λ h l. idling) goes.on
 
-pub pair_gives : (p : Pair) (c d : Connection) (side : Side) (packet : Option (List ℕ)) → c ≡ connection_at p side → MovesAndGives c.conversation d.conversation packet → Steps p (with_connection p side d) side no_more (option_to_list packet)
-pair_gives p c d side packet is moves = steps p c d side no_more (option_to_list packet) is
+pub pair_gives : (p : Pair) (c d : Connection) (side : Side) (packet : Option (List ℕ)) → c ≡ connection_at p side → MovesAndGives c.conversation d.conversation packet → Steps 2 p (with_connection p side d) side no_more (option_to_list packet)
+pair_gives p c d side packet is moved = steps 2 p c d side no_more (option_to_list packet) is
     (λ a b programs m meets here.
-    let goes = subst (λ (k : Conversation). Goes k moves.0) (sym here) moves.1 in
+    let goes = subst (λ (k : Conversation). Goes k moved.0) (sym here) moved.1 in
     let on = goes.on (at m side).story (told meets side) in
-    let one = acts_on m meets side (at m side).story no_more moves.0 idling (subst (λ (k : Conversation). moves.0.packets ≡ k.packets) (sym here) moves.2) on.0 on.1 on.2 in
-    then_on one (gives_on one.next one.meets side packet d.conversation (subst (λ (k : Conversation). Gives k d.conversation packet) (sym one.conversation) moves.3)))
+    let one = acts_on m meets side (at m side).story no_more moved.0 idling (subst (λ (k : Conversation). moved.0.packets ≡ k.packets) (sym here) moved.2) on.0 on.1 on.2 in
+    then_on one (gives_on one.next one.meets side packet d.conversation (subst (λ (k : Conversation). Gives k d.conversation packet) (sym one.conversation) moved.3)))
 
 pub pair_hears : (p : Pair) (c d : Connection) (side : Side) (bytes : List ℕ) → c ≡ connection_at p side → d.conversation.packets ≡ c.conversation.packets → Hears c.conversation d.conversation bytes → StepsByBytes p (with_connection p side d) side bytes
 pair_hears p c d side bytes is same hears = record {
@@ -208,8 +237,8 @@ pub stays : (h : Story) → GoesOn h h
 stays h = record { programs = refl; path = start; made = refl; handed = refl; taken = ([], append-nil h.taken); answers = ([], append-nil h.answers); even = refl }
 
 -- where nothing is done, a meeting is as it was
-pub stays_so : (m : Meeting) (side : Side) → DoesAt m m side no_more []
-stays_so m side = record { deeds = refl; given = sym (append-nil (at m side).given); other = refl; kept = kept_itself m.world.bag }
+pub stays_so : (most : ℕ) (m : Meeting) (side : Side) → DoesAt most m m side no_more []
+stays_so most m side = record { within = no_step; deeds = refl; given = sym (append-nil (at m side).given); other = refl; kept = kept_itself m.world.bag }
 
 -- ---- what the clauses of each function of a pair make of a step
 
@@ -227,14 +256,14 @@ pair_unchanged p c d side (Ok x) is same = tt
 pair_unchanged p c d side (Err e) is same = put_back p side d (same ∙ is)
 
 pub pair_calls : AStepKeepsItsPromises → (p : Pair) (c d : Connection) (side : Side) (now : ℕ) (call : RawCall) (r : Result (Unit {0}) Refusal) → c ≡ connection_at p side
-    → OnOk r (Step now (deeds.made call) c d) → OnOk r (Steps p (with_connection p side d) side (one_call_more call) [])
+    → OnOk r (Step now (deeds.made call) c d) → OnOk r (Steps 1 p (with_connection p side d) side (one_call_more call) [])
 pair_calls law p c d side now call (Ok u) is step =
     pair_acts p c d side (one_call_more call) (λ h. record h { made = h.made ++ call ∷ [] }) is step.packets (λ h l. calling call)
     (law now (deeds.made call) c d step).story
 pair_calls law p c d side now call (Err e) is step = tt
 
 pub pair_closes : AStepKeepsItsPromises → (p : Pair) (c d : Connection) (side : Side) (now : ℕ) → c ≡ connection_at p side → Step now deeds.asked c d
-    → Steps p (with_connection p side d) side no_more []
+    → Steps 1 p (with_connection p side d) side no_more []
 pair_closes law p c d side now is step =
     pair_acts p c d side no_more (λ h. h) is step.packets (λ h l. idling) (law now deeds.asked c d step).story
 
@@ -268,7 +297,7 @@ asked c kind words e = by (drains c.side c.closing) e where
 
 pub pair_answers : AStepKeepsItsPromises → (p : Pair) (c d : Connection) (side : Side) (now : ℕ) (kind : Answer) (words : List ℕ) (r : Result (Unit {0}) Refusal) → c ≡ connection_at p side
     → Refusals (answer_fault_of c.conversation kind words) r → OnOk r (Step now (deeds.gave kind words) c d)
-    → OnOk r ((k : ℕ) × (asked_of (connection_at p side).conversation.side ≡ Some k) × Steps p (with_connection p side d) side (one_answer_more (answer_message kind k words)) [])
+    → OnOk r ((k : ℕ) × (asked_of (connection_at p side).conversation.side ≡ Some k) × Steps 1 p (with_connection p side d) side (one_answer_more (answer_message kind k words)) [])
 pair_answers law p c d side now kind words (Ok u) is none step =
     let some = asked c.conversation kind words none in (
       some.0,
@@ -280,7 +309,7 @@ pair_answers law p c d side now kind words (Ok u) is none step =
 pair_answers law p c d side now kind words (Err e) is none step = tt
 
 pub pair_hands : AMessageIsHandedAsByAStep → (p : Pair) (c d : Connection) (side : Side) (now : ℕ) (r : Option Message) → c ≡ connection_at p side
-    → r ≡ waiting_message c.conversation.side → Hands now c d → IfSome r (λ m. Steps p (with_connection p side d) side (one_message_more m) [])
+    → r ≡ waiting_message c.conversation.side → Hands now c d → IfSome r (λ m. Steps 1 p (with_connection p side d) side (one_message_more m) [])
 pair_hands law p c d side now None is waits hands = tt
 pair_hands law p c d side now (Some m) is waits hands =
     let k = law now c d (λ none. cc) hands in
@@ -306,11 +335,11 @@ pub at_side : (P : Connection → Connection → Type 0) (p : Pair) (c d : Conne
     → P (connection_at p side) (connection_at (with_connection p side d) side)
 at_side P p c d side is here = subst (λ (x : Connection). P (connection_at p side) x) (sym (put p side d)) (subst (λ (x : Connection). P x d) is here)
 
-pub pair_gives_ok : {E : Type 0} (p : Pair) (c d : Connection) (side : Side) (r : Result (Option (List ℕ)) E) → c ≡ connection_at p side → IfOk r (λ o. MovesAndGives c.conversation d.conversation o) → IfOk r (λ o. Steps p (with_connection p side d) side no_more (option_to_list o))
+pub pair_gives_ok : {E : Type 0} (p : Pair) (c d : Connection) (side : Side) (r : Result (Option (List ℕ)) E) → c ≡ connection_at p side → IfOk r (λ o. MovesAndGives c.conversation d.conversation o) → IfOk r (λ o. Steps 2 p (with_connection p side d) side no_more (option_to_list o))
 pair_gives_ok p c d side (Ok o) is gave = pair_gives p c d side o is gave
 pair_gives_ok p c d side (Err e) is gave = tt
 
-pub pair_gives_none : {X E : Type 0} (p : Pair) (c d : Connection) (side : Side) (r : Result X E) → c ≡ connection_at p side → OnErr r (MovesAndGives c.conversation d.conversation None) → OnErr r (Steps p (with_connection p side d) side no_more [])
+pub pair_gives_none : {X E : Type 0} (p : Pair) (c d : Connection) (side : Side) (r : Result X E) → c ≡ connection_at p side → OnErr r (MovesAndGives c.conversation d.conversation None) → OnErr r (Steps 2 p (with_connection p side d) side no_more [])
 pair_gives_none p c d side (Ok x) is gave = tt
 pair_gives_none p c d side (Err e) is gave = pair_gives p c d side None is gave
 
@@ -319,13 +348,17 @@ pub heard_there : AStepKeepsItsPromises → (now : ℕ) (bytes : List ℕ) (c d 
     → Hears c.conversation d.conversation bytes
 heard_there law now bytes c d step = let k = law now (deeds.heard bytes) c d step in record { wanted = λ z. k.wanted ∙ z; on = k.story }
 
-pub pair_rests : (p : Pair) (c d : Connection) (side : Side) → c ≡ connection_at p side → d.conversation ≡ c.conversation → Steps p (with_connection p side d) side no_more []
-pair_rests p c d side is same = record {
+pub pair_rests : (most : ℕ) (p : Pair) (c d : Connection) (side : Side) → c ≡ connection_at p side → d.conversation ≡ c.conversation → Steps most p (with_connection p side d) side no_more []
+pair_rests most p c d side is same = record {
   on = λ a b programs m stands.
       let here : (at m side).conversation ≡ d.conversation = stands.same side ∙ ap (λ (k : Connection). k.conversation) (sym is) ∙ sym same in
-      (m, record { calls = stands.calls; called = stands.called; meets = stands.meets; same = same_after p d side m m stands.same here refl }, stays_so m side);
+      (m, record { calls = stands.calls; called = stands.called; meets = stands.meets; same = same_after p d side m m stands.same here refl }, stays_so most m side);
   beside = beside p side d;
 }
+
+-- where bytes change nothing, the pair stands for what it stood for
+pub pair_stays : (p : Pair) (side : Side) (bytes : List ℕ) → StepsByBytes p p side bytes
+pair_stays p side bytes = record { on = λ a b programs m stands comes. (m, stands, stays_so 1 m side); beside = refl }
 
 -- bytes that are no packet of the connection leave its conversation as it was
 pub hears_none : ForeignBytesChangeNothing → (c : Conversation) (bytes : List ℕ) (packet : SppPacketModel) → spp_packet_of bytes ≡ Ok packet
@@ -343,7 +376,7 @@ pub pair_takes_in : {E : Type 0} → AStepKeepsItsPromises → (p : Pair) (c d :
 pair_takes_in law p c d side now bytes packet (Ok true) is reads step same =
     pair_hears p c d side bytes is (step refl bytes reads).packets (heard_there law now bytes c d (step refl bytes reads))
 pair_takes_in law p c d side now bytes packet (Ok false) is reads step same =
-    let rests = pair_rests p c d side is (ap (λ (k : Connection). k.conversation) (same refl)) in
+    let rests = pair_rests 1 p c d side is (ap (λ (k : Connection). k.conversation) (same refl)) in
     record { on = λ a b programs m stands comes. rests.on a b programs m stands; beside = rests.beside }
 pair_takes_in law p c d side now bytes packet (Err e) is reads step same = tt
 

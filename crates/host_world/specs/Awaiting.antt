@@ -55,8 +55,8 @@ abbrev pub CannotOpen : (k l : Host) → Type 0
 CannotOpen k l = HasNoRoom k.guests.items ⊎ (IsAllInUse k.register.identifiers ⊎ (l.strays ≡ lost_stray k.strays))
 
 -- Host k made a connection for the peer at a, by a packet to a socket that it serves, and host l has it at this number after the packet came
--- to it. With whatever host awaits that connection it stands for the meeting in which the packet came, if the packet may come to the
--- connection.
+-- to it. With whatever host awaits that connection it stands for the meeting in which the packet came, by at most one step, if the packet may
+-- come to the connection.
 pub record HasOpened (k l : Host) (there : ℕ) (bytes : List ℕ) (a : Station) : Type 0 where
   pub packet : SppPacketModel
   pub is : spp_packet_of bytes ≡ Ok packet
@@ -67,4 +67,4 @@ pub record HasOpened (k l : Host) (there : ℕ) (bytes : List ℕ) (a : Station)
   pub made : Conversation
   pub new : IsJustMade a station programs made
   pub meets : (h : Host) (here : ℕ) (m : Meeting) → HostAwaits h here a station programs made m → MayCome m B bytes
-      → (n : Meeting) × HostsStandFor h l here there a station programs n × DoesAt m n B no_more []
+      → (n : Meeting) × HostsStandFor h l here there a station programs n × DoesAt 1 m n B no_more []

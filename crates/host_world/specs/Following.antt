@@ -41,26 +41,27 @@ MayBeForgotten over g =
 abbrev pub IsGone : Guest → Option (Option Guest) → Type 0
 IsGone g place = (place ≡ Some None) ⊎ ((h : Guest) × (place ≡ Some (Some h)) × (id_of h ≢ id_of g))
 
--- steps of the meeting led on from a connection, in which the program at this side did so and the connection gave these packets, to the
--- connection in this place; or the host forgot the connection behind them, as it may
-pub data IsFollowedTo (a b : Station) (programs : List Program) (m : Meeting) (side : Side) (did : Deeds → Deeds) (gave : List (List ℕ))
+-- at most so many steps of the meeting led on from a connection, in which the program at this side did so and the connection gave these packets,
+-- to the connection in this place; or the host forgot the connection behind them, as it may
+pub data IsFollowedTo (a b : Station) (programs : List Program) (most : ℕ) (m : Meeting) (side : Side) (did : Deeds → Deeds) (gave : List (List ℕ))
     (over : Bool) (g : Guest) (place : Option (Option Guest)) : Type 0 where
-  stays : (h : Guest) → place ≡ Some (Some h) → LeadsTo a b programs m side h did gave → IsFollowedTo a b programs m side did gave over g place
-  forgotten : (h : Guest) → LeadsTo a b programs m side h did gave → MayBeForgotten over g → IsGone g place
-      → IsFollowedTo a b programs m side did gave over g place
+  stays : (h : Guest) → place ≡ Some (Some h) → LeadsTo a b programs most m side h did gave → IsFollowedTo a b programs most m side did gave over g place
+  forgotten : (h : Guest) → LeadsTo a b programs most m side h did gave → MayBeForgotten over g → IsGone g place
+      → IsFollowedTo a b programs most m side did gave over g place
 
--- the connection that was in a place is followed, whatever meeting it is in, where what was done may be done to that meeting
-abbrev pub IsFollowed : (may : Meeting → Side → Type 0) (did : Deeds → Deeds) (gave : List (List ℕ)) (over : Bool) (old new : Option (Option Guest))
+-- the connection that was in a place is followed by at most so many steps, whatever meeting it is in, where what was done may be done to that
+-- meeting
+abbrev pub IsFollowed : (most : ℕ) (may : Meeting → Side → Type 0) (did : Deeds → Deeds) (gave : List (List ℕ)) (over : Bool) (old new : Option (Option Guest))
     → Type 0
-IsFollowed may did gave over old new = (g : Guest) → old ≡ Some (Some g) → (a b : Station) (programs : List Program) (m : Meeting) (side : Side)
+IsFollowed most may did gave over old new = (g : Guest) → old ≡ Some (Some g) → (a b : Station) (programs : List Program) (m : Meeting) (side : Side)
     → Meets a b programs m → (at m side).conversation ≡ g.connection.conversation → may m side
-    → IsFollowedTo a b programs m side did gave over g new
+    → IsFollowedTo a b programs most m side did gave over g new
 
--- at each number of a host the connection is followed
-abbrev pub EachFollowed : (may : Meeting → Side → Type 0) (did : ℕ → Deeds → Deeds) (gave : ℕ → List (List ℕ)) (over : ℕ → Bool) (h j : Host)
+-- at each number of a host the connection is followed by at most so many steps
+abbrev pub EachFollowed : (most : ℕ) (may : Meeting → Side → Type 0) (did : ℕ → Deeds → Deeds) (gave : ℕ → List (List ℕ)) (over : ℕ → Bool) (h j : Host)
     → Type 0
-EachFollowed may did gave over h j =
-    (k : ℕ) → IsFollowed may (did k) (gave k) (over k) (slice_get h.guests.items k) (slice_get j.guests.items k)
+EachFollowed most may did gave over h j =
+    (k : ℕ) → IsFollowed most may (did k) (gave k) (over k) (slice_get h.guests.items k) (slice_get j.guests.items k)
 
 -- bytes may come to the connection, if any do
 abbrev pub MayTake : Option (List ℕ) → Meeting → Side → Type 0
@@ -143,10 +144,10 @@ pub record HostsStandFor (h k : Host) (here there : ℕ) (a b : Station) (progra
   pub calls : Has h here (at m A).conversation
   pub called : Has k there (at m B).conversation
 
--- hosts stand for a meeting to which what was done led; or the host at this side forgot the connection behind such steps, as it may, and the
--- connection is gone from the place
-pub data StandsOn (a b : Station) (programs : List Program) (m : Meeting) (side : Side) (did : Deeds → Deeds) (gave : List (List ℕ)) (over : Bool)
+-- hosts stand for a meeting to which what was done led in at most so many steps; or the host at this side forgot the connection behind such
+-- steps, as it may, and the connection is gone from the place
+pub data StandsOn (a b : Station) (programs : List Program) (most : ℕ) (m : Meeting) (side : Side) (did : Deeds → Deeds) (gave : List (List ℕ)) (over : Bool)
     (old new : Option (Option Guest)) (Stands : Meeting → Type 0) : Type 0 where
-  stands : (n : Meeting) → Stands n → DoesAt m n side did gave → StandsOn a b programs m side did gave over old new Stands
+  stands : (n : Meeting) → Stands n → DoesAt most m n side did gave → StandsOn a b programs most m side did gave over old new Stands
   forgot : (g : Guest) → old ≡ Some (Some g) → MayBeForgotten over g → IsGone g new
-      → (n : Meeting) → Meets a b programs n → DoesAt m n side did gave → StandsOn a b programs m side did gave over old new Stands
+      → (n : Meeting) → Meets a b programs n → DoesAt most m n side did gave → StandsOn a b programs most m side did gave over old new Stands

@@ -14,7 +14,7 @@ use Rattle.xns_connection.specs.Living.{Deeds}
 use Rattle.xns_connection.specs.contracts.connection.Connection as connection
 use Rattle.xns_connection.specs.declared.connection.Connection.{Connection}
 use Rattle.host_world.specs.Meeting.{Meeting, at}
-use Rattle.host_world.specs.Meets.{Meets}
+use Rattle.host_world.specs.Meets.{IsWithin, Meets}
 use Rattle.host_world.specs.Station.{IsStation}
 use Rattle.host_world.specs.contracts.pair.Pair as pair
 use Rattle.host_world.specs.declared.pair.Pair.{Pair}
@@ -62,18 +62,20 @@ pub record PairStandsFor (p : Pair) (a b : Station) (programs : List Program) (m
   pub meets : Meets a b programs m
   pub same : (side : Side) → (at m side).conversation ≡ (connection_at p side).conversation
 
--- between two meetings the program at this side did so, and the connection there gave these packets; the other side stayed as it was, and
--- each packet that was made is kept
-pub record DoesAt (m n : Meeting) (side : Side) (did : Deeds → Deeds) (gave : List (List ℕ)) : Type 0 where
+-- at most so many steps led from the one meeting to the other; by them the program at this side did so, and the connection there gave these
+-- packets; the other side stayed as it was, and each packet that was made is kept
+pub record DoesAt (most : ℕ) (m n : Meeting) (side : Side) (did : Deeds → Deeds) (gave : List (List ℕ)) : Type 0 where
+  pub within : IsWithin most m n
   pub deeds : (at n side).deeds ≡ did (at m side).deeds
   pub given : (at n side).given ≡ (at m side).given ++ gave
   pub other : at n (other side) ≡ at m (other side)
   pub kept : AreKept m.world.bag n.world.bag
 
--- whatever meeting the pair stood for, it stands for one to which that led; the connection at the other side stayed as it was
-pub record Steps (old new : Pair) (side : Side) (did : Deeds → Deeds) (gave : List (List ℕ)) : Type 0 where
+-- whatever meeting the pair stood for, it stands for one to which that led in at most so many steps; the connection at the other side stayed
+-- as it was
+pub record Steps (most : ℕ) (old new : Pair) (side : Side) (did : Deeds → Deeds) (gave : List (List ℕ)) : Type 0 where
   pub on : (a b : Station) (programs : List Program) (m : Meeting) → PairStandsFor old a b programs m
-      → (n : Meeting) × PairStandsFor new a b programs n × DoesAt m n side did gave
+      → (n : Meeting) × PairStandsFor new a b programs n × DoesAt most m n side did gave
   pub beside : connection_at new (other side) ≡ connection_at old (other side)
 
 -- bytes that may come to this side: a packet that the other end made, while it lives, or no packet of the connection
@@ -91,9 +93,9 @@ pub record WasMade (m : Meeting) (side : Side) (bytes : List ℕ) : Type 0 where
   pub is : sender_and_bytes packet ≡ (side, bytes)
   pub comes : (n : Meeting) → AreKept m.world.bag n.world.bag → has_passed n.world packet ≡ false → MayCome n (other side) bytes
 
--- whatever meeting the pair stood for, to which these bytes may come, it stands for one to which they came: the program did nothing, and no
--- packet was given; the other side stayed as it was
+-- whatever meeting the pair stood for, to which these bytes may come, it stands for one to which they came, in at most one step: the program
+-- did nothing, and no packet was given; the other side stayed as it was
 pub record StepsByBytes (old new : Pair) (side : Side) (bytes : List ℕ) : Type 0 where
   pub on : (a b : Station) (programs : List Program) (m : Meeting) → PairStandsFor old a b programs m → MayCome m side bytes
-      → (n : Meeting) × PairStandsFor new a b programs n × DoesAt m n side no_more []
+      → (n : Meeting) × PairStandsFor new a b programs n × DoesAt 1 m n side no_more []
   pub beside : connection_at new (other side) ≡ connection_at old (other side)

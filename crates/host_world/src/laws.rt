@@ -73,10 +73,11 @@ pub fn a_given_packet_may_come_while_it_lives()
     xns_connection::laws::two_programs_agree();
 }
 
-/// What a host does at a connection of a meeting leads on to a meeting that has the connection as it is then; no clause counts the steps
-/// between the two. The host puts out a call (`calls`) or an answer (`answers`), closes, hands a message (`hands`), tells why the
-/// connection is closed (`tells`) or that it is open (`announces`), does what is due (`acts`), hears an Error packet about a packet of the
-/// connection (`not_served`), gives a packet or none (`gives`), and takes in bytes that may come (`hears`).
+/// What a host does at a connection of a meeting leads on, in few steps, to a meeting that has the connection as it is then. At most one step
+/// leads on where the host puts out a call (`calls`) or an answer (`answers`), closes, hands a message (`hands`), does what is due (`acts`),
+/// hears an Error packet about a packet of the connection (`not_served`), or takes in bytes that may come (`hears`). No step is needed where
+/// the host tells why the connection is closed (`tells`) or that it is open (`announces`). At most two steps lead on where a packet or none
+/// is given (`gives`): what can move moves, and then the packet goes out.
 pub fn what_a_host_does_is_a_step_of_the_meeting()
     ensures { WhatAHostDoesIsAStepOfTheMeeting }
 {
@@ -85,19 +86,20 @@ pub fn what_a_host_does_is_a_step_of_the_meeting()
 
 /// Whatever is called of a host, it goes on with the meetings that its connections are in: by what the program does (`done`), by a packet
 /// that goes out, which one of them gave or none (`gives`), and by bytes that come, where they may come to the connection (`hears`). At
-/// each number the connection is led on by steps of the meeting, and is in its place then; or the host forgot it behind them, and it is
-/// gone from its place. A host forgets a connection only if the function tells the program that it is closed, or the program abandons it by
+/// each number at most one step of the meeting leads the connection on, and it is in its place then; or the host forgot it behind that step,
+/// and it is gone from its place. Where a packet goes out, the steps are at most three: what is due is done, however often, what can move
+/// moves, and the packet goes out. A host forgets a connection only if the function tells the program that it is closed, or the program abandons it by
 /// the function or was told before, or a peer opened it, it is not closed, and the program was handed no call of it. Where the program
-/// abandons one, each other one stays (`abandons`).
+/// abandons one, each other one stays, without a step (`abandons`).
 pub fn a_host_goes_on_with_its_meetings()
     ensures done { (h j : Host) (did : ℕ → Deeds → Deeds) (over : ℕ → Bool) → ProgramHasDone h j did over
-        → EachFollowed (MayTake None) did gave_none over h j }
+        → EachFollowed 1 (MayTake None) did gave_none over h j }
     ensures abandons { (number : ℕ) (h j : Host) → Abandons number (Ok tt) h j → (k : ℕ) → k ≢ number
-        → IsFollowed (MayTake None) no_more [] false (slice_get h.guests.items k) (slice_get j.guests.items k) }
+        → IsFollowed 0 (MayTake None) no_more [] false (slice_get h.guests.items k) (slice_get j.guests.items k) }
     ensures gives { (now : ℕ) (result : Result (Option Outgoing) HostFault) (h j : Host) → GivesOut now result h j
-        → (gave : ℕ → List (List ℕ)) × HasGiven h result gave × EachFollowed (MayTake None) (λ k. no_more) gave over_none h j }
+        → (gave : ℕ → List (List ℕ)) × HasGiven h result gave × EachFollowed 3 (MayTake None) (λ k. no_more) gave over_none h j }
     ensures hears { (now way : ℕ) (bytes : List ℕ) (result : Bool) (h j : Host) → TakesIn now way bytes result h j
-        → EachFollowed (MayTake (Some bytes)) (λ k. no_more) gave_none over_none h j }
+        → EachFollowed 1 (MayTake (Some bytes)) (λ k. no_more) gave_none over_none h j }
 {
     xns_connection::laws::a_step_keeps_its_promises();
     xns_connection::laws::a_connection_keeps_its_end();
@@ -105,20 +107,20 @@ pub fn a_host_goes_on_with_its_meetings()
 
 /// Two hosts of which each has a connection of one meeting at a number. Their programs agree, and what each end handed up begins what the
 /// other's accepted (`agree`). Whatever is called of the host that calls (`calls`), or of the one that is called (`called`), the hosts stand for
-/// a meeting to which that led: so their programs still agree. Or the host forgot the connection, as [`a_host_goes_on_with_its_meetings`]
-/// says it may, behind steps that led to such a meeting.
+/// a meeting to which that led, in as few steps as [`a_host_goes_on_with_its_meetings`] says: so their programs still agree. Or the host
+/// forgot the connection, as that law says it may, behind as few steps, which led to such a meeting.
 pub fn two_hosts_agree()
     ensures agree { (h k : Host) (here there : ℕ) (a b : Station) (programs : List Program) (m : Meeting)
         → HostsStandFor h k here there a b programs m → IsMet programs m }
-    ensures calls { (h j k : Host) (here there : ℕ) (a b : Station) (programs : List Program) (m : Meeting)
+    ensures calls { (h j k : Host) (here there : ℕ) (a b : Station) (programs : List Program) (most : ℕ) (m : Meeting)
         (taken : Option (List ℕ)) (did : ℕ → Deeds → Deeds) (gave : ℕ → List (List ℕ)) (over : ℕ → Bool)
-        → HostsStandFor h k here there a b programs m → EachFollowed (MayTake taken) did gave over h j → MayTake taken m A
-        → StandsOn a b programs m A (did here) (gave here) (over here) (slice_get h.guests.items here) (slice_get j.guests.items here)
+        → HostsStandFor h k here there a b programs m → EachFollowed most (MayTake taken) did gave over h j → MayTake taken m A
+        → StandsOn a b programs most m A (did here) (gave here) (over here) (slice_get h.guests.items here) (slice_get j.guests.items here)
         (HostsStandFor j k here there a b programs) }
-    ensures called { (h j k : Host) (here there : ℕ) (a b : Station) (programs : List Program) (m : Meeting)
+    ensures called { (h j k : Host) (here there : ℕ) (a b : Station) (programs : List Program) (most : ℕ) (m : Meeting)
         (taken : Option (List ℕ)) (did : ℕ → Deeds → Deeds) (gave : ℕ → List (List ℕ)) (over : ℕ → Bool)
-        → HostsStandFor h k here there a b programs m → EachFollowed (MayTake taken) did gave over k j → MayTake taken m B
-        → StandsOn a b programs m B (did there) (gave there) (over there) (slice_get k.guests.items there) (slice_get j.guests.items there)
+        → HostsStandFor h k here there a b programs m → EachFollowed most (MayTake taken) did gave over k j → MayTake taken m B
+        → StandsOn a b programs most m B (did there) (gave there) (over there) (slice_get k.guests.items there) (slice_get j.guests.items there)
         (HostsStandFor h j here there a b programs) }
 {
     two_connections_over_a_network_agree();
@@ -136,10 +138,10 @@ pub fn two_hosts_agree()
 pub fn two_hosts_come_to_a_meeting()
     ensures connects { (now way socket here : ℕ) (peer : Address) (h j : Host) → ConnectsTo now way socket peer (Ok here) h j
         → HasCalled j here (address_in h.network h.host socket) peer }
-    ensures goes_on { (h j : Host) (here : ℕ) (a b : Station) (programs : List Program) (d : Conversation) (m : Meeting)
+    ensures goes_on { (h j : Host) (here : ℕ) (a b : Station) (programs : List Program) (d : Conversation) (most : ℕ) (m : Meeting)
         (taken : Option (List ℕ)) (did : ℕ → Deeds → Deeds) (gave : ℕ → List (List ℕ)) (over : ℕ → Bool)
-        → HostAwaits h here a b programs d m → EachFollowed (MayTake taken) did gave over h j → MayTake taken m A
-        → StandsOn a b programs m A (did here) (gave here) (over here) (slice_get h.guests.items here) (slice_get j.guests.items here)
+        → HostAwaits h here a b programs d m → EachFollowed most (MayTake taken) did gave over h j → MayTake taken m A
+        → StandsOn a b programs most m A (did here) (gave here) (over here) (slice_get h.guests.items here) (slice_get j.guests.items here)
         (HostAwaits j here a b programs d) }
     ensures names { (h : Host) (here : ℕ) (a b : Station) (programs : List Program) (d : Conversation) (m : Meeting) (bytes : List ℕ)
         → HostAwaits h here a b programs d m → Contains (at m A).given bytes → IsSentFrom a bytes }
@@ -195,7 +197,7 @@ pub fn a_number_keeps_its_order()
         → Course v (xs ++ g ∷ (x ∷ ys)) w → is_going g ≡ true → IsOpening x }
 {}
 
-/// Each number of a host has a history, whatever calls are made of the host from a new one on, in whatever order. What happened at the number
+/// Each number of a host has a history, whatever functions of the host are called from a new one on, in whatever order. What happened at it
 /// leads from the free number to what the number is now, and what the program said and was told there is what is said in it. So what
 /// [`a_number_keeps_its_order`] says of histories holds of what a program sees.
 ///

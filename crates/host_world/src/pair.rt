@@ -104,7 +104,7 @@ impl Pair {
         call: &Call<'_>,
     ) -> Result<(), Refusal>
         ensures answer { Answers (call_fault_of (connection_at self.old side).conversation (call_model call.now)) result }
-        ensures steps { OnOk result (Steps self.old self.new side (one_call_more (call_model call.now)) []) }
+        ensures steps { OnOk result (Steps 1 self.old self.new side (one_call_more (call_model call.now)) []) }
         ensures waits { StepsAt now (connection_at self.old side).wait (connection_at self.new side).wait }
         ensures step { OnOk result (Step now (made (call_model call.now)) (connection_at self.old side) (connection_at self.new side)) }
         ensures unchanged { OnErr result (self.new ≡ self.old) }
@@ -125,7 +125,7 @@ impl Pair {
     ) -> Result<(), Refusal>
         ensures answer { Answers (answer_fault_of (connection_at self.old side).conversation kind words.now) result }
         ensures steps { OnOk result ((k : ℕ) × (asked_of (connection_at self.old side).conversation.side ≡ Some k)
-            × Steps self.old self.new side (one_answer_more (answer_message kind k words.now)) []) }
+            × Steps 1 self.old self.new side (one_answer_more (answer_message kind k words.now)) []) }
         ensures waits { StepsAt now (connection_at self.old side).wait (connection_at self.new side).wait }
         ensures step { OnOk result (Step now (gave kind words.now) (connection_at self.old side) (connection_at self.new side)) }
         ensures unchanged { OnErr result (self.new ≡ self.old) }
@@ -136,7 +136,7 @@ impl Pair {
 
     /// Closes the connection at this side once all that it has to say is said.
     pub fn close(&mut self, alloc: Global, now: u64, side: Side)
-        ensures steps { Steps self.old self.new side no_more [] }
+        ensures steps { Steps 1 self.old self.new side no_more [] }
         ensures asked { (connection_at self.new side).conversation.closing.wanted ≡ true }
         ensures waits { StepsAt now (connection_at self.old side).wait (connection_at self.new side).wait }
         ensures step { Step now asked (connection_at self.old side) (connection_at self.new side) }
@@ -148,7 +148,7 @@ impl Pair {
     /// Hands the program at this side the message that waits for it, an answer or a call. Each is handed once. `None` where none waits.
     pub fn take_message(&mut self, alloc: Global, now: u64, side: Side) -> Option<PiecedMessage>
         ensures message { result ≡ waiting_message (connection_at self.old side).conversation.side }
-        ensures steps { IfSome result (λ m. Steps self.old self.new side (one_message_more m) []) }
+        ensures steps { IfSome result (λ m. Steps 1 self.old self.new side (one_message_more m) []) }
         ensures waits { StepsAt now (connection_at self.old side).wait (connection_at self.new side).wait }
         ensures step { Hands now (connection_at self.old side) (connection_at self.new side) }
         ensures none { result ≡ None → self.new ≡ self.old }
@@ -159,7 +159,7 @@ impl Pair {
 
     /// Tells the program at this side, once, why the connection there is closed. `None`: the connection is open, or the program was told.
     pub fn take_why(&mut self, side: Side) -> Option<Why>
-        ensures steps { Steps self.old self.new side no_more [] }
+        ensures steps { Steps 0 self.old self.new side no_more [] }
         ensures why { result ≡ (if (connection_at self.old side).told then None else (connection_at self.old side).closed) }
         ensures told { (connection_at self.new side).told ≡ (connection_at self.old side).told
             || is_some (connection_at self.old side).closed }
@@ -180,7 +180,7 @@ impl Pair {
 
     /// Does what is due at this side at this time, and says what that is.
     pub fn act(&mut self, now: u64, side: Side) -> Act
-        ensures steps { Steps self.old self.new side no_more [] }
+        ensures steps { Steps 1 self.old self.new side no_more [] }
         ensures act { result ≡ act_at (connection_at self.old side).wait now }
         ensures step { parts_of (connection_at self.new side) ≡ acted (parts_of (connection_at self.old side)) now }
     {
@@ -195,8 +195,8 @@ impl Pair {
         now: u64,
         side: Side,
     ) -> Result<Option<Bytes>, AllocError>
-        ensures gives { IfOk result (λ o. Steps self.old self.new side no_more (option_to_list o)) }
-        ensures given_none { OnErr result (Steps self.old self.new side no_more []) }
+        ensures gives { IfOk result (λ o. Steps 2 self.old self.new side no_more (option_to_list o)) }
+        ensures given_none { OnErr result (Steps 2 self.old self.new side no_more []) }
         ensures waits { StepsAt now (connection_at self.old side).wait (connection_at self.new side).wait }
         ensures step { GivesNext now result (connection_at self.old side) (connection_at self.new side) }
         ensures rested { is_dead (connection_at self.new side).closed ≡ false → result ≡ Ok None

@@ -11,7 +11,7 @@ use Rattle.xns_connection.specs.Step.{Step, is_ours_by}
 use Rattle.xns_connection.specs.Telling.{Hears}
 use Rattle.xns_connection.specs.declared.connection.Connection.{Connection}
 use Rattle.host_world.specs.Pairing.{connection_at}
-use Rattle.host_world.proofs.Paired.{at_side, pair_unchanged, heard_there, hears_none, pair_heard, pair_takes_in, put_back}
+use Rattle.host_world.proofs.Paired.{at_side, heard_there, hears_none, pair_heard, pair_stays, pair_takes_in, pair_unchanged, put_back}
 use Rattle.host_world.proofs.pair.Pair.receive.Goals as goal
 
 pub returns-clause-takes_in : goal.returns-clause-takes_in
@@ -60,3 +60,6 @@ pub returns-clause-unchanged : goal.returns-clause-unchanged
 returns-clause-unchanged c =
     both _ _ c.receive.result (pair_unchanged c.args.self.now c.at.result.now c.receive.new.self c.args.side c.receive.result c.at.ensures.value c.receive.ensures.unchanged)
     (stores c.receive.result (connection_at c.args.self.now c.args.side) c.at.result.now c.args.bytes.now c.in-Ok.packet c.at.ensures.value (sym c.in-Ok.ensures.value) c.receive.ensures.memory)
+
+pub returns-in_default-clause-takes_in : goal.returns-in_default-clause-takes_in
+returns-in_default-clause-takes_in c = pair_stays c.args.self.now c.args.side c.args.bytes.now
