@@ -44,9 +44,6 @@ is_put p old new had written way via number given is = elim (cases_lt (length ol
   | inr fits ↦ absurd (omega (arith, is, (given.0 fits).0))
 ]
 
-one_made : (made : Result (Option Outgoing) HostFault) (a b : Option Outgoing) → made ≡ Ok a → made ≡ Ok b → a ≡ b
-one_made made a b e f = cc
-
 -- how a packet is fetched from a host, or was kept, and given
 pub packet_fetched : (k n m : KeptHost) (now : ℕ) (made : Result (Option Outgoing) HostFault) (p : Outgoing) (old new : List ℕ) (had written way via number : ℕ)
     → made ≡ Ok (Some p) → ((x : Outgoing) → k.packet ≡ Some x → (made ≡ Ok (Some x)) × (n.host ≡ k.host)) → (k.packet ≡ None → GivesOut now made k.host n.host)
@@ -60,7 +57,10 @@ packet_fetched k n m now made p old new had written way via number there kept gi
       (subst (λ (x : Result (Option Outgoing) HostFault). GivesOut now x k.host n.host) there (gives no));
   starved = λ is. absurd (is_put p old new had written way via number given is);
   fetched = λ z. refl;
-  kept = λ x is. (one_made made (Some p) (Some x) there (kept x is).0, host ∙ (kept x is).1);
+  kept = λ x is.
+      let here = (kept x is).0 in
+      let same : Some p ≡ Some x = cc in
+      (same, host ∙ (kept x is).1);
   given = given;
   left = left;
   event = same ∙ event;
@@ -85,7 +85,7 @@ packet_short p b old new had written way number is room put short unchanged = (
       (y.0, y.1, subst (λ (x : List ℕ). length old < length x → new ≡ old) is unchanged none, refl),
 )
 
--- what a host did for a call that names a connection, whatever became of the event that is kept
+-- what a host did at the connection that a function names, whatever became of the event that is kept
 pub turned : (k n : KeptHost) (host : Host) (now number : ℕ) (deed : Deed) (reason : Conversation → Option Refusal) (answer : Result (Unit {0}) HostFault) (result : ℕ)
     → n.host ≡ host → n.packet ≡ k.packet → result ≡ host_told answer → Turn now number deed answer k.host host
     → (has_guest (slice_get k.host.guests.items number) ≡ false → answer ≡ Err (NoConnection number))
@@ -119,7 +119,7 @@ no_room_by (Err e) fault W P is right why room full = elim (why right) [
       absurd (omega (arith, number))
 ]
 
--- what is told where it was refused though its ends are right
+-- the number that is told where a connection is refused though its ends are right
 pub fault_by : (r : Result ℕ HostFault) (fault : HostFault) (W : Type 0) → r ≡ Err fault → W
     → OnErr r (W → (r ≡ Err NoRoom) ⊎ (r ≡ Err NoMemory)) → (number : ℕ) → number ≡ host_fault_number fault
     → (number ≡ no_slot) ⊎ (number ≡ no_memory)

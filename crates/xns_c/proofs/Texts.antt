@@ -20,7 +20,7 @@ pairs_of (suc zero) (suc k) ws e le = absurd (omega (arith, e))
 pairs_of (suc (suc n)) (suc k) [] e le = absurd (omega (arith, le))
 pairs_of (suc (suc n)) (suc k) (w ∷ ws) e le = ap (λ r. r >>= λ rest. Ok (w / 256 ∷ w % 256 ∷ rest.0, rest.1)) (pairs_of n k ws (omega (arith, e)) (omega (arith, le)))
 
--- an odd one
+-- an odd number of bytes
 
 odd_of : (n k : ℕ) (ws : List ℕ) → n ≡ 2 * k + 1 → suc k ≤ length ws → front_bytes n ws ≡ Ok (bytes_of (take k ws) ++ slice_index_or (drop k ws) 0 0 / 256 ∷ [], drop (suc k) ws)
 unfolding front_bytes

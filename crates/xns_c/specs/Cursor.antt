@@ -7,7 +7,7 @@ use Rattle.courier_types.specs.Value.{ValueModel}
 use Rattle.xns_c.specs.Results.{ok, short_buffer, truncated, not_boolean, over_maximum, not_listed}
 use Rattle.xns_c.specs.declared.cursor.XnsCursor.{XnsCursor}
 
--- why words are no value
+-- the number of a reason why words are no value
 abbrev pub reason_number : Reason → ℕ
 reason_number Truncated = truncated
 reason_number NotBoolean = not_boolean
@@ -18,15 +18,15 @@ reason_number NotListed = not_listed
 abbrev pub ahead : List ℕ → XnsCursor → List ℕ
 ahead words cursor = drop cursor.place words
 
--- behind so many words more
+-- a cursor that is this many words further on
 abbrev pub moved : XnsCursor → ℕ → XnsCursor
 moved cursor count = record cursor { place = cursor.place + count }
 
--- with a fault
+-- a cursor with a fault
 abbrev pub faulted : XnsCursor → ℕ → XnsCursor
 faulted cursor number = record cursor { fault = number }
 
--- what is answered where the words ahead are such a value or have such a fault, and where the cursor is then
+-- a read of the words ahead, which are a value or have a fault, returns this number, tells this value, and leaves the cursor there
 abbrev pub IsRead : Result (ValueModel × ℕ) ReadFault → XnsCursor → XnsCursor → ℕ → ValueModel → Type 0
 IsRead (Ok found) before after number value = (number ≡ ok) × (value ≡ found.0) × (after ≡ moved before found.1)
 IsRead (Err fault) before after number value = (number ≡ reason_number fault.reason) × (after ≡ faulted before (reason_number fault.reason))
@@ -35,7 +35,7 @@ IsRead (Err fault) before after number value = (number ≡ reason_number fault.r
 abbrev pub IsPutAt : ℕ → List ℕ → List ℕ → List ℕ → Type 0
 IsPutAt place words before after = after ≡ take place before ++ words ++ drop (place + length words) before
 
--- what is answered where these words are to be put, and where the cursor is then: with no room for all of them none is put
+-- a write of words at the cursor returns this number, and leaves the cursor there; a buffer without room for all of the words stays as it was
 abbrev pub IsWritten : List ℕ → XnsCursor → XnsCursor → List ℕ → List ℕ → ℕ → Type 0
 IsWritten words before after old new number =
     (before.place + length words ≤ length old → (number ≡ ok) × IsPutAt before.place words old new × (after ≡ moved before (length words)))

@@ -41,6 +41,6 @@ pub record IsEchoed (asked : Address) (p : PacketModel) : Type 0 where
   pub socket : p.source.socket ≡ asked.socket
   pub host : (p.source.host ≡ asked.host) ⊎ (asked.host ≡ broadcast)
 
--- the bytes begin with such a reply, and what it echoes stands at a place within them
+-- the bytes begin with an Echo reply to what was asked, and what the reply echoes stands at a place within them
 abbrev pub IsEchoedIn : (asked : Address) → List ℕ → (place size : ℕ) → Type 0
 IsEchoedIn asked = StandsIn (IsEchoed asked) 2

@@ -13,7 +13,8 @@ use Rattle.xns_c.specs.declared.message.XnsMessage.{XnsMessage}
 abbrev pub no_message : XnsMessage
 no_message = record { kind = 0; transaction = 0; program = 0; version = 0; procedure = 0; number = 0 }
 
--- 1 a call, 2 an answer, 3 that it is closed, 4 that it is open; what a kind does not have is 0
+-- what C is told of an event but for its words: kind 1 is a call, 2 an answer, 3 that the connection is closed, 4 that it is open; a field
+-- that the kind does not have is 0
 abbrev pub event_given : Event → XnsEvent
 event_given (Opened number tag) = record { kind = 4; number = number; tag = tag; message = no_message; closed = 0; error = 0; fault = ok }
 event_given (Call number tag program version procedure message) =
@@ -31,14 +32,14 @@ event_given (Closed number tag why) =
       fault = refused_number why;
     }
 
--- of which connection it is
+-- the number of the connection that an event is of
 abbrev pub event_number : Event → ℕ
 event_number (Opened number tag) = number
 event_number (Call number tag program version procedure message) = number
 event_number (Answer number tag answer message) = number
 event_number (Closed number tag why) = number
 
--- with another tag
+-- an event with another tag
 abbrev pub with_tag : ℕ → Event → Event
 with_tag tag (Opened number told) = Opened number tag
 with_tag tag (Call number told program version procedure message) = Call number tag program version procedure message
@@ -57,8 +58,7 @@ event_words (Call number tag program version procedure message) = words_in messa
 event_words (Answer number tag answer message) = words_in message
 event_words (Closed number tag why) = []
 
--- what is answered where this event is to be given, its words to the front of a buffer: with no room for all of them none is put, and
--- their number is told
+-- an event is given, its words to the front of a buffer: a buffer without room for all of the words has none put, and their number is told
 pub record EventIsGiven (e : Event) (after : XnsEvent) (old new : List ℕ) (count number : ℕ) : Type 0 where
   pub head : after ≡ event_given e
   pub fits : length (event_words e) ≤ length old → (number ≡ ok) × IsPut (event_words e) old new count

@@ -1,5 +1,4 @@
--- Both sides of a packet exchange (XSIS 028112, Packet Exchange Protocol). Of one that asks C holds whom it asks, and under which
--- identifier.
+-- Both sides of a packet exchange (XSIS 028112, Packet Exchange Protocol). C holds whom a side asks, and under which identifier.
 use Rattle.std.specs.Prelude.{◌≡◌, ◌≢◌, ◌⊎◌, ◌<◌, ◌≤◌, ℕ, ◌+◌, List, [], length}
 use Rattle.xns_idp.specs.Packet.{PacketModel, broadcast}
 use Rattle.xns_idp.specs.Reading.{long_at, made_even, word_at}
@@ -13,25 +12,25 @@ use Rattle.xns_c.specs.Views.{HasPacket, StandsIn}
 abbrev pub most_exchanged : ℕ
 most_exchanged = 540
 
--- how long a packet of an exchange is that carries so many bytes of data: 36 bytes and those, made even
+-- the length of a packet of an exchange that carries this many bytes of data: 36 bytes and the data, made even
 abbrev pub exchange_size : ℕ → ℕ
 exchange_size count = made_even (36 + count)
 
--- the data of a packet of an exchange are written: 6 bytes and its own
+-- the data of a packet of an exchange are written: 6 bytes, and the bytes that the exchange carries
 abbrev pub WritesExchange : (id client : ℕ) → (bytes old new : List ℕ) → (had told result : ℕ) → Type 0
 WritesExchange id client bytes old new had told result =
     WritesUpTo most_exchanged bytes (exchange_spelling (record { id = id; client = client; body = bytes })) (6 + length bytes) old new had told result
 
 -- ---- the side that asks
 
--- the request to one host is written. Nothing is written where its data are too many, and else nothing where it is to every host
+-- the request to one host is written. Nothing is written where its data are too many, and else nothing where the target is every host
 pub record WritesRequest (own target : Address) (id client : ℕ) (bytes old new : List ℕ) (had told result : ℕ) : Type 0 where
   pub long : most_exchanged < length bytes → (result ≡ too_long) × IsUnwritten old new had told
   pub everyone : length bytes ≤ most_exchanged → target.host ≡ broadcast → (result ≡ bad_argument) × IsUnwritten old new had told
   pub written : length bytes ≤ most_exchanged → target.host ≢ broadcast →
       WritesWhereRoom (asking_packet own target id client bytes) (exchange_size (length bytes)) old new had told result
 
--- who asks this address under this identifier; by which packet says nothing of what the response is
+-- a requester that asks this address under this identifier; the packet that it sent says nothing of what the response is
 abbrev pub asker : Address → ℕ → RequesterModel
 asker target id = record { asked = target; id = id; packet = [] }
 
@@ -49,7 +48,7 @@ pub record IsAsked (own : Address) (p : PacketModel) : Type 0 where
   pub host : (p.target.host ≡ own.host) ⊎ (p.target.host ≡ broadcast)
   pub from : p.source.host ≢ broadcast
 
--- the bytes begin with such a packet
+-- the bytes begin with a packet of a packet exchange that asks this address
 abbrev pub IsAskedBy : Address → List ℕ → Type 0
 IsAskedBy own = HasPacket (IsAsked own)
 
@@ -57,7 +56,8 @@ IsAskedBy own = HasPacket (IsAsked own)
 abbrev pub answering_packet : Address → PacketModel → List ℕ → List ℕ
 answering_packet own request bytes = asking_packet own request.source (long_at request.body 0) (word_at request.body 4) bytes
 
--- the response to such a packet is written. Nothing is written where its data are too many, and else nothing where the bytes are another
+-- the response to a packet that asks is written. Nothing is written where the response's data are too many, and else nothing where the bytes
+-- begin with no packet that asks
 pub record WritesResponse (own : Address) (request bytes old new : List ℕ) (had told result : ℕ) : Type 0 where
   pub long : most_exchanged < length bytes → (result ≡ too_long) × IsUnwritten old new had told
   pub written : length bytes ≤ most_exchanged → (r : IsAskedBy own request) →

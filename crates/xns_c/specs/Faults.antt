@@ -1,5 +1,5 @@
 -- Why what was asked or heard was refused, as C is told it by number.
-use Rattle.std.specs.Prelude.{ℕ, Option, Some, None, Result, Ok, Err}
+use Rattle.std.specs.Prelude.{ℕ, Result, Ok, Err}
 use Rattle.courier_messages.specs.declared.fault.MessageFault.{MessageFault}
 use Rattle.courier_messages.specs.declared.fault.MessageFault.TheVariants.{OddLength, ShortMessage, UnknownKind}
 use Rattle.courier_messages.specs.declared.fault.MessageFault.TheVariants as message
@@ -19,14 +19,14 @@ use Rattle.xns_c.specs.Results.{no_connection, too_many_services, peer_calls, ev
 
 -- ---- what a peer said
 
--- why bytes are no message
+-- the number of a reason why bytes are no message
 abbrev pub message_fault_number : MessageFault → ℕ
 message_fault_number OddLength = 41
 message_fault_number ShortMessage = 42
 message_fault_number (UnknownKind k) = 43
 message_fault_number message.TooLong = 44
 
--- why a conversation stops
+-- the number of a reason why a conversation stops
 abbrev pub session_fault_number : SessionFault → ℕ
 session_fault_number NoCommonVersion = 51
 session_fault_number BadVersions = 52
@@ -37,7 +37,7 @@ session_fault_number (Stream kind) = 55
 session_fault_number session.NoMemory = no_memory
 session_fault_number Failed = stopped
 
--- why an item is not taken in
+-- the number of a reason why an item is not taken in
 abbrev pub feed_refusal_number : FeedRefusal → ℕ
 feed_refusal_number unfed.Stopped = stopped
 feed_refusal_number unfed.Busy = busy
@@ -46,7 +46,7 @@ feed_refusal_number unfed.Attention = attention
 feed_refusal_number (unfed.Fault f) = session_fault_number f
 feed_refusal_number unfed.NoMemory = no_memory
 
--- why a connection is closed
+-- the number of a reason why a connection is closed
 abbrev pub closed_number : Why → ℕ
 closed_number Asked = 1
 closed_number ByPeer = 2
@@ -54,7 +54,7 @@ closed_number Silent = 3
 closed_number (NotServed number) = 4
 closed_number (Refused r) = 5
 
--- what the peer said that was refused, or 0
+-- the number of what the peer said that was refused, or 0
 abbrev pub refused_number : Why → ℕ
 refused_number Asked = ok
 refused_number ByPeer = ok
@@ -62,7 +62,7 @@ refused_number Silent = ok
 refused_number (NotServed number) = ok
 refused_number (Refused r) = feed_refusal_number r
 
--- the number of the Error packet that closed it, or 0
+-- the number of the Error packet that closed a connection, or 0
 abbrev pub error_heard : Why → ℕ
 error_heard Asked = 0
 error_heard ByPeer = 0
@@ -91,7 +91,3 @@ host_fault_number NoMemory = no_memory
 abbrev pub host_told : Result (Unit {0}) HostFault → ℕ
 host_told (Ok u) = ok
 host_told (Err fault) = host_fault_number fault
-
-abbrev pub unless_fault : Option HostFault → ℕ
-unless_fault None = ok
-unless_fault (Some fault) = host_fault_number fault

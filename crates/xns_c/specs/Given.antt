@@ -1,10 +1,10 @@
 -- What is given to C through its own memory, and taken from it.
-use Rattle.std.specs.Prelude.{◌≡◌, ◌≢◌, ◌<◌, ◌≤◌, ◌-◌, ℕ, Bool, not, ◌==◌, if◌then◌else◌, List, ◌++◌, drop, length, Option, Some, None}
+use Rattle.std.specs.Prelude.{◌≡◌, ◌≢◌, ◌-◌, ℕ, Bool, not, ◌==◌, if◌then◌else◌, List, ◌++◌, drop, length, Option, Some, None}
 use Rattle.xns_spp.specs.Receiving.{receive_answer, after_receive}
 use Rattle.xns_spp.specs.State.{State}
 use Rattle.xns_spp.specs.Telling.{unacknowledged_count}
 use Rattle.xns_spp.specs.declared.item.Item.{Item}
-use Rattle.xns_c.specs.Results.{ok, nothing, no_memory, short_buffer, dropped_number}
+use Rattle.xns_c.specs.Results.{ok, nothing, no_memory, dropped_number}
 use Rattle.xns_c.specs.declared.item.XnsItem.{XnsItem}
 use Rattle.xns_c.specs.declared.received.XnsReceived.{XnsReceived}
 
@@ -29,13 +29,6 @@ pub record GivesItem (x : Item) (out : XnsItem) : Type 0 where
   pub stream : out.stream ≡ x.stream
   pub attention : out.attention ≡ as_byte x.attention
   pub last : out.last ≡ as_byte x.last
-
--- what is answered where this item is to be given, its bytes to the front of a buffer: with no room for all of them none is put, and their
--- number is told
-abbrev pub ItemIsGiven : Item → XnsItem → XnsItem → List ℕ → List ℕ → ℕ → Type 0
-ItemIsGiven x before after old new number =
-    (length x.body ≤ length old → (number ≡ ok) × GivesItem x after × IsPut x.body old new after.length)
-    × (length old < length x.body → (number ≡ short_buffer) × (after ≡ record before { length = length x.body }))
 
 -- the next item is given, its bytes to the front of a buffer that has room for them, or there is none
 abbrev pub NextIsTaken : Option Item → XnsItem → List ℕ → List ℕ → ℕ → Type 0

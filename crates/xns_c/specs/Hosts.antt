@@ -28,7 +28,7 @@ use Rattle.xns_c.specs.Settings.{never}
 use Rattle.xns_c.specs.declared.event.XnsEvent.{XnsEvent}
 use Rattle.xns_c.specs.declared.kept_host.KeptHost.{KeptHost}
 
--- what a call does with the host of a handle: where there is none, it says so, and there is none still
+-- what a function does with the host of a handle: where the handle has none, the function says so, and the handle has none still
 abbrev pub Does : Option KeptHost → Option KeptHost → ℕ → (KeptHost → KeptHost → Type 0) → Type 0
 Does None new result P = (result ≡ no_host) × (new ≡ None)
 Does (Some k) None result P = ⊥
@@ -44,7 +44,7 @@ IsNew None own settings secret = ⊥
 IsNew (Some k) own settings secret = IsNewHost own.network own.host settings secret k.host
     × (length k.host.guests.items ≡ settings.connections) × (k.event ≡ None) × (k.packet ≡ None)
 
--- ---- calls that name a connection
+-- ---- functions that name a connection
 
 -- the host made this turn, and the answer is told; what is kept of packets stays
 pub record Turns (k n : KeptHost) (now number : ℕ) (deed : Deed) (reason : Conversation → Option Refusal) (result : ℕ) : Type 0 where
@@ -78,7 +78,7 @@ pub record Calls (k n : KeptHost) (now number : ℕ) (call : RawCall) (result : 
   pub turns : keeps_answer k.event number ≡ false → Turns k n now number (made call) (λ t. call_fault_of t call) result
   pub event : n.event ≡ k.event
 
--- the answer was given; one that is none changes nothing
+-- the answer was given; a kind that no answer has changes nothing
 pub record AnswersCall (k n : KeptHost) (now number : ℕ) (answer : Option Answer) (words : List ℕ) (result : ℕ) : Type 0 where
   pub turns : (a : Answer) → answer ≡ Some a → Turns k n now number (gave a words) (λ t. answer_fault_of t a words) result
   pub bad : answer ≡ None → (result ≡ bad_argument) × (n ≡ k)
@@ -118,9 +118,9 @@ pub record TagsOne (k n : KeptHost) (number tag result : ℕ) : Type 0 where
   pub packet : n.packet ≡ k.packet
   pub event : n.event ≡ kept_tagging k.event number tag result
 
--- ---- other calls
+-- ---- other functions
 
--- what is kept stays
+-- the event and the packet that are kept stay
 pub record StaysKept (k n : KeptHost) : Type 0 where
   pub event : n.event ≡ k.event
   pub packet : n.packet ≡ k.packet
@@ -175,7 +175,7 @@ NumberIsTold (Some number) old new result = (result ≡ ok) × (new ≡ number)
 abbrev pub WalksOn : KeptHost → (from old new result : ℕ) → Type 0
 WalksOn k from old new result = (found : Option ℕ) × IsNumberFrom k.host.guests.items from found × NumberIsTold found old new result
 
--- a number was found, or this is why not
+-- what C is told where a connection was given a number, or of the reason why none was
 abbrev pub number_told : Result ℕ HostFault → ℕ
 number_told (Ok number) = ok
 number_told (Err fault) = host_fault_number fault
@@ -199,7 +199,7 @@ pub record Connects (k n : KeptHost) (now socket : ℕ) (to : Address) (way numb
 
 -- ---- what is fetched
 
--- what stays of it: what had no room
+-- what stays kept of what was fetched: all where the buffer had no room, and else nothing
 abbrev pub left_of : {A : Type 0} → Option A → ℕ → Option A
 left_of found result = if result == short_buffer then found else None
 
@@ -225,7 +225,7 @@ GivesPacket (Some p) old new had written way via result =
     (length p.packet ≤ length old → (result ≡ ok) × IsPut p.packet old new written × (via ≡ p.via))
     × (length old < length p.packet → (result ≡ short_buffer) × (written ≡ length p.packet) × (new ≡ old) × (via ≡ way))
 
--- what a host answered of which this packet was fetched, if any, or that had no memory
+-- what a host returned of which this packet was fetched, if any, or which had no memory
 abbrev pub answer_of : Result (Unit {0}) HostFault → Option Outgoing → Result (Option Outgoing) HostFault
 answer_of (Ok u) found = Ok found
 answer_of (Err fault) found = Err fault

@@ -11,7 +11,7 @@ use Rattle.xns_c.specs.Results.{ok, bad_argument}
 use Rattle.xns_c.specs.declared.message.XnsMessage.{XnsMessage}
 
 -- the head of the message is told, and its words are written, for which memory is wanted where there are any. Of bytes that are no message
--- nothing is, and their first fault is answered
+-- nothing is written, and their first fault is returned
 pub record ReadsMessage (bytes : List ℕ) (before after : XnsMessage) (old new : List ℕ) (had told result : ℕ) : Type 0 where
   pub words : (m : Message) → message_of bytes ≡ Ok m
       → Writes (0 < length (words_in m)) (words_in m) (length (words_in m)) old new had told result

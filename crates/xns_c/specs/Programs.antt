@@ -44,12 +44,12 @@ fault_given text f = record {
   reason = reason_number f.1;
 }
 
--- what is answered where a text is that program, or has that first fault
+-- reading a text, which is a program or has a first fault, returns this number
 abbrev pub ReadsText : Result ResolvedModel TextFault → List ℕ → List Program → List Program → XnsNotationFault → XnsNotationFault → ℕ → Type 0
 ReadsText (Ok p) text before after was fault result = (result ≡ ok) × IsAdded p before after × (fault ≡ was)
 ReadsText (Err f) text before after was fault result = (result ≡ wrong_text) × (after ≡ before) × (fault ≡ fault_given text f)
 
--- reading a text wants memory: it begins with a token, or it is a program, which is kept
+-- reading a text wants memory only where the text begins with a token, or is a program, which is kept
 abbrev pub ReadingWants : List ℕ → List Program → Type 0
 ReadingWants text before = HasToken text ⊎ IsOk (text_meant text before)
 
@@ -96,31 +96,30 @@ procedure_number found = option_map (λ p. p.number) found
 abbrev pub error_number : Option ErrorModel → Option ℕ
 error_number found = option_map (λ e. e.number) found
 
--- what is answered where this program was found
+-- the number and the version of a program that was found are told, or that there is none
 abbrev pub TellsProgram : Option Program → ℕ × ℕ → ℕ × ℕ → ℕ → Type 0
 TellsProgram (Some p) was told result = (result ≡ ok) × (told ≡ (p.number, p.version))
 TellsProgram None was told result = (result ≡ nothing) × (told ≡ was)
 
--- what is answered where this number was found
+-- a number that was found is told, or that there is none
 abbrev pub TellsNumber : Option ℕ → ℕ → ℕ → ℕ → Type 0
 TellsNumber (Some n) was told result = (result ≡ ok) × (told ≡ n)
 TellsNumber None was told result = (result ≡ nothing) × (told ≡ was)
 
--- what is answered where these bytes are to be given to the front of a buffer: with no room for all of them none is put, and their number
--- is told
+-- bytes are given to the front of a buffer: a buffer without room for all of the bytes has none put, and their number is told
 abbrev pub BytesAreGiven : List ℕ → List ℕ → List ℕ → ℕ → ℕ → Type 0
 BytesAreGiven bytes old new written result =
     (length bytes ≤ length old → (result ≡ ok) × IsPut bytes old new written)
     × (length old < length bytes → (result ≡ short_buffer) × (written ≡ length bytes) × (new ≡ old))
 
--- what is answered where bytes that may not be there are to be given
+-- bytes that may not be there are given
 abbrev pub GivesBytes : Option (List ℕ) → List ℕ → List ℕ → ℕ → ℕ → ℕ → Type 0
 GivesBytes (Some bytes) old new had written result = BytesAreGiven bytes old new written result
 GivesBytes None old new had written result = (result ≡ nothing) × (new ≡ old) × (written ≡ had)
 
 -- ---- texts
 
--- why words have no text
+-- the number of a reason why words have no text
 abbrev pub unread_number : UnreadReason → ℕ
 unread_number unread.Truncated = truncated
 unread_number unread.NotBoolean = not_boolean
@@ -129,7 +128,7 @@ unread_number unread.OverMaximum = over_maximum
 unread_number unread.Trailing = left_over
 unread_number unread.LongText = too_long
 
--- what is answered where this text is to be given, or there is this reason why there is none
+-- a text is given, or the reason is told why there is none
 abbrev pub GivesText : Option (Result (List ℕ) UnreadModel) → List ℕ → List ℕ → ℕ → ℕ → ℕ → ℕ → ℕ → Type 0
 GivesText (Some (Ok text)) old new had written stood place result = BytesAreGiven text old new written result × (place ≡ stood)
 GivesText (Some (Err why)) old new had written stood place result =
@@ -148,8 +147,8 @@ nodes_given at (n ∷ ns) =
 abbrev pub names_given : List NodeModel → List ℕ
 names_given ns = flat_map (λ n. n.name ++ 0 ∷ []) ns
 
--- what is answered where a program's nodes and names are to be given: with no room for all of both nothing is put, and how many they are is
--- told
+-- a program's nodes and names are given: where one of the buffers has no room for all of its own, nothing is put, and the numbers of nodes
+-- and bytes are told
 abbrev pub TableIsGiven : List NodeModel → List XnsNode → List XnsNode → List ℕ → List ℕ → ℕ × ℕ → ℕ → Type 0
 TableIsGiven ns nodes after names names_after sizes result =
     (length (nodes_given 0 ns) ≤ length nodes → length (names_given ns) ≤ length names →
@@ -157,7 +156,7 @@ TableIsGiven ns nodes after names names_after sizes result =
     × ((length nodes < length (nodes_given 0 ns)) ⊎ (length names < length (names_given ns)) →
     (result ≡ short_buffer) × (sizes ≡ (length (nodes_given 0 ns), length (names_given ns))) × (after ≡ nodes) × (names_after ≡ names))
 
--- what is answered where the table of a program that may not be there is to be given; number and version are told only with the table
+-- the table of a program that may not be there is given; the program's number and version are told only with the table
 abbrev pub GivesTable : Option Program → ℕ × ℕ → ℕ × ℕ → List XnsNode → List XnsNode → List ℕ → List ℕ → ℕ × ℕ → ℕ × ℕ → ℕ → Type 0
 GivesTable (Some p) was told nodes after names names_after had sizes result =
     TableIsGiven (program_nodes (resolved_model p)) nodes after names names_after sizes result
@@ -165,7 +164,7 @@ GivesTable (Some p) was told nodes after names names_after had sizes result =
 GivesTable None was told nodes after names names_after had sizes result =
     (result ≡ nothing) × (told ≡ was) × (after ≡ nodes) × (names_after ≡ names) × (sizes ≡ had)
 
--- giving a table wants memory: there is such a program, and it has a node
+-- giving a table wants memory only where there is a program, and it has a node
 abbrev pub TableWants : Option Program → Type 0
 TableWants (Some p) = program_nodes (resolved_model p) ≢ []
 TableWants None = ⊥

@@ -89,7 +89,7 @@ no_version = 88
 abbrev pub wrong_text : ℕ
 wrong_text = 91
 
--- why bytes are no internet packet
+-- the number of a reason why bytes are no internet packet
 abbrev pub idp_fault_number : IdpFault → ℕ
 idp_fault_number (Short h) = short
 idp_fault_number (LengthSmall l) = 12
@@ -97,19 +97,19 @@ idp_fault_number (LengthLarge l) = 13
 idp_fault_number (Cut n h) = 14
 idp_fault_number (BadSum f c) = 15
 
--- why an item is not accepted
+-- the number of a reason why an item is not accepted
 abbrev pub send_fault_number : SendFault → ℕ
 send_fault_number TooLong = too_long
 send_fault_number AttentionSize = 22
 send_fault_number Exhausted = 23
 send_fault_number Full = 24
 
--- what the endpoint answers to an item
+-- the number that an endpoint returns for an item
 abbrev pub send_number : Result (Unit {0}) (SendFault × Item) → ℕ
 send_number (Ok u) = ok
 send_number (Err f) = send_fault_number f.0
 
--- why a packet's item was neither taken nor kept, or 0
+-- the number of a reason why a packet's item was neither taken nor kept, or 0
 abbrev pub dropped_number : Option Dropped → ℕ
 dropped_number None = 0
 dropped_number (Some NotIdp) = 31

@@ -23,14 +23,14 @@ packet_with p body = record {
 abbrev pub packet_in : XnsPacket → List ℕ → PacketModel
 packet_in p bytes = packet_with p (slice_range bytes p.body_at (p.body_at + p.body_length))
 
--- the bytes begin with such a packet
+-- the bytes begin with a packet of this kind
 pub record HasPacket (IsSuch : PacketModel → Type 0) (bytes : List ℕ) : Type 0 where
   pub packet : PacketModel
   pub taken : ℕ
   pub reads : packet_of bytes ≡ Ok (packet, taken)
   pub such : IsSuch packet
 
--- the bytes begin with such a packet, and its own data, behind so many bytes of its body, stand at a place within them
+-- the bytes begin with a packet of this kind, and its own data, behind so many bytes of its body, stand at a place within the bytes
 pub record StandsIn (IsSuch : PacketModel → Type 0) (before : ℕ) (bytes : List ℕ) (place size : ℕ) : Type 0 where
   pub packet : PacketModel
   pub taken : ℕ

@@ -79,7 +79,7 @@ pub fn refused_number(why: Why) -> u32
     }
 }
 
-/// The number of the Error packet that closed it, or 0.
+/// The number of the Error packet that closed a connection, or 0.
 pub fn error_heard(why: Why) -> u16
     ensures { result ≡ error_heard why }
 {
@@ -112,7 +112,7 @@ pub fn host_fault_number(fault: HostFault) -> u32
     }
 }
 
-/// What a host answers.
+/// What a host returns, by number.
 pub fn host_told(done: Result<(), HostFault>) -> u32
     ensures { result ≡ host_told done }
 {

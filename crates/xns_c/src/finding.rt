@@ -2,7 +2,6 @@
 
 ghost use Rattle.std.specs.Prelude.{◌≡◌, IfNone, IfSome, MatchOption, None, Some, map};
 ghost use Rattle.std.specs.Str.{bytes_eq};
-ghost use Rattle.courier_programs.specs.Declarations.{error_by, procedure_by};
 ghost use Rattle.courier_programs.specs.Meanings.{error_model, procedure_model};
 ghost use Rattle.courier_programs.specs.Scopes.{program_by};
 ghost use Rattle.xns_c.specs.Programs.{error_called, error_called_in, error_name, error_number, error_numbered_in, procedure_called};

@@ -14,6 +14,7 @@ use crate::address::XnsAddress;
 use crate::flag::as_byte;
 use crate::packet::XnsPacket;
 use crate::results::{BAD_ARGUMENT, OK, SHORT_BUFFER, TOO_LONG, idp_fault_number};
+use crate::sending::packet_size;
 use xns_idp::{HEADER_BYTES, MOST_DATA, Packet, cycle_sum, decode, encode_into};
 
 /// The checksum of the words of the bytes, or `BAD_ARGUMENT` for an odd number of bytes
@@ -49,7 +50,7 @@ fn told(found: &Packet<'_>, taken: usize) -> XnsPacket
     }
 }
 
-/// Reads the packet at the front of the bytes, or answers the number of the first fault
+/// Reads the packet at the front of the bytes, or returns the number of the first fault
 /// (XSIS 028112, Internet Datagram Protocol, Packet Format).
 #[unsafe(no_mangle)]
 pub extern "C" fn xns_decode(bytes: &[u8], packet: &mut XnsPacket) -> u32
@@ -92,7 +93,7 @@ pub extern "C" fn xns_encode(
     if size > MOST_DATA {
         return TOO_LONG;
     }
-    let needed = 30 + size + size % 2;
+    let needed = packet_size(size);
     if buffer.len() < needed {
         *written = needed;
         return SHORT_BUFFER;

@@ -11,7 +11,7 @@ ghost use Rattle.xns_host.specs.declared.outgoing.Outgoing.{Outgoing};
 ghost use Rattle.xns_host.specs.declared.setting.Setting.{Setting};
 ghost use Rattle.xns_c.specs.Heads.{answer_in};
 ghost use Rattle.xns_c.specs.Hosts.{AbandonsOne, Calls, AnswersCall, Closes, Connects, Moves, Serves, Receives, Wakes, FetchesEvent, FetchesPacket};
-ghost use Rattle.xns_c.specs.Hosts.{TagsOne, answer_of, keeps_answer, kept_after, kept_closing, kept_tagging};
+ghost use Rattle.xns_c.specs.Hosts.{TagsOne, keeps_answer, kept_after, kept_closing, kept_tagging};
 ghost use Rattle.xns_c.specs.Results.{ok};
 ghost use Rattle.xns_c.specs.Structs.{address_in};
 
@@ -116,7 +116,7 @@ impl KeptHost {
         host_told(self.host.call(now, number, call))
     }
 
-    /// Lets the event go that is kept of the connection with this number, where the call of it was done.
+    /// Lets the event go that is kept of the connection with this number, where its call was answered or it was abandoned.
     fn let_go(&mut self, number: usize, told: u32)
         ensures { self.new ≡ record self.old { event = kept_after self.old.event number told } }
     {

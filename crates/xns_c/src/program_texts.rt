@@ -36,11 +36,9 @@ pub extern "C" fn xns_programs_call_text(
     ensures memory { result ≡ no_memory → (buffer.new ≡ buffer.old) × (written.new ≡ written.old) × (place.new ≡ place.old) }
     ensures same { programs_of handle.new ≡ programs_of handle.old }
 {
-    let Some(kept) = handle.take(alloc) else {
-        return NOTHING;
-    };
-    let shown = call_text(alloc, &kept.programs, program, version, procedure, words);
-    handle.put(kept);
+    let shown = handle.ask(alloc, Ok(None), |kept| {
+        call_text(alloc, &kept.programs, program, version, procedure, words)
+    });
     give_text(shown, buffer, written, place)
 }
 
@@ -67,11 +65,9 @@ pub extern "C" fn xns_programs_return_text(
     ensures memory { result ≡ no_memory → (buffer.new ≡ buffer.old) × (written.new ≡ written.old) × (place.new ≡ place.old) }
     ensures same { programs_of handle.new ≡ programs_of handle.old }
 {
-    let Some(kept) = handle.take(alloc) else {
-        return NOTHING;
-    };
-    let shown = return_text(alloc, &kept.programs, program, version, procedure, words);
-    handle.put(kept);
+    let shown = handle.ask(alloc, Ok(None), |kept| {
+        return_text(alloc, &kept.programs, program, version, procedure, words)
+    });
     give_text(shown, buffer, written, place)
 }
 
@@ -98,11 +94,9 @@ pub extern "C" fn xns_programs_abort_text(
     ensures memory { result ≡ no_memory → (buffer.new ≡ buffer.old) × (written.new ≡ written.old) × (place.new ≡ place.old) }
     ensures same { programs_of handle.new ≡ programs_of handle.old }
 {
-    let Some(kept) = handle.take(alloc) else {
-        return NOTHING;
-    };
-    let shown = abort_text(alloc, &kept.programs, program, version, error, words);
-    handle.put(kept);
+    let shown = handle.ask(alloc, Ok(None), |kept| {
+        abort_text(alloc, &kept.programs, program, version, error, words)
+    });
     give_text(shown, buffer, written, place)
 }
 

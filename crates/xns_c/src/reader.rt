@@ -1,6 +1,6 @@
 //! Courier's values, read from words at a cursor (XSIS 038112, Courier, Standard representation).
 //!
-//! After a fault each call answers that fault, and changes nothing. `TRUNCATED` where the words end before the value does.
+//! After a fault each function returns that fault, and changes nothing. `TRUNCATED` where the words end before the value does.
 
 ghost use Rattle.std.specs.Prelude.{◌≡◌, ◌≢◌, ◌<◌, ◌≤◌, ℕ, ◌+◌, ◌/◌, ◌%◌, List, [], ◌∷◌, drop, length, Ok, Err};
 ghost use Rattle.courier_types.specs.Front.{value_of};

@@ -1,4 +1,4 @@
-//! What the exported functions answer, by number.
+//! The numbers that the exported functions return.
 
 ghost use Rattle.std.specs.Prelude.{◌≡◌, ◌<◌};
 ghost use Rattle.xns_c.specs.Results.{idp_fault_number, send_fault_number, dropped_number};

@@ -1,6 +1,6 @@
 //! Packets that go out.
 
-ghost use Rattle.std.specs.Prelude.{◌≡◌, ◌≢◌, ◌+◌, ◌<◌, ◌≤◌, length};
+ghost use Rattle.std.specs.Prelude.{◌≡◌, ◌+◌, ◌<◌, ◌≤◌, length};
 ghost use Rattle.xns_idp.specs.Packet.{most_data};
 ghost use Rattle.xns_idp.specs.Reading.{made_even};
 ghost use Rattle.xns_small.specs.Exchange.{asking_packet};

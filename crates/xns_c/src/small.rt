@@ -12,6 +12,7 @@ ghost use Rattle.xns_c.specs.Structs.{address_in};
 use crate::address::XnsAddress;
 use crate::front::put_front;
 use crate::results::{NO_MEMORY, NOTHING, OK, SHORT, SHORT_BUFFER, TOO_LONG};
+use crate::sending::{BEFORE_EXCHANGED, MOST_EXCHANGED};
 use std::alloc::Global;
 use xns_idp::decode;
 use xns_small::{Exchange, answer_echo, complain, read_error, read_exchange, write_exchange};
@@ -118,10 +119,10 @@ pub extern "C" fn xns_exchange_write(
 ) -> u32
     ensures { WritesExchange id client bytes.now buffer.old buffer.new written.old written.new result }
 {
-    if bytes.len() > 540 {
+    if bytes.len() > MOST_EXCHANGED {
         return TOO_LONG;
     }
-    let needed = 6 + bytes.len();
+    let needed = BEFORE_EXCHANGED + bytes.len();
     if buffer.len() < needed {
         *written = needed;
         return SHORT_BUFFER;

@@ -88,7 +88,7 @@ fn event_out(event: &Event) -> XnsEvent
     }
 }
 
-/// Of which connection an event is.
+/// The number of the connection that an event is of.
 pub fn number_of(event: &Event) -> usize
     ensures { result ≡ event_number event.now }
 {

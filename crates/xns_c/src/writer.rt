@@ -1,6 +1,6 @@
 //! Courier's values, written as words at a cursor (XSIS 038112, Courier, Standard representation).
 //!
-//! After a fault each call answers that fault, and changes nothing. `SHORT_BUFFER` where the buffer has no room for all words of the value.
+//! After a fault each function returns that fault, and changes nothing. `SHORT_BUFFER` where the buffer has no room for all words of the value.
 
 ghost use Rattle.std.specs.Prelude.{◌≡◌, ◌≢◌, ◌<◌, ◌≤◌, ◌+◌, ◌^◌, [], ◌∷◌, length};
 ghost use Rattle.courier_types.specs.Spelling.{bytes_spelling, value_spelling};
