@@ -1,19 +1,12 @@
 //! Two connections, and a network that loses packets, delivers packets twice, and the last one first.
 
-use crate::hosts::{CALLER, SERVER};
-use courier_sessions::{Answer, Program};
+use crate::hosts::{CALLER, LISTED, SERVER};
+use courier_sessions::Answer;
 use host_world::{Pair, Station};
 use item_world::Side;
 use std::alloc::{AllocError, Global};
 use xns_host::{Call, Settings};
 use xns_spp::Bytes;
-
-/// The program that the service serves.
-const LISTED: Program = Program {
-    number: 7,
-    lowest: 2,
-    highest: 2,
-};
 
 /// Makes two connections, and lets them meet.
 pub fn talk(rt: &HostRuntime) -> Result<(), anyhow::Error> {

@@ -1,15 +1,8 @@
 //! Two hosts and a clock that the program plays: one calls, the other answers. The program carries their packets.
 
-use crate::hosts::{CALLER, SERVER};
-use courier_sessions::{Answer, Program};
+use crate::hosts::{CALLER, LISTED, SERVER};
+use courier_sessions::Answer;
 use xns_host::{Call, Event, Host, HostFault, Settings};
-
-/// The program that the service serves.
-const LISTED: Program = Program {
-    number: 7,
-    lowest: 2,
-    highest: 2,
-};
 
 /// Makes two hosts, and lets them meet.
 pub fn talk(rt: &HostRuntime) -> Result<(), anyhow::Error> {

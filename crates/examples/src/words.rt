@@ -1,16 +1,10 @@
 //! A call by its words, over two endpoints.
 
 use crate::client::Client;
+use crate::hosts::LISTED;
 use crate::service::Service;
-use courier_sessions::{FeedRefusal, Program};
+use courier_sessions::FeedRefusal;
 use std::alloc::Global;
-
-/// The program that the service serves.
-const LISTED: Program = Program {
-    number: 7,
-    lowest: 2,
-    highest: 2,
-};
 
 /// Makes a call, and prints how it is answered.
 pub fn call(rt: &HostRuntime) -> Result<(), anyhow::Error> {

@@ -66,7 +66,7 @@ from_before at_line first less behind (acknowledged heading number ∷ xs) le a 
 from_before at_line first less behind (read heading ∷ xs) le a = (a.0, let up = a.1 in omega (arith, le, up), a.2, a.3, a.4)
 from_before at_line first less behind (meanwhile calls text is_refused ∷ xs) le a = from_before at_line first less behind xs le a
 
--- those of one line, and those behind
+-- the events of one line, and the events behind it
 one_between : (at_line : ℕ → Heading) (n behind : ℕ) (xs ys : List Event) → n < behind → AreAt (at_line n) xs → AreBetween at_line n behind ys → AreBetween at_line n behind (xs ++ ys)
 one_between at_line n behind [] ys lt a b = b
 one_between at_line n behind (captured heading number item ∷ xs) ys lt a b = (n, omega arith, lt, a.0, one_between at_line n behind xs ys lt a.1 b)
@@ -80,7 +80,7 @@ line_between at_line n lines line xs ys a b =
     let one : (n + 1) + length lines ≡ n + length (line ∷ lines) = omega arith in
     one_between at_line n (n + length (line ∷ lines)) xs ys (omega arith) a (from_before at_line (n + 1) n (n + length (line ∷ lines)) ys (omega arith) (subst (λ e. AreBetween at_line (n + 1) e ys) one b))
 
--- those of the last line
+-- the events of the last line
 only_between : (at_line : ℕ → Heading) (first last : ℕ) (ys : List Event) → first ≤ last → AreAt (at_line last) ys → AreBetween at_line first (1 + last) ys
 only_between at_line first last [] le a = tt
 only_between at_line first last (captured heading number item ∷ ys) le a = (last, le, omega arith, a.0, only_between at_line last last ys (omega arith) a.1)

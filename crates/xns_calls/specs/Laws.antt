@@ -130,8 +130,8 @@ WholeFlowsSayTheirConversation = (items : List Item) (events : List Event) (fiel
     → t.track ≡ first_track field → IsWhole items events
     → SaysConversation (of_courier items) (flow_heard (with_end h events t) t) (flow_text (with_end h events t) t)
 
--- of an input with whatever lines and flows: where each item of a flow stands in it so, its text tells of that flow that it begins and
--- then its conversation, and nothing else up to the first fault but that repeats came in a row
+-- of an input with whatever lines and flows: where each item of a flow stands in it whole, its text tells of that flow that it begins, then
+-- tells the flow's conversation, and up to the first fault nothing else but that repeats came in a row
 abbrev pub InputsTellTheirConversations : Type 0
 InputsTellTheirConversations = (programs : Programs) (input : List ℕ) (p : FlowName) (items : List Item) (field : ℕ)
     → first_field programs p (lines_of input) ≡ Some field → field < most_pending → IsWhole items (events_in programs p (lines_of input))

@@ -23,7 +23,7 @@ use xns_lines::{RunFault, print_lines};
 const MOST_LINES: usize = 18_446_744_073_709_551_615;
 
 /// Reads lines of hex, each an internet packet, and prints the Courier calls that they carry, and what came back. The
-/// answer is whether something was refused: where no programs are given, whether the output has the word `refused`.
+/// result is whether something was refused: where no programs are given, whether the output has the word `refused`.
 ///
 /// Where programs are given, a call, a return or an abort that they declare is told by name and value: the program, the
 /// procedure or the error, and the arguments or the results. Without programs, and of what they do not declare, it is told by
@@ -97,7 +97,7 @@ fn print_described<D: Described, R: Read, W: Write>(
 
 /// Reads a capture and prints the Courier calls that the internet packets in its frames carry, and what came back, as `calls`
 /// does of lines, with the number of the frame in place of the line's. Where times are wanted, the time of the frame stands
-/// before each line, and behind each answer how long its call took. The answer is whether something was refused.
+/// before each line, and behind each answer how long its call took. The result is whether something was refused.
 pub fn calls_capture<R: Read, W: Write>(
     alloc: Global,
     programs: Option<&[Program]>,

@@ -7,11 +7,11 @@ use crate::refusal::Refusal;
 
 /// All is fine, or help was asked for.
 const FINE: u8 = 0;
-/// A line was refused.
+/// A line or a packet was refused.
 const LINE_REFUSED: u8 = 1;
 /// The command line is wrong, or a description of a program that it names.
 const WRONG_WORDS: u8 = 2;
-/// Reading or writing failed, a limit was passed, or there was no memory.
+/// Reading or writing failed, a limit was passed, a capture cannot be read on, or there was no memory.
 const FAULT: u8 = 3;
 
 /// The program's exit status for what a mode returned: 0 where all was fine, 1 where something was refused, 3 after a fault,
