@@ -1,6 +1,7 @@
 #!/bin/sh
 # Builds the program and the library for C, and installs them under a folder, or takes them away again.
 set -eu
+CDPATH=
 
 usage() {
     cat << 'END'
@@ -123,9 +124,10 @@ fi
 
 cd "$(dirname "$0")"
 command -v rt > /dev/null || stop 'there is no rt: the Rattle kit is needed to build'
+# The compiler may have words behind it, and stand behind another program, as in CC='ccache gcc'.
 compiler=
-for one in ${CC:-} gcc cc clang; do
-    if [ -z "$compiler" ] && command -v "$one" > /dev/null; then compiler=$one; fi
+for one in "${CC:-}" gcc cc clang; do
+    if [ -z "$compiler" ] && command -v "${one%% *}" > /dev/null; then compiler=$one; fi
 done
 [ -n "$compiler" ] || stop 'there is no C compiler'
 command -v ar > /dev/null || stop 'there is no ar'
@@ -167,7 +169,8 @@ cp crates/xns_c/out/libxns_c.a "$work/archive/libxns.a"
 (cd "$work/archive" && ar x "$heap" && ar qDs libxns.a ./*.o)
 
 echo '{ global: xns_*; local: *; };' > "$work/exports"
-"$compiler" -shared -Wl,-soname,"$soname" -Wl,--version-script="$work/exports" \
+# shellcheck disable=SC2086
+$compiler -shared -Wl,-soname,"$soname" -Wl,--version-script="$work/exports" \
     -Wl,--whole-archive "$work/archive/libxns.a" -Wl,--no-whole-archive -o "$work/libxns.so"
 
 cat > "$work/xns.pc" << END

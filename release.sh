@@ -6,14 +6,18 @@
 # The archive is FOLDER/xns-VERSION-x86_64-linux.tar.gz, with FOLDER where one stands if it is not given. What is the same is archived by
 # the same bytes: dates, owners, rights and order are fixed.
 set -eu
+CDPATH=
 
-case ${1-} in
--*)
+folder=${1:-.}
+if [ $# -gt 1 ] || [ "$folder" != "${folder#-}" ]; then
     echo 'usage: sh release.sh [FOLDER]' >&2
     exit 2
-    ;;
-esac
-folder=$(cd "${1:-.}" && pwd)
+fi
+folder=$(cd "$folder" && pwd)
+if [ ! -w "$folder" ]; then
+    echo "release.sh: $folder cannot be written in" >&2
+    exit 1
+fi
 cd "$(dirname "$0")"
 version=$(cat VERSION)
 name=xns-$version-x86_64-linux

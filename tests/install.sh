@@ -149,6 +149,13 @@ ends_with 'a newer one over it' 0 "$notice" sh "$script" "$work/versions"
 # shellcheck disable=SC2086
 holds 'leaves nothing of the older' "$work/versions" $folders $files
 
+# A compiler behind another program, and a CDPATH that has a folder of the script's name.
+printf '#!/bin/sh\nexec "$@"\n' > "$work/kit/bin/behind"
+chmod +x "$work/kit/bin/behind"
+ends_with 'a compiler of several words' 0 "$notice" env CC="behind $compiler -O1" sh "$script" "$work/versions"
+mkdir -p "$work/elsewhere/copy" "$work/elsewhere/one"
+ends_with 'a CDPATH' 0 "$notice" sh -c "cd '$work' && CDPATH='$work/elsewhere' && export CDPATH && sh copy/install.sh '$work/versions'"
+
 # Installing under another folder, whose name may have a blank.
 ends_with 'installing under DESTDIR' 0 "$notice" env DESTDIR="$work/a stage" sh "$script" /opt/xns/
 # shellcheck disable=SC2046,SC2086
@@ -166,7 +173,16 @@ sleep 1
 ends_with 'an archive for where one stands' 0 "$notice" sh -c "umask 077 && cd '$work/two' && sh '$work/copy/release.sh'"
 expect 'has the same bytes' cmp "$work/one/xns-$version-x86_64-linux.tar.gz" "$work/two/xns-$version-x86_64-linux.tar.gz"
 expect 'and sum' cmp "$work/one/xns-$version-x86_64-linux.tar.gz.sha256" "$work/two/xns-$version-x86_64-linux.tar.gz.sha256"
+ends_with 'an archive under a CDPATH' 0 "$notice" sh -c "cd '$work' && CDPATH='$work/elsewhere' && export CDPATH && sh copy/release.sh one"
+expect 'is told where it is' cmp "$work/names" "$work/out"
 ends_with 'an archive with an option' 2 'usage: sh release.sh [FOLDER]' sh "$work/copy/release.sh" --all
+ends_with 'an archive in two folders' 2 'usage: sh release.sh [FOLDER]' sh "$work/copy/release.sh" "$work/one" "$work/two"
+if [ -n "$other" ] || [ "$(id -u)" -ne 0 ]; then
+    chmod 555 "$work/elsewhere"
+    # shellcheck disable=SC2086
+    ends_with 'an archive in a folder that is closed' 1 "release.sh: $work/elsewhere cannot be written in" $other sh "$work/copy/release.sh" "$work/elsewhere"
+    chmod 755 "$work/elsewhere"
+fi
 
 PATH=$plain_path
 
@@ -261,7 +277,8 @@ expect 'an example against the archive' "$compiler" $flags -std=c99 -I"$prefix/i
 expect 'runs' env -u LD_LIBRARY_PATH "$work/courier"
 expect 'and is answered' grep -qx 42 "$work/out"
 words=$(sed -n 's|^    gcc \(.* ~/xns/lib/libxns.a\) -o server$|\1|p' README.md | sed "s|~/xns|$prefix|g")
-expect 'the line of README.md that compiles a program' sh -c "[ -n '$words' ] && '$compiler' $words -o '$work/server' && { '$work/server'; [ \$? -eq 2 ]; }"
+expect 'the line of README.md that compiles a program' sh -c "[ -n '$words' ] && '$compiler' $words -o '$work/server'"
+ends_with 'that program, of no words' 2 'usage: server PORT, -i INTERFACE or -n PORT STATION' "$work/server"
 
 # The archive is for every x86-64 processor: here for one without SSSE3 and SSE4.
 if has qemu-x86_64; then

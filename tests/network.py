@@ -4,10 +4,11 @@
     network.py hub LOSS DELAY_MS REPEAT CORRUPT INTERFACE ..   a hub that spoils frames
     network.py capture INTERFACE FILE                          all frames of an interface, as a capture
     network.py add INTERFACE STATION NUMBER ..                 a patient client of the tally; prints each total
+    network.py noise INTERFACE                                 frames that are nobody's, without end
     network.py agree FILE                                      what tshark and `xns dump` say of each packet of a capture, field by field
 
 The hub gives each frame that comes by one interface to all others. LOSS, REPEAT and CORRUPT are chances from 0 to 1, each drawn for each copy, and a frame
-waits up to DELAY_MS, so that frames overtake each other. Each of the first three ends at SIGTERM."""
+waits up to DELAY_MS, so that frames overtake each other. The hub, the capture and the noise end at SIGTERM."""
 import collections
 import heapq
 import random
@@ -22,6 +23,7 @@ import time
 
 SO_RCVBUFFORCE, ALL, SOL_PACKET, ADD_MEMBERSHIP, PROMISCUOUS, OUTGOING = 33, 3, 263, 1, 1, 4
 HEAD, AT_ONCE, ROOM = 14, 64, 1 << 22
+LEFT = 1.0  # seconds in which a capture still reads what came before the signal, where frames never cease
 CAPTURE_HEAD = struct.pack("<IHHiIII", 0xA1B2C3D4, 2, 4, 0, 0, 65535, 1)  # frames of Ethernet, times in microseconds
 PATIENT = {"first_wait": 50, "longest_wait": 200, "tries": 100}
 IDP = ["checksum", "len", "hops", "packet_type", "dst.net", "dst.node", "dst.socket", "src.net", "src.node", "src.socket"]
@@ -87,12 +89,16 @@ def hub(loss, delay, repeat, corrupt, *names):
 
 
 def capture(interface, path):
-    frames = opened(interface)
+    frames, stops = opened(interface), []
+    signal.signal(signal.SIGTERM, lambda *_: stops.append(time.monotonic()))
+
+    def may_be_left():
+        is_there = select.select([frames], [], [], 0.1)[0]
+        return not stops or is_there and time.monotonic() < stops[0] + LEFT
+
     with open(path, "wb") as file:
         file.write(CAPTURE_HEAD)
-        stops = []
-        signal.signal(signal.SIGTERM, lambda *_: stops.append(True))
-        while select.select([frames], [], [], 0.1)[0] or not stops:  # what came before the signal is read still
+        while may_be_left():
             try:
                 frame, now = frames.recv(65535), time.time()
             except OSError:
@@ -109,6 +115,16 @@ def add(interface, station, *numbers):
         with xns.Client(link, host, own, xns.Address(1, host, 5), timeout=300, **PATIENT) as client:
             for number in numbers:
                 print(xns.Reader(client.call(7, 1, 1, [int(number)]).words).long_cardinal())
+
+
+def noise(interface):
+    frames = opened(interface)
+    try:
+        while True:
+            frames.send(b"\xff" * 6 + frames.getsockname()[4] + b"\x88\xb5" + bytes(46))
+            time.sleep(0.02)
+    except Stopped:
+        pass
 
 
 def tshark(path, *fields):
@@ -143,4 +159,4 @@ def agree(path):
 
 if __name__ == "__main__":
     signal.signal(signal.SIGTERM, stop)
-    {"hub": hub, "capture": capture, "add": add, "agree": agree}[sys.argv[1]](*sys.argv[2:])
+    {"hub": hub, "capture": capture, "add": add, "noise": noise, "agree": agree}[sys.argv[1]](*sys.argv[2:])

@@ -115,10 +115,10 @@ answers() {
     done
 }
 
-# Waits until two programs read frames of this type (0003: all) at a station, for ten seconds at most.
+# Waits until so many programs read frames of this type (0003: all) at a station, for ten seconds at most.
 listened() {
     tries=0
-    until [ "$(at "$1" awk -v type="$2" '$4 == type && $6 == 1' /proc/net/packet | wc -l)" -eq 2 ]; do
+    until [ "$(at "$1" awk -v type="$2" '$4 == type && $6 == 1' /proc/net/packet | wc -l)" -eq "$3" ]; do
         tries=$((tries + 1))
         [ $tries -lt 100 ] || return 1
         sleep 0.1
@@ -144,7 +144,7 @@ for language in C Python; do
     begin 2 xns-net watch -i eth0
     watching=$started
     watched=$said
-    expect 'all frames are read' listened 2 0003
+    expect 'all frames are read' listened 2 0003 2
     if [ $language = C ]; then begin 1 "$work/server" -i eth0; else begin 1 xns-net serve -i eth0; fi
     expect "a server in $language answers Echo" answers 2 1
     prints "calls of C to a server in $language" "return 0 1
@@ -199,12 +199,25 @@ else left_out setpriv 'what is told where there is no right'; fi
 end_all
 expect 'a call to a server that is gone' sh -c "timeout 60 ip netns exec $front-2 '$work/client' -i eth0 $(station 1) 1 2>&1; [ \$? -eq 1 ]"
 expect 'is given up' grep -qx 'the peer does not answer' "$work/out"
+begin 1 python3 tests/network.py noise eth0
+begin 2 python3 tests/network.py capture eth0 "$work/noise.pcap"
+capturing=$started
+begin 2 xns-net watch -i eth0 --hex
+expect 'a watch and a capture read frames that never cease' listened 2 0003 2
+sleep 0.5
+kill -INT "$started"
+kill "$capturing"
+expect 'and end by a signal' listened 2 0003 0
+begin 2 "$work/ping" -i eth0 all 1000
+expect 'a watch whose output is refused' sh -c "timeout 60 ip netns exec $front-2 xns-net watch -i eth0 --dump -c 1 2>&1 > /dev/full; [ \$? -eq 3 ]"
+expect 'ends with the status of xns' grep -q '^xns: ' "$work/out"
+end_all
 
 # ---- two programs at one station
 
 begin 1 "$work/server" -i eth0
 begin 1 xns-net serve -i eth0 --socket 6
-expect 'two programs at one station' listened 1 0600
+expect 'two programs at one station' listened 1 0600 2
 prints 'the one' 'return 0 5' at 2 "$work/client" -i eth0 "$(station 1)" 5
 prints 'the other' 'return 0000 0007' at 2 xns-net call 1.0200aa000001.6 7 1 1 0007 -i eth0
 end_all
@@ -249,6 +262,34 @@ done
 kill "$served"
 wait "$served"
 expect 'it ends when it is told to' test $? -eq 0
+
+# Runs that host with its k-th growth refused, for every k up to the first run that sees no refusal. Each must answer and end by itself, unless its host is
+# not made: it ends then before it answers anything.
+refuse_each() {
+    growth=0
+    lived=0
+    while :; do
+        growth=$((growth + 1))
+        rm -f "$work/growths"
+        begin 1 env REFUSE_AT=$growth GROWTHS_TO="$work/growths" "$work/refused_epoll" "$(station 1)"
+        sleep 0.1
+        tries=0
+        until [ -s "$work/growths" ] || at 2 "$work/ping" -i eth0 "$(station 1)" 1 > "$work/new" 2>&1 || [ $tries -eq 10 ]; do tries=$((tries + 1)); done
+        if [ ! -s "$work/growths" ]; then
+            lived=$((lived + 1))
+            at 2 "$work/client" -i eth0 "$(station 1)" 1 x1000 > "$work/out" 2> "$work/err"
+            printf 'return 1\nreturn 1000 bytes, the same\n' | cmp -s - "$work/out" || { fail "calls with growth $growth refused"; return; }
+        fi
+        end_all
+        if [ ! -s "$work/growths" ]; then fail "it does not end by itself with growth $growth refused" "$said"; return; fi
+        if [ "$(cat "$work/growths")" -lt $growth ]; then break; fi
+    done
+    expect 'more than ten growths of a host that was made were refused' test $lived -gt 10
+}
+
+expect 'it is built to be refused memory' "$compiler" $flags -Wl,--wrap=malloc,--wrap=realloc examples/c/epoll.c tests/c/refuse.c $archive "$heap" -o "$work/refused_epoll"
+refuse_each
+
 cable
 begin 1 "$work/server" -i eth0
 if "$compiler" $flags examples/c/pcap.c $archive "$heap" -lpcap -o "$work/pcap" 2> "$work/log"; then

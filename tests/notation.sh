@@ -1,8 +1,9 @@
 #!/bin/sh
 # Compares what `test_programs` answers, what `xns programs` prints, and how `xns calls` names calls, with a second account,
 # tests/notation_account.py: over the descriptions of examples/courier, over a case for each reason and limit, and over random programs,
-# half of them with a fault. Then it refuses each growth in turn of a description and a call. It builds both programs first. Its last line is 'N passed, M failed', and it
-# ends with 1 where one failed. A first word is the number of random cases.
+# half of them with a fault. Then it refuses each growth in turn: of `test_programs` with a call, of `xns programs`, and of `xns calls`
+# with a description. It builds both programs first. Its last line is 'N passed, M failed', and it ends with 1 where one failed. A first
+# word is the number of random cases.
 set -u
 cd "$(dirname "$0")/.."
 . tests/lib.sh

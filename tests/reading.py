@@ -23,10 +23,10 @@ PAGE = ROOT / "docs" / "PROOF.md"
 ENDS = frozenset("""initiator_state responder_state after_send send_answer after_take take_answer after_receive receive_answer after_flush
     flush_answer after_tick tick_answer after_resend resend_answer told_answer is_full waiting_count is_ours State IsItem Holds""".split())
 
-# and what its sessions make of items: the contracts of `Caller` and `Server` cite them
+# what the program's ends do, and what its sessions make of items: the contracts of `Caller` and `Server` cite them
 STEPS = ENDS | frozenset("caller_items server_items server_state answers decided_calls decision after_decision Serving Service IsFitting".split())
 
-# and what the functions of a host do, which the contracts of `Host` cite, and what a host is
+# what the functions of a host do, which the contracts of `Host` cite, and what a host is
 TURNS = frozenset("IsNewHost ConnectsTo Turn TellsNext TakesIn GivesOut ServesAt MovesTo Tags Abandons Host Guest Connection".split())
 
 NOTHING = frozenset()

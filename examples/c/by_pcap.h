@@ -23,10 +23,6 @@ static inline void by_pcap_put(struct link *link, uint64_t via, const uint8_t *p
     (void)pcap_sendpacket(by_pcap, frame, (int)frame_write(link->station, packet, length, frame));
 }
 
-static inline void by_pcap_flush(struct link *link) {
-    (void)link;
-}
-
 /* A link at an interface, as this station. */
 static inline void by_pcap_open(struct link *link, const char *interface, const uint8_t station[6]) {
     char why[PCAP_ERRBUF_SIZE];
@@ -43,7 +39,7 @@ static inline void by_pcap_open(struct link *link, const char *interface, const 
     memcpy(link->station, station, 6);
     link->receive = by_pcap_receive;
     link->put = by_pcap_put;
-    link->flush = by_pcap_flush;
+    link->flush = link_flush_nothing;
     link->socket = random_socket();
 }
 

@@ -13,14 +13,22 @@ static size_t connection;
 static uint16_t sent[XNS_MOST_CALL_WORDS], words[XNS_MOST_MESSAGE_WORDS];
 static size_t sent_count; /* of the words that are to come back; 0 where the call adds */
 
+/* Whether the words each name a call. */
+static bool are_calls(char **given) {
+    unsigned long number;
+    for (char **one = given; *one != NULL; one++) {
+        if (**one == 'x' ? !read_number(*one + 1, 2 * XNS_MOST_CALL_WORDS, &number) : !read_number(*one, UINT16_MAX, &number)) return false;
+    }
+    return true;
+}
+
 /* The words of the next call, and its procedure. */
 static uint16_t next_call(const char *next, size_t *count) {
     sent_count = 0;
     *count = 1;
-    sent[0] = next == NULL ? 0 : (uint16_t)atoi(next);
+    sent[0] = next == NULL ? 0 : (uint16_t)strtoul(next, NULL, 10);
     if (next == NULL || next[0] != 'x') return 1;
-    sent_count = ((size_t)atol(next + 1) + 1) / 2;
-    if (sent_count > XNS_MOST_CALL_WORDS) sent_count = XNS_MOST_CALL_WORDS;
+    sent_count = (strtoul(next + 1, NULL, 10) + 1) / 2;
     for (size_t i = 0; i < sent_count; i++) sent[i] = (uint16_t)(i * 2654435761u >> 7);
     *count = sent_count;
     return 2;
@@ -62,7 +70,7 @@ int main(int count, char **given) {
         given++;
     }
     given = net_open(&link, NET_ASKS, given + 1, server.host);
-    if (given == NULL) return 2;
+    if (given == NULL || !are_calls(given)) return wrong_words("[--patient] NETWORK NUMBER|xBYTES ..; " NET_USAGE);
     link_new_host(&link, &host, &settings);
     check(xns_host_connect(&host, now, link.via, link.socket, &server, &connection));
     go_on(now, *given);

@@ -6,8 +6,6 @@
 
 #define DO(call) do { enum xns_result told = (call); if (told != XNS_OK) { fprintf(stderr, "courier.c, line %d: %s\n", __LINE__, xns_result_text(told)); exit(1); } } while (0)
 
-enum { WORDS = 16 };
-
 /* Gives the packets that one host has made to the other. */
 static void carry(uint64_t now, struct xns_host *from, struct xns_host *to) {
     uint8_t packet[XNS_LONGEST_PACKET];
@@ -18,10 +16,11 @@ static void carry(uint64_t now, struct xns_host *from, struct xns_host *to) {
 
 /* The service: answers each call with the sum of its words. */
 static void serve(uint64_t now, struct xns_host *service) {
+    static uint16_t words[XNS_MOST_MESSAGE_WORDS];
     struct xns_event event;
-    uint16_t words[WORDS], sum = 0;
     size_t count;
-    while (xns_host_next_event(service, &event, words, WORDS, &count) == XNS_OK) {
+    while (xns_host_next_event(service, &event, words, XNS_MOST_MESSAGE_WORDS, &count) == XNS_OK) {
+        uint16_t sum = 0;
         if (event.kind != XNS_EVENT_CALL) continue;
         for (size_t i = 0; i < count; i++) sum = (uint16_t)(sum + words[i]);
         DO(xns_host_answer(service, now, event.number, XNS_KIND_RETURN, 0, &sum, 1));
@@ -30,10 +29,10 @@ static void serve(uint64_t now, struct xns_host *service) {
 
 /* The client: prints the sum that is returned, and closes. Whether the connection is still there. */
 static bool hear(uint64_t now, struct xns_host *client) {
+    static uint16_t words[XNS_MOST_MESSAGE_WORDS];
     struct xns_event event;
-    uint16_t words[WORDS];
     size_t count;
-    while (xns_host_next_event(client, &event, words, WORDS, &count) == XNS_OK) {
+    while (xns_host_next_event(client, &event, words, XNS_MOST_MESSAGE_WORDS, &count) == XNS_OK) {
         if (event.kind == XNS_EVENT_CLOSED) return false;
         if (event.message.kind == XNS_KIND_RETURN && count == 1) printf("%u\n", words[0]);
         DO(xns_host_close(client, now, event.number));

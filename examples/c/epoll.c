@@ -46,13 +46,20 @@ static int wait_for(const int *files, int count) {
     return all;
 }
 
+/* Returns the words of a call: what is refused memory is tried again. */
+static void answer(uint64_t now, const struct xns_event *call, const uint16_t *words, size_t count) {
+    enum xns_result told;
+    do told = xns_host_answer(&host, now, call->number, XNS_KIND_RETURN, 0, words, count);
+    while (told == XNS_NO_MEMORY);
+}
+
 static void turn(struct link *link) {
     static uint16_t words[XNS_MOST_MESSAGE_WORDS];
     const uint64_t now = link_receive_packets(link, &host);
     struct xns_event event;
     size_t length;
     while (xns_host_next_event(&host, &event, words, XNS_MOST_MESSAGE_WORDS, &length) == XNS_OK)
-        if (event.kind == XNS_EVENT_CALL) check(xns_host_answer(&host, now, event.number, XNS_KIND_RETURN, 0, words, length));
+        if (event.kind == XNS_EVENT_CALL) answer(now, &event, words, length);
     link_send_packets(link, &host, now);
 }
 
@@ -62,7 +69,7 @@ int main(int count, char **given) {
     uint8_t secret[32];
     int files[3], all;
     bool is_stopped = false;
-    if (count != 2 || !read_station(given[1], here.host)) return 2;
+    if (count != 2 || !read_station(given[1], here.host)) return wrong_words("STATION");
     ethernet_open(&link, NULL);
     files[0] = link.file;
     files[1] = timerfd_create(CLOCK_MONOTONIC, TFD_NONBLOCK);

@@ -59,6 +59,11 @@ static inline void check(enum xns_result told) {
     exit(1);
 }
 
+/* The `flush` of a link whose `put` sends at once. */
+static inline void link_flush_nothing(struct link *link) {
+    (void)link;
+}
+
 /* Makes a host of the link's station, with a secret at random. */
 static inline void link_new_host(const struct link *link, struct xns_host *host, const struct xns_settings *settings) {
     struct xns_address here = { 1, { 0 }, 0 };

@@ -85,10 +85,6 @@ static inline void nethub_put(struct link *link, uint64_t via, const uint8_t *pa
     }
 }
 
-static inline void nethub_flush(struct link *link) {
-    (void)link;
-}
-
 /* A link by way of the hub at a port, as this station. The hub has to be there at first; where it is gone later, the link comes back by itself. */
 static inline void nethub_open(struct link *link, uint16_t port, const uint8_t station[6]) {
     memset(&nethub_place, 0, sizeof nethub_place);
@@ -102,7 +98,7 @@ static inline void nethub_open(struct link *link, uint16_t port, const uint8_t s
     memcpy(link->station, station, 6);
     link->receive = nethub_receive;
     link->put = nethub_put;
-    link->flush = nethub_flush;
+    link->flush = link_flush_nothing;
     link->socket = random_socket();
 }
 

@@ -3,13 +3,13 @@
 #define _GNU_SOURCE
 #include "net.h"
 
-enum { EACH = 200, LAST = 1000, MARK = 8, LEAST = 2 * MARK, USUAL_COUNT = 4 };
+enum { EACH = 200, LAST = 1000, MARK = 8, LEAST = 2 * MARK, USUAL_COUNT = 4, MOST_COUNT = 1000000000 };
 
 /* What was asked, and what came. */
 struct asked {
     struct xns_address here, there;
     uint8_t body[XNS_LONGEST_ECHO]; /* a mark of this run, for an Echo has no identifier, then when it was sent, then others */
-    size_t size;
+    unsigned long size;
     unsigned sent, came;
 };
 
@@ -31,7 +31,7 @@ static void ask(struct link *link, struct asked *asked) {
 }
 
 /* Whether nothing more is waited for: of all hosts any may still reply. */
-static bool is_done(const struct asked *asked, unsigned wanted, uint64_t next) {
+static bool is_done(const struct asked *asked, unsigned long wanted, uint64_t next) {
     static const uint8_t all[6] = { 255, 255, 255, 255, 255, 255 };
     if (asked->sent < wanted) return false;
     return milliseconds() >= next || (asked->came >= asked->sent && memcmp(asked->there.host, all, 6) != 0);
@@ -58,17 +58,21 @@ static void take(void *given, uint64_t via, const uint8_t *bytes, size_t length)
     asked->came++;
 }
 
+/* Reads how many requests are sent, of how many bytes: the words behind the network. Whether there are no others. */
+static bool read_words(char **given, unsigned long *count, unsigned long *size) {
+    if (*given != NULL && !read_number(*given++, MOST_COUNT, count)) return false;
+    if (*given != NULL && !read_number(*given++, XNS_LONGEST_ECHO, size)) return false;
+    return *given == NULL && *size >= LEAST;
+}
+
 int main(int count, char **given) {
     struct asked asked = { { 1, { 0 }, 0 }, { 1, { 0 }, XNS_SOCKET_ECHO }, { 0 }, LEAST, 0, 0 };
     struct link link = { 0 };
-    unsigned wanted = USUAL_COUNT;
+    unsigned long wanted = USUAL_COUNT;
     uint64_t next = milliseconds();
     (void)count;
     given = net_open(&link, NET_ASKS, given + 1, asked.there.host);
-    if (given == NULL) return 2;
-    if (*given != NULL) wanted = (unsigned)atoi(*given++);
-    if (*given != NULL) asked.size = (size_t)atoi(*given++);
-    if (*given != NULL || asked.size < LEAST || asked.size > XNS_LONGEST_ECHO) return 2;
+    if (given == NULL || !read_words(given, &wanted, &asked.size)) return wrong_words("NETWORK [COUNT [BYTES]]; " NET_USAGE);
     memcpy(asked.here.host, link.station, 6);
     asked.here.socket = link.socket;
     random_bytes(asked.body, MARK);

@@ -43,7 +43,7 @@ int main(int count, char **given) {
     (void)count;
     signal(SIGTERM, stop);
     given = net_open(&link, NET_SERVES, given + 1, server);
-    if (given == NULL || *given != NULL) return 2;
+    if (given == NULL || *given != NULL) return wrong_words("PORT, -i INTERFACE or -n PORT STATION");
     link_new_host(&link, &host, &SETTINGS);
     check(xns_host_serve(&host, XNS_SOCKET_COURIER, PROGRAMS, 1));
     while (!is_stopped) {

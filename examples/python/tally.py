@@ -37,6 +37,8 @@ def add(udp, place, numbers):
 
 
 if __name__ == "__main__":
+    if sys.argv[1:2] not in (["serve"], ["add"]) or len(sys.argv) < 3:
+        sys.exit("usage: tally.py serve PORT, or tally.py add PORT NUMBER ..")
     with socket.socket(socket.AF_INET, socket.SOCK_DGRAM) as udp:
         if sys.argv[1] == "serve":
             udp.bind(("127.0.0.1", int(sys.argv[2])))

@@ -2,29 +2,29 @@
 import asyncio
 import contextlib
 import inspect
-from typing import Any, Awaitable, Callable, Iterable, Optional, Union
+from typing import Any, Awaitable, Callable, Dict, Iterable, Optional, Set, Union
 
 from ._client import Conversation, until_of
 from ._errors import SilentError
-from ._library import unsigned, words_of
+from ._library import address_of, unsigned, words_of
 from ._links import Carrier, checked, not_blocking
 from ._objects import Host
 from ._programs import together
-from ._serving import CLOSING, UNSPECIFIED, Programs, failed, give, guarded
+from ._serving import CLOSING, UNSPECIFIED, Programs, close_all, failed, give, guarded, note_closed
 from ._station import Other, Station, file_of
 from ._told import Address, Answer, Call, Closed, Event, Reply, rejects
 
-_AGAIN = 1.0  # seconds after which a carrier without a file is looked at again
-_MOST_WAIT = 3600.0  # seconds after which a host is asked that does not want to be
+_AGAIN = 1.0  # seconds after which a carrier is looked at again: it may have no file, and of a socket that was closed the loop says nothing
 
 AsyncService = Callable[[Call], Union[Reply, Awaitable[Reply]]]
 
 
 class _Pump:
-    """Carries the packets of a station by the running loop. `turned` is called when packets may have come, or time has passed."""
+    """Carries the packets of a station by the running loop. `turned` is called when packets may have come, or time has passed. `failed` is given an error that
+    ends the pump, as that of a socket that was closed."""
 
-    def __init__(self, station: Station, turned: Callable[[], None]) -> None:
-        self._station, self._turned, self._loop = station, turned, asyncio.get_running_loop()
+    def __init__(self, station: Station, turned: Callable[[], None], failed: Callable[[Exception], None]) -> None:
+        self._station, self._turned, self._failed, self._loop = station, turned, failed, asyncio.get_running_loop()
         self._file: Optional[int] = None
         self._timer: Optional[asyncio.TimerHandle] = None
         self._is_stopped = False
@@ -39,8 +39,7 @@ class _Pump:
         if self._timer is not None:
             self._timer.cancel()
         rest = self._station.rest()
-        seconds = _MOST_WAIT if rest is None else min(rest / 1000, _MOST_WAIT)
-        self._timer = self._loop.call_later(seconds if self._file is not None else min(seconds, _AGAIN), self._come)
+        self._timer = self._loop.call_later(_AGAIN if rest is None else min(rest / 1000, _AGAIN), self._come)
 
     def stop(self) -> None:
         self._is_stopped = True
@@ -48,9 +47,17 @@ class _Pump:
         if self._timer is not None:
             self._timer.cancel()
 
+    def turn_alone(self) -> None:
+        """`turn` where nobody waits for it to return."""
+        try:
+            self.turn()
+        except Exception as error:
+            self.stop()
+            self._failed(error)
+
     def _come(self) -> None:
         self._station.take_in()
-        self.turn()
+        self.turn_alone()
 
     def _watch(self, file: Optional[int]) -> None:
         if file == self._file:
@@ -69,20 +76,23 @@ class AsyncClient:
     def __init__(
         self, carrier: Carrier, place: Any, own: Address, peer: Address, timeout: Optional[float] = None, **settings: Optional[int]
     ) -> None:
-        """As of `Client`. Nothing is done before the `async with`."""
+        """As of `Client`, without `reopens`. Nothing is done before the `async with`."""
         until_of(timeout)
         self._carrier, self._place, self._own, self._peer, self._timeout, self._settings = checked(carrier), place, own, peer, timeout, settings
-        self._events: "asyncio.Queue[Event]"
+        self._events: "asyncio.Queue[Union[Event, Exception]]"
         self._calls: asyncio.Lock
+        self._last: Union[Closed, Exception, None]  # behind which no event comes
 
     async def __aenter__(self) -> "AsyncClient":
-        self._events, self._calls, self._left = asyncio.Queue(), asyncio.Lock(), contextlib.ExitStack()
-        host = self._left.enter_context(Host(self._own, **{**self._settings, "tells_opened": True}))
-        self._left.enter_context(not_blocking(self._carrier))
-        self._conversation = Conversation(Station(self._carrier, host), self._place, self._own, self._peer)
-        self._pump = _Pump(self._conversation.station, self._fetch)
-        self._left.callback(self._pump.stop)
-        self._pump.turn()
+        self._events, self._calls, self._last = asyncio.Queue(), asyncio.Lock(), None
+        with contextlib.ExitStack() as left:
+            host = left.enter_context(Host(self._own, **{**self._settings, "tells_opened": True}))
+            left.enter_context(not_blocking(self._carrier))
+            self._conversation = Conversation(Station(self._carrier, host), self._place, self._own, self._peer)
+            self._pump = _Pump(self._conversation.station, self._fetch, self._end)
+            left.callback(self._pump.stop)
+            self._pump.turn()
+            self._left = left.pop_all()
         return self
 
     async def __aexit__(self, error: Optional[type], *_) -> None:
@@ -90,12 +100,12 @@ class AsyncClient:
             if error is None:
                 await self.close()
             else:
-                self._conversation.leave()
+                self._leave()
         finally:
             self._left.close()
 
     async def call(self, program: int, version: int, procedure: int, words: Iterable[int] = (), timeout: Optional[float] = None) -> Answer:
-        """What a call is answered, as of `Client.call`. The answer to a call whose task was cancelled is let go."""
+        """What a call is answered, and the errors, as of `Client.call`. The answer to a call whose task was cancelled is let go."""
         numbers, (given, _) = (unsigned(program, 32, "program"), unsigned(version, 16, "version"), unsigned(procedure, 16, "procedure")), words_of(words)
         listed = memoryview(given).cast("H").tolist()
 
@@ -103,15 +113,15 @@ class AsyncClient:
             async with self._calls:
                 while not self._conversation.put_out(*numbers, listed):
                     await self._next()
-                while not self._events.empty():  # an answer that nobody waits for
-                    self._events.get_nowait()
+                self._forget()
                 self._pump.turn()
                 return self._conversation.answer(await self._next())
 
-        return await self._in_time(answer(), timeout, "the call was not answered")
+        return await self._in_time(answer, timeout, "the call was not answered")
 
     async def close(self, timeout: Optional[float] = None) -> None:
-        """Closes the connection, and waits until the server has closed it too."""
+        """Closes the connection, and waits until the server has closed it too. A call that waits meanwhile is still answered, if the answer comes before.
+        Errors as of `Client.close`."""
         self._conversation.close()
 
         async def closed() -> None:
@@ -119,7 +129,7 @@ class AsyncClient:
             while not isinstance(await self._next(), Closed):
                 pass
 
-        await self._in_time(closed(), timeout, "the server did not close the connection")
+        await self._in_time(closed, timeout, "the server did not close the connection")
         self._conversation.check()
 
     def _fetch(self) -> None:
@@ -127,24 +137,122 @@ class AsyncClient:
             event = self._conversation.fetch()
             if event is None:
                 return
-            self._events.put_nowait(event)
+            if isinstance(event, Closed):
+                self._end(event)
+            else:
+                self._events.put_nowait(event)
+
+    def _end(self, last: Union[Closed, Exception]) -> None:
+        """No event comes behind this one, which all are told that wait or will."""
+        self._last = last
+        self._events.put_nowait(last)
+
+    def _leave(self) -> None:
+        """Closes, and hears no more of it."""
+        self._conversation.leave()
+        if self._last is None and self._conversation.closed is not None:
+            self._end(self._conversation.closed)
+
+    def _forget(self) -> None:
+        """Lets go an answer that nobody waits for."""
+        while not self._events.empty():
+            self._events.get_nowait()
+        if self._last is not None:
+            self._events.put_nowait(self._last)
 
     async def _next(self) -> Event:
-        """The next event. That the connection is closed stays."""
-        if self._events.empty() and self._conversation.closed is not None:
-            return self._conversation.closed
-        return await self._events.get()
+        """The next event. The last one stays. Raises the error that has ended the pump."""
+        event = await self._events.get()
+        if event is self._last:
+            self._events.put_nowait(event)
+        if isinstance(event, Exception):
+            raise event
+        return event
 
-    async def _in_time(self, done: Awaitable, timeout: Optional[float], text: str) -> Any:
+    async def _in_time(self, done: Callable[[], Awaitable], timeout: Optional[float], text: str) -> Any:
         seconds = self._timeout if timeout is None else timeout
         until_of(seconds)
         try:
-            return await asyncio.wait_for(done, seconds)
+            return await asyncio.wait_for(done(), seconds)
         except asyncio.TimeoutError as error:
             if isinstance(error, SilentError):
                 raise
-            self._conversation.leave()
+            self._leave()
             raise SilentError(f"{text} in {seconds:g} seconds") from None
+
+
+class _AsyncServer:
+    """One run of `serve_async`."""
+
+    def __init__(self, station: Station, answered: Callable[[Call], Any], stopped: asyncio.Event) -> None:
+        self._station, self._host, self._answered = station, station.host, answered
+        self._tasks: Set[asyncio.Future] = set()
+        self._called: Dict[int, Call] = {}  # by the connection the call that is carried out, until the connection is closed
+        self._there: Optional[Set[int]] = None  # the connections that are to be closed
+        self._gone, self._stopped = asyncio.Event(), asyncio.ensure_future(stopped.wait())
+        self._error: Optional[Exception] = None
+        self._pump = _Pump(station, self._turned, self._failed)
+
+    async def run(self) -> None:
+        """Serves until the event is set, the task is cancelled, or an error ends the pump. Then the connections are closed."""
+        try:
+            self._pump.turn()
+            await asyncio.wait([self._stopped])
+            if self._error is None:
+                self._stopped.result()
+        finally:
+            try:
+                if self._error is None:
+                    await self._close()
+            finally:
+                self._pump.stop()
+                await self._end()
+        if self._error is not None:
+            raise self._error
+
+    async def _close(self) -> None:
+        self._there = close_all(self._host, self._station.now)
+        self._pump.turn()
+        with contextlib.suppress(asyncio.TimeoutError, asyncio.CancelledError):
+            await asyncio.wait_for(self._gone.wait(), CLOSING / 1000)
+
+    async def _end(self) -> None:
+        ending = [self._stopped, *self._tasks]
+        for task in ending:
+            task.cancel()
+        await asyncio.gather(*ending, return_exceptions=True)
+
+    def _failed(self, error: Exception) -> None:
+        self._error = error
+        self._stopped.cancel()
+
+    def _turned(self) -> None:
+        for event in self._host.events():
+            if isinstance(event, Closed):
+                note_closed(self._host, event)
+                self._called.pop(event.number, None)
+                (self._there or set()).discard(event.number)
+            elif isinstance(event, Call) and self._there is None:
+                self._called[event.number] = event
+                task = asyncio.ensure_future(self._carry_out(event))
+                self._tasks.add(task)
+                task.add_done_callback(self._tasks.discard)
+            elif isinstance(event, Call):
+                give(self._host, self._station.now, event, rejects(UNSPECIFIED))
+        if self._there is not None and not self._there:
+            self._gone.set()
+
+    async def _carry_out(self, call: Call) -> None:
+        try:
+            reply = self._answered(call)
+            if inspect.isawaitable(reply):
+                reply = await reply
+        except Exception as error:
+            reply = failed(call, error)
+        if self._called.get(call.number) is call:  # else the number may be another connection's by now
+            del self._called[call.number]
+            give(self._host, self._station.time(), call, reply)
+            self._pump.turn_alone()
 
 
 async def serve_async(
@@ -156,52 +264,12 @@ async def serve_async(
     stop: Optional[asyncio.Event] = None,
     **settings: Optional[int],
 ) -> None:
-    """Serves clients in a loop of asyncio, as `serve` does. `answer` may be a coroutine function: while it waits, other calls are carried out. It ends once the
-    event is set, or its task is cancelled, and closes the connections."""
+    """Serves clients in a loop of asyncio, as `serve` does. `answer` may be a coroutine function: while it waits, other calls are carried out. The reply
+    to a call whose connection is closed meanwhile is let go. It ends once the event is set, or its task is cancelled, and closes the connections. An `OSError`
+    says within a second that the socket was closed."""
+    if stop is not None and not inspect.iscoroutinefunction(getattr(stop, "wait", None)):
+        raise TypeError(f"stop is no event of asyncio: it is of type {type(stop).__name__}")
     served, answered = together(programs, answer)
-    tasks, stopped = set(), asyncio.Event() if stop is None else stop
     with Host(own, **settings) as host, not_blocking(checked(carrier)):
-        host.serve(own.socket, served)
-        station, gone = Station(carrier, host, guarded(other)), asyncio.Event()
-        there, closed = None, set()  # the connections that are to be closed, and those that are
-
-        async def carry_out(call: Call) -> None:
-            try:
-                reply = answered(call)
-                if inspect.isawaitable(reply):
-                    reply = await reply
-            except Exception as error:
-                reply = failed(call, error)
-            give(host, station.time(), call, reply)
-            pump.turn()
-
-        def turned() -> None:
-            for event in host.events():
-                if isinstance(event, Closed):
-                    closed.add(event.number)
-                    (there or set()).discard(event.number)
-                elif isinstance(event, Call) and there is None:
-                    closed.discard(event.number)
-                    task = asyncio.ensure_future(carry_out(event))
-                    tasks.add(task)
-                    task.add_done_callback(tasks.discard)
-                elif isinstance(event, Call):
-                    give(host, station.now, event, rejects(UNSPECIFIED))
-            if there is not None and not there:
-                gone.set()
-
-        pump = _Pump(station, turned)
-        try:
-            pump.turn()
-            await stopped.wait()
-        finally:
-            there = set(host.numbers()) - closed
-            for number in there:
-                host.close(station.now, number)
-            pump.turn()
-            with contextlib.suppress(asyncio.TimeoutError, asyncio.CancelledError):
-                await asyncio.wait_for(gone.wait(), CLOSING / 1000)
-            pump.stop()
-            for task in tasks:
-                task.cancel()
-            await asyncio.gather(*tasks, return_exceptions=True)
+        host.serve(address_of(own, "own").socket, served)
+        await _AsyncServer(Station(carrier, host, guarded(other)), answered, asyncio.Event() if stop is None else stop).run()

@@ -18,9 +18,16 @@ def until_of(seconds: Optional[float], name: str = "timeout") -> Optional[int]:
     """The time so many seconds from now. None: it never comes."""
     if seconds is None:
         return None
+    return milliseconds() + _milliseconds_of(seconds, name)
+
+
+def _milliseconds_of(seconds: float, name: str) -> int:
     if isinstance(seconds, bool) or not isinstance(seconds, (int, float)):
         raise TypeError(f"{name} is no number of seconds: it is of type {type(seconds).__name__}")
-    return milliseconds() + round(1000 * seconds)
+    try:
+        return round(1000 * float(seconds))
+    except (OverflowError, ValueError):
+        raise ValueError(f"{name} is no number of seconds, or too many") from None
 
 
 class Conversation:
@@ -170,7 +177,7 @@ class Client:
 
     def wait(self, seconds: float) -> None:
         """Says for so many seconds that it is there, where the server asks: a client that waits so is not given up."""
-        until = until_of(seconds, "seconds")
+        until = milliseconds() + _milliseconds_of(seconds, "seconds")
         with not_blocking(self._station.carrier):
             while milliseconds() < until:
                 self._conversation.fetch()

@@ -98,7 +98,9 @@ def _error_of(result: Result, text: str) -> type:
 
 
 BY_RESULT = {result: _error_of(result, text) for result, text in TEXTS.items()}
-ClosingError, NoConnectionError, BusyError = (BY_RESULT[result] for result in (Result.CLOSING, Result.NO_CONNECTION, Result.BUSY))
+ClosingError, NoConnectionError, BusyError, NoMemoryError = (
+    BY_RESULT[result] for result in (Result.CLOSING, Result.NO_CONNECTION, Result.BUSY, Result.NO_MEMORY)
+)
 
 
 _OK, _NOTHING = int(Result.OK), int(Result.NOTHING)

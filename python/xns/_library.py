@@ -5,7 +5,7 @@ import ctypes.util
 import operator
 import os
 from ctypes import byref, c_bool, c_char, c_int16, c_int32, c_size_t, c_uint8, c_uint16, c_uint32, c_uint64, c_void_p
-from typing import Iterable, List, Optional, Tuple
+from typing import Any, Iterable, List, Optional, Tuple
 
 from ._errors import LibraryError, done
 from ._told import MOST_WINDOW, Address, Answer, Call, Closed, Event, Kind, Message, Opened, Result, Why
@@ -41,6 +41,18 @@ class RawAddress(ctypes.Structure):
 
     def told(self) -> Address:
         return Address(self.network, bytes(self.host), self.socket)
+
+
+def address_of(address: Address, name: str) -> Address:
+    """The address, whose parts are those of one."""
+    return RawAddress.of(address, name).told()
+
+
+def tuple_of(kind: type, value: Any, name: str) -> Any:
+    """The value, which is a tuple of this class."""
+    if not isinstance(value, kind):
+        raise TypeError(f"{name} is no {kind.__name__}: it is {_kind(value)}")
+    return value
 
 
 class RawPacket(ctypes.Structure):

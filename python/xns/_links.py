@@ -12,6 +12,7 @@ _HEAD = 14  # bytes of a frame before the packet
 _LEAST = 46  # bytes of data that a frame has at least
 _TO_OTHERS, _SENT = 3, 4  # kinds of frames, as the kernel tells them
 _LENGTH = 2  # bytes of length before each frame in a hub's stream
+_MOST_PASSED = 64  # frames that are passed over at a time: where they never cease, whoever asks looks at the time in between
 
 
 @runtime_checkable
@@ -58,6 +59,7 @@ class _Link:
     station: bytes
 
     def close(self) -> None:
+        """Ends the link, for good."""
         raise NotImplementedError
 
     def __enter__(self):
@@ -85,11 +87,12 @@ class Ethernet(_Link):
 
     def recvfrom(self, size: int) -> Tuple[bytes, bytes]:
         """The next packet to this station or to all, and the station that it comes from. Frames to others, which come where the interface is promiscuous,
-        and those that this machine sends are passed over."""
-        while True:
+        and those that this machine sends are passed over. `BlockingIOError` behind so many of them, as where nothing is there."""
+        for _ in range(_MOST_PASSED):
             packet, (_, _, kind, _, station) = self._socket.recvfrom(size)
             if kind not in (_TO_OTHERS, _SENT) and packet:
                 return packet, station
+        raise BlockingIOError
 
     def sendto(self, packet: bytes, station: bytes) -> int:
         """Sends a packet, padded to the shortest frame."""
@@ -142,12 +145,13 @@ class NetHub(_Link):
         """Changes nothing: a hub never blocks."""
 
     def recvfrom(self, _: int) -> Tuple[bytes, bytes]:
-        """The next packet to this station or to all, and the station that it comes from."""
-        while True:
+        """The next packet to this station or to all, and the station that it comes from. Other frames are passed over, as those of `Ethernet`."""
+        for _ in range(_MOST_PASSED):
             frame = self._frame()
             target, source, kind = frame[:6], frame[6:12], int.from_bytes(frame[12:_HEAD], "big")
             if target in (self.station, BROADCAST) and source != self.station and kind == FRAME_TYPE and len(frame) > _HEAD:
                 return frame[_HEAD:], source
+        raise BlockingIOError
 
     def _frame(self) -> bytes:
         """The next whole frame. No more of the stream is read: what the link kept would be seen by no poll."""

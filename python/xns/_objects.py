@@ -64,7 +64,8 @@ class Endpoint(Object):
 
     @classmethod
     def initiator(cls, own: Address, own_id: int, peer: Address, window: int = 8, backlog: int = 16) -> "Endpoint":
-        """The end that begins a connection. Its identifier, not 0, is new for each connection. The first packet of `tick` opens it."""
+        """The end that begins a connection. Its identifier, not 0, is new for each connection. At most `window` items wait to be taken, and at most `backlog`
+        are unacknowledged, each from 1 to 64; else `BadArgumentError`. The first packet of `tick` opens the connection."""
         end = cls()
         sizes = unsigned(window, 64, "window"), unsigned(backlog, 64, "backlog")
         ends = byref(RawAddress.of(own, "own")), unsigned(own_id, 16, "own_id"), byref(RawAddress.of(peer, "peer"))
@@ -73,7 +74,7 @@ class Endpoint(Object):
 
     @classmethod
     def responder(cls, own: Address, own_id: int, peer: Address, peer_id: int, window: int = 8, backlog: int = 16) -> "Endpoint":
-        """The end that replies to the opening packet of `peer`, which is then given to `receive` too."""
+        """The end that replies to the opening packet of `peer`, which is then given to `receive` too. All else is as of `initiator`."""
         end = cls()
         sizes = unsigned(window, 64, "window"), unsigned(backlog, 64, "backlog")
         ids = unsigned(own_id, 16, "own_id"), byref(RawAddress.of(peer, "peer")), unsigned(peer_id, 16, "peer_id")
@@ -215,7 +216,8 @@ class Host(Object):
         self._done("call", unsigned(now, 64, "now"), unsigned(number, 64, "number"), *numbers, *words_of(words))
 
     def answer(self, now: int, number: int, reply: Reply) -> None:
-        """Answers the call that was fetched. `NoCallError` where none waits for an answer; `NoConnectionError`, `ClosingError`, `TooLongError`."""
+        """Answers the call that was fetched. `NoCallError` where none waits for an answer; `BadArgumentError` where `reply` is no return, abort or reject;
+        `NoConnectionError`, `ClosingError`, `TooLongError`."""
         if not isinstance(reply, tuple) or len(reply) != 3:
             raise TypeError(f"reply is no Reply: it is of type {type(reply).__name__}")
         kind, words, code = reply
@@ -254,7 +256,7 @@ class Host(Object):
             yield self._event.told(self._words[: self._count.value])
 
     def packets(self, now: int) -> Iterator[Tuple[int, bytes]]:
-        """The packets that are to go out, each once, with its `via`. What is due at this time is done too."""
+        """The packets that are to go out, each once, with its `via`. What is due at this time is done too. `NoMemoryError`: what is to go out stays so."""
         next_packet, given = self._functions["next_packet"], (self._at, unsigned(now, 64, "now"), *self._for_packets)
         while done(next_packet(*given)):
             yield self._via.value, ctypes.string_at(self._packet, self._length.value)

@@ -4,11 +4,12 @@ from ctypes import byref, c_uint16, c_uint32
 from typing import Optional, Tuple
 
 from ._errors import done
-from ._library import RawAddress, RawHeader, RawMessage, RawPacket, ask, flag, message_of, octets, part, unsigned, words_of, written
+from ._library import RawAddress, RawHeader, RawMessage, RawPacket, ask, flag, message_of, octets, part, tuple_of, unsigned, words_of, written
 from ._told import LONGEST_PACKET, MOST_MESSAGE_WORDS, Address, Header, Message, Packet
 
 _EXCHANGE_HEAD = 6  # bytes of the head of a Packet Exchange packet's data
 _HEADER = 12  # bytes of the header of a sequenced packet
+_HEADER_BITS = [8, 8, 16, 16, 16, 16, 16]  # of each of its fields
 _MOST_MESSAGE = 131072  # bytes of a message, at most
 
 
@@ -39,6 +40,7 @@ def decode(data: bytes) -> Packet:
 
 def encode(packet: Packet) -> bytes:
     """The bytes of a packet; its `taken` is not looked at. `TooLongError` for over 546 bytes of data."""
+    packet = tuple_of(Packet, packet, "packet")
     told = RawPacket(
         summed=flag(packet.summed), control=unsigned(packet.control, 8, "control"), kind=unsigned(packet.kind, 8, "kind"),
         target=RawAddress.of(packet.target, "target"), source=RawAddress.of(packet.source, "source"),
@@ -114,8 +116,9 @@ def header_read(body: bytes) -> Tuple[Header, bytes]:
 
 def header_write(header: Header) -> bytes:
     """The 12 bytes of a header."""
-    bits = [8, 8, 16, 16, 16, 16, 16]
-    return written("header_write", _HEADER, byref(RawHeader(*map(unsigned, header, bits, Header._fields))))
+    if not isinstance(header, tuple) or len(header) != len(_HEADER_BITS):
+        raise TypeError(f"header is no Header: it is of type {type(header).__name__}")
+    return written("header_write", _HEADER, byref(RawHeader(*map(unsigned, header, _HEADER_BITS, Header._fields))))
 
 
 def message_read(data: bytes) -> Message:
@@ -125,6 +128,7 @@ def message_read(data: bytes) -> Message:
 
 def message_write(message: Message) -> bytes:
     """The bytes of a message. `TooLongError` where they would be over 131,072."""
+    message = tuple_of(Message, message, "message")
     told = RawMessage(
         kind=unsigned(message.kind, 8, "kind"), transaction=unsigned(message.transaction, 16, "transaction"),
         program=unsigned(message.program, 32, "program"), version=unsigned(message.version, 16, "version"),

@@ -13,6 +13,7 @@ MARK = 8  # bytes at the front of what is sent back: they tell the replies of on
 LEAST = MARK + 4  # with the number of the request
 MOST = 544
 _SIZE = 2048
+_MOST_AT_ONCE = 64  # packets that are taken in before the time is looked at
 
 
 class Ping:
@@ -64,7 +65,7 @@ class Ping:
                 return
             file = self._network.link.fileno()
             select.select([] if file < 0 else [file], [], [], min(rest, 1.0 if file < 0 else rest))
-            while True:
+            for _ in range(_MOST_AT_ONCE):
                 try:
                     packet, _ = self._network.link.recvfrom(_SIZE)
                 except OSError:

@@ -23,10 +23,12 @@ class AbortedError(XnsError):
 
     @property
     def code(self) -> int:
+        """The number of the error."""
         return self._code
 
     @property
     def words(self) -> List[int]:
+        """The words of its arguments."""
         return self._words
 
 
@@ -37,7 +39,7 @@ class DeclaredError(AbortedError):
     _record: Record
     _number: int
 
-    def __init__(self, *arguments: Any, **named: Any) -> None:
+    def __init__(self, /, *arguments: Any, **named: Any) -> None:
         self._values = _bound(self._record, arguments, named, type(self).__name__)
         writer = Writer()
         self._record.write(writer, self._values, "")
@@ -46,6 +48,7 @@ class DeclaredError(AbortedError):
 
     @property
     def fields(self) -> Any:
+        """The error's arguments, as a named tuple."""
         return self._values
 
 
@@ -98,8 +101,9 @@ class Procedure:
         kind = inspect.Parameter.POSITIONAL_OR_KEYWORD
         given = [inspect.Parameter(as_python(name), kind, annotation=one.python) for name, one in self.arguments.components]
         results = [one.python for _, one in self.results.components]
+        own = "self_" if any(one.name == "self" for one in given) else "self"
         back = None if not results else results[0] if len(results) == 1 else self.results.python
-        return inspect.Signature([inspect.Parameter("self", kind), *given], return_annotation=back)
+        return inspect.Signature([inspect.Parameter(own, kind), *given], return_annotation=back)
 
     def words(self, arguments: tuple, named: dict) -> List[int]:
         """The words of arguments."""
@@ -199,7 +203,7 @@ class _TypedClient:
 
 
 def _method(program: Program, procedure: Procedure) -> Callable:
-    def call(self, *arguments: Any, **named: Any) -> Any:
+    def call(self, /, *arguments: Any, **named: Any) -> Any:
         answer = self._client.call(program.number, program.version, procedure.number, procedure.words(arguments, named))
         return _later(program, procedure, answer) if inspect.isawaitable(answer) else program.outcome(procedure, answer)
 
@@ -248,7 +252,10 @@ class TypedServer:
 
 def together(programs: Iterable[Any], answer: Optional[Callable[[Call], Any]]) -> Tuple[List[Tuple[int, int, int]], Callable[[Call], Any]]:
     """What a server serves, and what answers it: a typed server answers the calls of its program, and `answer` those of all others."""
-    given = list(programs)
+    try:
+        given = list(programs)
+    except TypeError:
+        raise TypeError(f"programs is no list: it is of type {type(programs).__name__}") from None
     typed = [one for one in given if isinstance(one, TypedServer)]
     others = [one for one in given if not isinstance(one, TypedServer)]
     if (others or not typed) and not callable(answer):

@@ -3,9 +3,10 @@ import contextlib
 import logging
 import socket
 import threading
-from typing import Any, Callable, Iterable, Optional, Tuple, Union
+from typing import Any, Callable, Iterable, Optional, Set, Tuple, Union
 
 from ._errors import ArgumentsError, ClosingError, NoCallError, NoConnectionError, XnsError
+from ._library import address_of
 from ._links import Carrier, checked, not_blocking
 from ._objects import Host
 from ._programs import TypedServer, together
@@ -16,6 +17,7 @@ LOG = logging.getLogger("xns")
 UNSPECIFIED = 65535  # the reason of a reject that says no more than that the call failed
 CLOSING = 2000  # milliseconds that the connections of a server have to close in
 _LOOKED_AT = 250  # milliseconds after which an event that stops a server is looked at again
+_CLOSED = 1  # the tag of a connection that was told as closed; another one by its number has the tag 0 at first
 
 Service = Callable[[Call], Reply]
 Programs = Iterable[Union[Tuple[int, int, int], TypedServer]]
@@ -43,6 +45,20 @@ def give(host: Host, now: int, call: Call, reply: Reply) -> None:
         host.close(now, call.number)
 
 
+def note_closed(host: Host, closed: Closed) -> None:
+    """Notes that a connection is closed, while it still replies to what comes again."""
+    with contextlib.suppress(NoConnectionError):
+        host.set_tag(closed.number, _CLOSED)
+
+
+def close_all(host: Host, now: int) -> Set[int]:
+    """Begins to close the connections that are not closed; their numbers."""
+    there = {number for number in host.numbers() if host.tag(number) != _CLOSED}
+    for number in there:
+        host.close(now, number)
+    return there
+
+
 def guarded(other: Other) -> Other:
     """What is given each packet that is not the host's: what it raises ends nothing."""
 
@@ -64,8 +80,8 @@ class Server:
         self._programs, self._service = together(programs, answer)
         if other is not None and not callable(other):
             raise TypeError(f"other is no function: it is of type {type(other).__name__}")
-        self._carrier, self._own, self._settings, self._other = checked(carrier), own, settings, other
-        self._is_stopped, self._gone = False, set()
+        self._carrier, self._own, self._settings, self._other = checked(carrier), address_of(own, "own"), settings, other
+        self._is_stopped = False
         self._bell, self._ringer = socket.socketpair()  # wakes what waits
         for one in (self._bell, self._ringer):
             one.setblocking(False)
@@ -99,10 +115,9 @@ class Server:
         station.take_in()
         for event in station.host.events():
             if isinstance(event, Call):
-                self._gone.discard(event.number)
                 give(station.host, station.now, event, self._reply(event))
             elif isinstance(event, Closed):
-                self._gone.add(event.number)
+                note_closed(station.host, event)
         station.send()
 
     def _reply(self, call: Call) -> Reply:
@@ -113,9 +128,7 @@ class Server:
 
     def _close(self, station: Station) -> None:
         host, until = station.host, milliseconds() + CLOSING
-        there = set(host.numbers()) - self._gone
-        for number in there:
-            host.close(station.now, number)
+        there = close_all(host, station.now)
         station.send()
         while there and milliseconds() < until:
             station.wait(until)

@@ -6,7 +6,8 @@ import socket
 import time
 from typing import Any, Callable, Dict, Hashable, Optional, Tuple
 
-from ._errors import NoConnectionError
+from ._errors import NoConnectionError, NoMemoryError
+from ._library import address_of
 from ._links import Carrier
 from ._objects import Host
 from ._told import Address
@@ -86,13 +87,15 @@ class Station:
 
     def connect(self, place: Any, own: Address, peer: Address) -> int:
         """Opens a connection to the peer, whose packets go to this place; its number."""
-        return self.host.connect(self.time(), self._places.number(place, _spelled(peer)), own.socket, peer)
+        there = address_of(peer, "peer")
+        return self.host.connect(self.time(), self._places.number(place, _spelled(there)), address_of(own, "own").socket, there)
 
     def send(self) -> None:
-        """Sends what is to go out. What can't be sent is as what is lost."""
-        for via, packet in self.host.packets(self.now):
-            with contextlib.suppress(OSError):
-                self.carrier.sendto(packet, self._places[via])
+        """Sends what is to go out. What can't be sent is as what is lost. What is refused memory stays, and the host wants to be asked again."""
+        with contextlib.suppress(NoMemoryError):
+            for via, packet in self.host.packets(self.now):
+                with contextlib.suppress(OSError):
+                    self.carrier.sendto(packet, self._places[via])
 
     def take_in(self) -> None:
         """Takes in the packets that are there, but not more at once than a few."""

@@ -170,8 +170,6 @@ class Why(enum.IntEnum):
     REFUSED = 5
 
 
-
-
 class Reject(enum.IntEnum):
     """Why a call is rejected. A service may give other reasons."""
 
@@ -190,7 +188,7 @@ class Address(NamedTuple):
 
 
 class Packet(NamedTuple):
-    """An internet packet. `taken` is how many of the bytes it had that was decoded."""
+    """An internet packet. `taken`: how many of the bytes that were decoded are the packet, with its garbage byte."""
 
     target: Address
     source: Address
@@ -223,7 +221,8 @@ class Item(NamedTuple):
 
 
 class Received(NamedTuple):
-    """What became of a packet: how many items were taken, and how many fewer are unacknowledged; what is to be sent in reply, or no bytes."""
+    """What became of a packet: how many items were taken, and how many fewer are unacknowledged; why its item was neither taken nor kept, if so; what is to be
+    sent in reply, or no bytes."""
 
     took: int
     acknowledged: int

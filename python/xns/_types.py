@@ -15,6 +15,8 @@ _MOST_TEXT = 65535  # bytes of a string
 
 
 class NodeKind(enum.IntEnum):
+    """What a node of a program's table stands for."""
+
     BOOLEAN = 1
     CARDINAL = 2
     LONG_CARDINAL = 3
@@ -334,7 +336,7 @@ class Types:
 
     def record(self, node: Node, name: str) -> Record:
         """The type of arguments or results, which has a class of its own."""
-        return Record([(part.name, self.of(part, _capital(part.name))) for part in node.parts], name, self._module)
+        return Record([(part.name, self.of(part, _capital(part.name))) for part in node.parts], as_python(name), self._module)
 
     def _made(self, node: Node, name: str) -> Type:
         if node.kind == NodeKind.ENUMERATION:

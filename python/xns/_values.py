@@ -23,19 +23,23 @@ class Reader:
         return self._value("read_cardinal", c_uint16)
 
     def long_cardinal(self) -> int:
+        """A long cardinal, of two words."""
         return self._value("read_long_cardinal", c_uint32)
 
     def integer(self) -> int:
+        """An integer, of one word."""
         return self._value("read_integer", c_int16)
 
     def long_integer(self) -> int:
+        """A long integer, of two words."""
         return self._value("read_long_integer", c_int32)
 
     def boolean(self) -> bool:
+        """A boolean, whose word is 0 or 1."""
         return self._value("read_boolean", c_uint8) == 1
 
     def count(self, most: int = 65535) -> int:
-        """How many elements a sequence has, which are to be read then."""
+        """How many elements a sequence has, which are to be read then: at most so many."""
         return self._value("read_count", c_uint16, unsigned(most, 16, "most"))
 
     def text(self) -> bytes:
@@ -43,12 +47,12 @@ class Reader:
         return written("read_text", len(self._words), self._words, self._count, byref(self._cursor))
 
     def end(self) -> None:
-        """No word may be left."""
+        """Says that all is read: a word that is left raises an `ArgumentsError`."""
         done(ask("read_end", self._words, self._count, byref(self._cursor)))
 
 
 class Writer:
-    """Writes values to `words`, one behind the other."""
+    """Writes values to `words`, one behind the other. Each method returns the writer."""
 
     def __init__(self) -> None:
         self.words: List[int] = []
@@ -64,19 +68,23 @@ class Writer:
         return self._value("write_cardinal", 1, unsigned(value, 16, "value"))
 
     def long_cardinal(self, value: int) -> "Writer":
+        """A long cardinal, of two words."""
         return self._value("write_long_cardinal", 2, unsigned(value, 32, "value"))
 
     def integer(self, value: int) -> "Writer":
+        """An integer, of one word."""
         return self._value("write_integer", 1, within(-(2**15), value, 2**15 - 1, "value"))
 
     def long_integer(self, value: int) -> "Writer":
+        """A long integer, of two words."""
         return self._value("write_long_integer", 2, within(-(2**31), value, 2**31 - 1, "value"))
 
     def boolean(self, value: bool) -> "Writer":
+        """A boolean, whose word is 0 or 1."""
         return self._value("write_boolean", 1, flag(value))
 
     def count(self, elements: int, most: int = 65535) -> "Writer":
-        """How many elements a sequence has, which are to be written then."""
+        """How many elements a sequence has, which are to be written then. `OverMaximumError` over `most`."""
         return self._value("write_count", 1, unsigned(most, 16, "most"), unsigned(elements, 64, "elements"))
 
     def text(self, text: bytes) -> "Writer":

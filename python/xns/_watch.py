@@ -1,4 +1,5 @@
 """Shows the packets of an interface as they come, by `xns calls`."""
+import contextlib
 import os
 import select
 import shutil
@@ -6,7 +7,8 @@ import signal
 import socket
 import subprocess
 import sys
-from typing import BinaryIO, Optional
+import time
+from typing import BinaryIO, List, Optional
 
 from ._links import FRAME_TYPE
 
@@ -16,6 +18,8 @@ _FORCE_ROOM = 33  # SO_RCVBUFFORCE
 _ROOM = 1 << 22  # bytes that the kernel keeps meanwhile
 _SIZE = 2048
 _LOOKED_AT = 0.2  # seconds after which it is looked whether a signal came
+_SIGNALLED = 128  # the status of a program that a signal ended is so much and the signal's number, as shells have it
+_LEFT = 1.0  # seconds in which what came before the signal is written still, where frames never cease
 
 
 def program() -> Optional[str]:
@@ -42,12 +46,15 @@ def _opened(interface: str) -> socket.socket:
     return frames
 
 
-def _copy(frames: socket.socket, lines: BinaryIO, count: Optional[int]) -> None:
-    """Writes each packet as a line of hex, up to so many, until SIGINT or SIGTERM comes: what came before that is written still."""
-    stops = []
+def _copy(frames: socket.socket, lines: BinaryIO, count: Optional[int]) -> bool:
+    """Writes each packet as a line of hex, up to so many, until SIGINT or SIGTERM comes: what came before that is written still. Whether a signal came."""
+    stops: List[float] = []
     for one in (signal.SIGINT, signal.SIGTERM):
-        signal.signal(one, lambda *_: stops.append(True))
-    while (count is None or count > 0) and (select.select([frames], [], [], _LOOKED_AT)[0] or not stops):
+        signal.signal(one, lambda *_: stops.append(time.monotonic()))
+    while count is None or count > 0:
+        is_there = select.select([frames], [], [], 0 if stops else _LOOKED_AT)[0]
+        if stops and (not is_there or time.monotonic() > stops[0] + _LEFT):
+            break
         try:
             packet, (_, kind, *_) = frames.recvfrom(_SIZE)
         except OSError:  # nothing is there, or the interface is down for a while
@@ -56,10 +63,23 @@ def _copy(frames: socket.socket, lines: BinaryIO, count: Optional[int]) -> None:
             lines.write(packet.hex().encode() + b"\n")
             lines.flush()
             count = None if count is None else count - 1
+    return bool(stops)
+
+
+def _give(frames: socket.socket, words: List[str], count: Optional[int]) -> int:
+    """Gives the packets to the program of these words. Its status, but 0 where a signal ended the watch."""
+    reader = subprocess.Popen(words, stdin=subprocess.PIPE, start_new_session=True)  # Ctrl-C is for us: it ends with its input
+    is_stopped = False
+    with contextlib.suppress(BrokenPipeError), reader:  # it may have ended by itself
+        is_stopped = _copy(frames, reader.stdin, count)
+    if is_stopped:
+        return 0
+    return reader.returncode if reader.returncode >= 0 else _SIGNALLED - reader.returncode
 
 
 def watch(interface: str, command: Optional[str], count: Optional[int]) -> int:
-    """Gives the packets of an interface to `xns calls` or `xns dump`, or without a command prints them in hex, until Ctrl-C ends it or so many have come."""
+    """Gives the packets of an interface to `xns calls` or `xns dump`, or without a command prints them in hex, until Ctrl-C ends it or so many have come.
+    The status."""
     with _opened(interface) as frames:
         if command is None:
             _copy(frames, sys.stdout.buffer, count)
@@ -67,7 +87,4 @@ def watch(interface: str, command: Optional[str], count: Optional[int]) -> int:
         found = program()
         if found is None:
             raise FileNotFoundError("there is no program xns beside this one or in the search path")
-        with subprocess.Popen([found, command], stdin=subprocess.PIPE, start_new_session=True) as reader:  # Ctrl-C is for us: it ends with its input
-            _copy(frames, reader.stdin, count)
-            reader.stdin.close()
-        return 0
+        return _give(frames, [found, command], count)

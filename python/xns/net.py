@@ -12,11 +12,13 @@ from typing import Any, Callable, List, Optional, Tuple
 from ._client import Client
 from ._errors import XnsError
 from ._library import version
+from ._links import BROADCAST
 from ._named import Named, plain
+from ._objects import Host
 from ._ping import LEAST, MOST, Ping
 from ._reached import USUAL_NETWORK, Network, over_ethernet, over_nethub, over_udp, read_address, read_host, spelled
 from ._serving import Server
-from ._told import Call, Kind, Reject, Reply, rejects, returns
+from ._told import Address, Call, Kind, Reject, Reply, rejects, returns
 from ._values import Reader, Writer
 from ._watch import watch
 
@@ -101,8 +103,17 @@ def _program(text: str) -> Tuple[int, int, int]:
     match = re.fullmatch("([0-9]{1,10}):([0-9]{1,5})(?:-([0-9]{1,5}))?", text)
     if not match:
         raise argparse.ArgumentTypeError(f"{text} is no program, as 7:1 or 7:1-3")
-    number, low, high = match.groups()
-    return int(number), int(low), int(high or low)
+    number, low, high = int(match[1]), int(match[2]), int(match[3] or match[2])
+    if number >= 2**32 or not low <= high < 2**16:
+        raise argparse.ArgumentTypeError(f"{text} is no program, whose versions go from the lower to the higher")
+    return number, low, high
+
+
+def _own_host(text: str) -> bytes:
+    host = _host(text)
+    if host == BROADCAST:
+        raise argparse.ArgumentTypeError(f"{text} is each host, and no host of one's own")
+    return host
 
 
 def _with_network(parser: argparse.ArgumentParser) -> None:
@@ -111,7 +122,7 @@ def _with_network(parser: argparse.ArgumentParser) -> None:
     links.add_argument("--nethub", metavar="HOST:PORT", type=_hub, help="by way of the hub of emulators that listens there")
     links.add_argument("--udp", metavar="PORT", type=_whole(1, 65535), help="in datagrams on this machine: to this port, or for serve at it")
     parser.add_argument("--network", metavar="HEX", type=_hex_number, default=USUAL_NETWORK, help="the network that this host is on (1)")
-    parser.add_argument("--station", metavar="HOST", type=_host, help="this host's own number, over UDP or a hub")
+    parser.add_argument("--station", metavar="HOST", type=_own_host, help="this host's own number, over UDP or a hub")
 
 
 def _parser() -> argparse.ArgumentParser:
@@ -202,12 +213,31 @@ def _service(name: Optional[str]) -> Any:
     found = importlib.import_module(module)
     for attribute in attributes.split("."):
         found = getattr(found, attribute)
-    return found() if inspect.isclass(found) else found
+    if not inspect.isclass(found):
+        return found
+    try:
+        inspect.signature(found).bind()
+    except TypeError as error:
+        raise ValueError(f"{name} is made with arguments: {error}") from None
+    return found()
+
+
+def _served(given: argparse.Namespace, service: Any) -> List[Tuple[int, int, int]]:
+    """The programs that are served. A ValueError where they can't be, or the service is none."""
+    if not callable(service):
+        raise ValueError(f"{given.service} is no function of a call, and no class of such objects")
+    try:
+        programs = given.program or list(getattr(service, "programs", []))
+        with Host(Address(0, bytes(6), given.socket)) as host:
+            host.serve(given.socket, programs)
+    except (TypeError, XnsError) as error:
+        raise ValueError(f"nothing can be served: {error}") from None
+    return programs
 
 
 def _serve(given: argparse.Namespace) -> int:
     service = _service(given.service)
-    programs: List[Tuple[int, int, int]] = given.program or list(getattr(service, "programs", []))
+    programs = _served(given, service)
     with _network(given, serves=True) as network:
         own = network.own(given.socket)
         server = Server(network.link, own, programs, service)

@@ -1,6 +1,8 @@
 """What users expect of `Client`, `Server`, carriers and those of asyncio, over UDP and hubs on this machine, in one process."""
 import asyncio
 import contextlib
+import functools
+import itertools
 import pathlib
 import re
 import select
@@ -8,7 +10,9 @@ import signal
 import socket
 import threading
 import time
+import types
 import unittest
+import unittest.mock
 
 import xns
 from relay import LOCAL, Hub, bound
@@ -57,6 +61,18 @@ class Counting:
         if self.is_down:
             raise OSError(100, "the network is down")
         self._udp.sendto(packet, place)
+
+
+class Refused(xns.Host):
+    """A host that is refused memory for what is to go out, two times of three."""
+
+    asked = 0
+
+    def packets(self, now):
+        self.asked += 1
+        if self.asked % 3:
+            raise xns.NoMemoryError
+        return super().packets(now)
 
 
 class OverUdp(unittest.TestCase):
@@ -141,6 +157,37 @@ class OverUdp(unittest.TestCase):
                 self.assertEqual(waits.call(7, 1, 1, [6]).words, [6])
 
     @unittest.skipUnless(threading.current_thread() is threading.main_thread(), "signals go to another thread")
+    def stopped_beside_a_guest(self, stop):
+        """A server with room for one connection is stopped: a client whose connection has the number of one before is told so."""
+        with self.client() as first:
+            first.call(7, 1, 1)
+        time.sleep(1)  # until the number is free
+        with bound() as udp:
+            second = self.client(udp)
+            second.connect(5)
+            stop()
+            second.wait(0.3)
+            with self.assertRaises(xns.ClosedError):
+                second.call(7, 1, 1)
+
+    def test_a_server_that_is_stopped_closes_a_connection_by_a_number_of_one_before(self):
+        with serving(self.there, connections=1) as server:
+            self.stopped_beside_a_guest(server.stop)
+
+    def test_asyncio_closes_a_connection_by_a_number_of_one_before(self):
+        stopping = []
+
+        async def served():
+            stops = asyncio.Event()
+            stopping.append(functools.partial(asyncio.get_running_loop().call_soon_threadsafe, stops.set))
+            await xns.serve_async(self.there, SERVER, [(7, 1, 1)], answers, stop=stops, connections=1, **QUICK)
+
+        thread = threading.Thread(target=lambda: asyncio.run(served()), daemon=True)
+        thread.start()
+        self.stopped_beside_a_guest(lambda: stopping[0]())
+        thread.join(10)
+        self.assertFalse(thread.is_alive())
+
     def test_ctrl_c_in_a_call(self):
         before = signal.signal(signal.SIGALRM, signal.default_int_handler)
         try:
@@ -191,6 +238,23 @@ class OverUdp(unittest.TestCase):
                 one.is_down = True
                 threading.Timer(0.3, setattr, (one, "is_down", False)).start()
                 self.assertEqual(client.call(7, 1, 1, [5]).words, [5])
+
+    def test_packets_that_are_refused_memory_go_out_later(self):
+        async def calls():
+            with bound() as udp:
+                stop = asyncio.Event()
+                server = asyncio.ensure_future(xns.serve_async(udp, SERVER, [(7, 1, 1)], answers, stop=stop, **QUICK))
+                async with xns.AsyncClient(self.here, udp.getsockname(), CLIENT, SERVER, **QUICK) as client:
+                    self.assertEqual((await client.call(7, 1, 1, [4])).words, [4])
+                stop.set()
+                await server
+
+        with contextlib.ExitStack() as patched:
+            for module in ("_serving", "_client", "_asynchronous"):
+                patched.enter_context(unittest.mock.patch(f"xns.{module}.Host", Refused))
+            with serving(self.there), self.client() as client:
+                self.assertEqual(client.call(7, 1, 1, [3]).words, [3])
+            asyncio.run(calls())
 
     def test_the_carrier_of_the_page(self):
         page = (pathlib.Path(__file__).resolve().parents[2] / "docs" / "NETWORKS.md").read_text(encoding="utf-8")
@@ -259,6 +323,93 @@ class OverUdp(unittest.TestCase):
 
         asyncio.run(main())
 
+    def test_asyncio_gives_a_late_reply_to_no_other_client(self):
+        udp = bound()
+        self.addCleanup(udp.close)
+        carrier = Counting(udp)
+
+        async def is_lost():
+            async with xns.AsyncClient(carrier, self.there.getsockname(), CLIENT._replace(socket=1025), SERVER, idle=100, **QUICK) as client:
+                call = asyncio.ensure_future(client.call(7, 1, 1, [1]))
+                await asyncio.sleep(0.3)
+                carrier.is_down = True
+                await call
+
+        async def play():
+            stops, lets = asyncio.Event(), {word: asyncio.Event() for word in (1, 2)}
+
+            async def answer(call):
+                await lets[call.words[0]].wait()
+                return xns.returns(call.words)
+
+            quick = {**QUICK, "tries": 1, "patience": 100, "idle": 100}
+            server = asyncio.ensure_future(xns.serve_async(self.there, SERVER, [(7, 1, 1)], answer, stop=stops, connections=1, **quick))
+            with self.assertRaises(xns.SilentError):
+                await is_lost()
+            async with xns.AsyncClient(self.here, self.there.getsockname(), CLIENT, SERVER, **QUICK) as client:
+                call = asyncio.ensure_future(client.call(7, 1, 1, [2], timeout=5))
+                for word in (1, 2):
+                    await asyncio.sleep(0.2)
+                    lets[word].set()
+                self.assertEqual((await call).words, [2])
+            stops.set()
+            await server
+
+        asyncio.run(play())
+
+    def test_asyncio_tells_each_that_waits_that_the_connection_is_closed(self):
+        async def play():
+            client = xns.AsyncClient(self.here, self.there.getsockname(), CLIENT, SERVER, tries=100)  # of a server that is not there
+            async with client:
+                call = asyncio.ensure_future(client.call(7, 1, 1, timeout=0.3))
+                await asyncio.sleep(0.1)
+                closing = asyncio.ensure_future(client.close())
+                with self.assertRaises(xns.SilentError):
+                    await call
+                await asyncio.wait_for(closing, 2)
+
+        asyncio.run(play())
+
+    def test_asyncio_tells_that_a_socket_was_closed(self):
+        async def play():
+            quick, udp = {**QUICK, "tries": 100, "idle": 100}, bound()
+            server = asyncio.ensure_future(xns.serve_async(self.there, SERVER, [(7, 1, 1)], answers, **quick))
+            async with xns.AsyncClient(udp, self.there.getsockname(), CLIENT, SERVER, **quick) as client:
+                await client.call(7, 1, 1)
+                call = asyncio.ensure_future(client.call(7, 1, 1))
+                await asyncio.sleep(0)
+                for one in (udp, self.there):
+                    one.close()
+                for one in (call, server, client.call(7, 1, 1), client.close()):
+                    with self.assertRaisesRegex(OSError, "closed"):
+                        await asyncio.wait_for(one, 5)
+                raise KeyError
+
+        with self.assertRaises(KeyError):
+            asyncio.run(play())
+
+    def test_asyncio_tells_within_a_second_that_a_socket_was_closed_where_nothing_is_due(self):
+        async def play():
+            server = asyncio.ensure_future(xns.serve_async(self.there, SERVER, [(7, 1, 1)], answers))
+            await asyncio.sleep(0.1)
+            self.there.close()
+            self.assertTrue((await asyncio.wait([server], timeout=5))[0])
+            with self.assertRaisesRegex(OSError, "closed"):
+                await server
+
+        asyncio.run(play())
+
+    def test_asyncio_leaves_a_socket_as_it_was_where_there_is_no_connection(self):
+        async def play(client):
+            with self.assertRaises(xns.NoSocketError):
+                async with client:
+                    self.fail("socket 0 has a server")
+
+        self.here.settimeout(3.5)
+        client = xns.AsyncClient(self.here, self.there.getsockname(), CLIENT, SERVER._replace(socket=0))
+        asyncio.run(play(client))
+        self.assertEqual(self.here.gettimeout(), 3.5)
+
     def test_asyncio_and_the_other_loop(self):
         async def main():
             with bound() as udp:
@@ -300,6 +451,26 @@ class HubTest(unittest.TestCase):
         with self.assertRaises(ValueError):
             xns.nethub(LOCAL, self.hub.port, b"short")
 
+    def test_times_where_frames_of_others_never_cease(self):
+        """The hub itself floods, for ten seconds at most."""
+        frame = (SERVER.host * 2 + b"\x06\x00").ljust(60, b"\0")
+        many, begun, ends = 1000 * (len(frame).to_bytes(2, "big") + frame), time.monotonic(), threading.Event()
+
+        def flood():
+            with contextlib.suppress(OSError):
+                while not ends.is_set() and time.monotonic() < begun + 10:
+                    stream.sendall(many)
+
+        with socket.create_server((LOCAL, 0)) as hub, xns.nethub(LOCAL, hub.getsockname()[1]) as link, hub.accept()[0] as stream:
+            thread = threading.Thread(target=flood)
+            thread.start()
+            with self.assertRaises(TimeoutError):
+                xns.Client(link, SERVER.host, CLIENT, SERVER, tries=100).call(7, 1, 1, timeout=0.3)
+            self.assertLess(time.monotonic() - begun, 5)
+            ends.set()
+            link.close()
+            thread.join()
+
     def test_frames_in_pieces_and_of_others(self):
         link = self.link(CLIENT.host)
         stream = self.hub.first()
@@ -318,6 +489,16 @@ class HubTest(unittest.TestCase):
             with contextlib.suppress(BlockingIOError):
                 came.append(link.recvfrom(2048))
         self.assertEqual(came, [(mine[14:], SERVER.host)])
+
+
+class EthernetTest(unittest.TestCase):
+    """What takes no right to frames; tests/network.sh has the rest."""
+
+    def test_frames_to_others_that_never_cease(self):
+        link, to_others = object.__new__(xns.Ethernet), itertools.repeat((bytes(46), ("eth0", 0x0600, 3, 1, SERVER.host)), 10_000)
+        link._socket = types.SimpleNamespace(recvfrom=lambda size: next(to_others))
+        with self.assertRaises(BlockingIOError):
+            link.recvfrom(2048)
 
 
 if __name__ == "__main__":

@@ -1,9 +1,11 @@
 """What the module refuses, how its errors and its help are named, and which places of packets it knows."""
+import asyncio
 import collections
 import os
 import pydoc
 import subprocess
 import sys
+import threading
 import unittest
 
 import xns
@@ -52,6 +54,12 @@ class PlacesTest(unittest.TestCase):
             self.assertEqual(carrier.goes[-1][1], "far")  # the opening once more
 
 
+async def later(**settings):
+    """A call of a client in a loop of asyncio."""
+    async with xns.AsyncClient(Memory(), None, CLIENT, SERVER) as client:
+        await client.call(7, 1, 1, **settings)
+
+
 class TypesTest(unittest.TestCase):
     def test_names_of_arguments(self):
         host = xns.Host(CLIENT)
@@ -62,6 +70,14 @@ class TypesTest(unittest.TestCase):
             ("own", lambda: xns.Host("here")),
             ("the host of own", lambda: xns.Host(xns.Address(1, "text", 5))),
             ("the network of peer", lambda: host.connect(0, 0, 5, SERVER._replace(network=None))),
+            ("own", lambda: xns.Client(Memory(), None, None, SERVER)),
+            ("peer", lambda: xns.Client(Memory(), None, CLIENT, None)),
+            ("the host of peer", lambda: xns.Client(Memory(), None, CLIENT, SERVER._replace(host="text"))),
+            ("own", lambda: xns.serve(Memory(), "here", [], print)),
+            ("programs", lambda: xns.serve(Memory(), CLIENT, None, print)),
+            ("packet", lambda: xns.encode(b"")),
+            ("header", lambda: xns.header_write((1, 2))),
+            ("message", lambda: xns.message_write(None)),
             ("programs", lambda: host.serve(5, [7])),
             ("low", lambda: host.serve(5, [(7, "1", 1)])),
             ("idle", lambda: xns.Host(CLIENT, idle="never")),
@@ -82,6 +98,9 @@ class TypesTest(unittest.TestCase):
             ("carrier", lambda: xns.serve(None, CLIENT, [], print)),
             ("carrier", lambda: xns.Client(5, None, CLIENT, SERVER)),
             ("timeout", lambda: xns.Client(Memory(), None, CLIENT, SERVER, timeout="5")),
+            ("timeout", lambda: asyncio.run(later(timeout="5"))),
+            ("seconds", lambda: xns.Client(Memory(), None, CLIENT, SERVER).wait(None)),
+            ("stop", lambda: asyncio.run(xns.serve_async(Memory(), CLIENT, [], print, stop=threading.Event()))),
             ("reopens", lambda: xns.Client(Memory(), None, CLIENT, SERVER, reopens="5")),
             ("interface", lambda: xns.ethernet(0)),
         ):
@@ -89,6 +108,13 @@ class TypesTest(unittest.TestCase):
                 call()
         with self.assertRaisesRegex(ValueError, "procedure"):
             host.call(0, 0, 7, 1, 65536)
+        with self.assertRaisesRegex(ValueError, "the network of peer"):
+            xns.Client(Memory(), None, CLIENT, SERVER._replace(network=-1))
+        xns.Client(Memory(), None, tuple(CLIENT), tuple(SERVER))
+        for seconds in (float("inf"), float("nan"), 10**400):
+            for call in (lambda: xns.Client(Memory(), None, CLIENT, SERVER, timeout=seconds), lambda: asyncio.run(later(timeout=seconds))):
+                with self.assertRaisesRegex(ValueError, "timeout"):
+                    call()
         self.assertEqual(xns.Writer().text(bytearray(b"Hi")).words, [2, 0x4869])
 
     def test_errors(self):

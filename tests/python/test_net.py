@@ -1,14 +1,22 @@
 """The command `xns-net` over UDP, as a process: what it prints, its statuses, and how it ends. Ethernet is tried by tests/network.sh, hubs by test_tally.py."""
+import contextlib
+import os
 import pathlib
 import re
 import signal
+import socket
 import subprocess
 import tempfile
+import threading
+import types
 import unittest
+from unittest import mock
 
 import xns
 from relay import bound
-from xns._reached import read_address, read_host
+from xns._ping import Ping
+from xns._reached import Network, read_address, read_host
+from xns._watch import watch
 
 NET = [str(pathlib.Path(__file__).resolve().parents[2] / "python" / "xns-net")]
 SERVER = "0000aa000102"
@@ -19,6 +27,10 @@ class Doubles:
         return xns.aborts(4, [1, 2]) if call.procedure else xns.returns(call.words * 2)
 def anything(call):
     return xns.returns([call.program, call.version, call.procedure])
+class Larger(Doubles):
+    def __init__(self, size): pass
+class Wrong(Doubles):
+    programs = 9
 """
 
 
@@ -76,7 +88,8 @@ class NetTest(unittest.TestCase):
                 self.assertEqual(run("call", SERVER, "7", "2", "1", "--udp", serving.port), (3, "reject 0 -\n", ""))
             with Serving("named:anything", "--socket", "6", cwd=folder) as serving:
                 self.assertEqual(run("call", f"1.{SERVER}.6", "70", "2", "1", "--udp", serving.port), (0, "return 0046 0002 0001\n", ""))
-            for name, told in (("named:other", "has no attribute"), ("nowhere:other", "No module named"), ("named", "no MODULE:NAME")):
+            for name, told in (("named:other", "has no attribute"), ("nowhere:other", "No module named"), ("named", "no MODULE:NAME"), ("os:path", "no function"),
+                               ("named:Larger", "arguments"), ("named:Wrong", "nothing can be served")):
                 status, _, err = run("serve", name, "--udp", "4000", cwd=folder)
                 self.assertEqual(status, 2)
                 self.assertIn(told, err)
@@ -100,6 +113,12 @@ class NetTest(unittest.TestCase):
             self.assertRegex(out, "(?m)^[0-9]+ sent, [0-9]+ answered, [0-9]+% lost$")
         status, out, err = run("ping", SERVER, "--udp", serving.port, "-c", "2", "--interval", "0.1", "--wait", "0.1")
         self.assertEqual((status, out.splitlines()[-1], err), (1, "2 sent, 0 answered, 100% lost", ""))
+
+    def test_a_ping_ends_where_packets_never_cease(self):
+        link = types.SimpleNamespace(fileno=lambda: -1, setblocking=lambda flag: None, recvfrom=lambda size: (b"", None), sendto=lambda packet, place: None)
+        said = []
+        self.assertEqual(Ping(Network(link, 1, bytes(6)), xns.Address(1, bytes.fromhex(SERVER), 2), 56, said.append).run(1, 0.1, 0.1), 1)
+        self.assertEqual(said[-1], "1 sent, 0 answered, 100% lost")
 
     def test_ends(self):
         for number in (signal.SIGINT, signal.SIGTERM):
@@ -154,12 +173,34 @@ class NetTest(unittest.TestCase):
             status, out, err = run("call", SERVER, "Tally", "1", "Echo", "--udp", "9", "--programs", f"{folder}/none")
             self.assertEqual((status, out, err), (2, "", f"xns-net: {folder}/none: No such file or directory\n"))
 
+    def test_the_status_of_a_watch(self):
+        """It is that of `xns`, but where a signal ends the watch. Frames never cease here."""
+        near, far = socket.socketpair()
+        far.send(b"there")
+        frames = types.SimpleNamespace(fileno=near.fileno, recvfrom=lambda size: (bytes(30), ("eth0", 0x0600, 0, 1, bytes(6))))
+        handlers = {number: signal.getsignal(number) for number in (signal.SIGINT, signal.SIGTERM)}
+        with near, far, tempfile.TemporaryDirectory() as folder:
+            program = pathlib.Path(folder) / "xns"
+            program.touch(0o700)
+            for does, count, wanted in (("cat; exit 3", 2, 3), ("cat", 2, 0), ("exit 3", None, 3), ("kill $$", None, 143), ("cat; exit 3", None, 0)):
+                program.write_text(f"#!/bin/sh\nexec > /dev/null\n{does}\n", encoding="utf-8")
+                if (count, wanted) == (None, 0):
+                    threading.Timer(0.3, os.kill, (os.getpid(), signal.SIGINT)).start()
+                try:
+                    with mock.patch("xns._watch._opened", lambda interface: contextlib.nullcontext(frames)), mock.patch("xns._watch.program", lambda: str(program)):
+                        self.assertEqual(watch("eth0", "calls", count), wanted, does)
+                finally:
+                    for number, handler in handlers.items():
+                        signal.signal(number, handler)
+
     def test_words(self):
         for words in ((), ("pong",), ("ping",), ("ping", SERVER), ("ping", SERVER, "--udp", "0"), ("ping", SERVER, "--udp", "1", "-i", "lo"),
                       ("ping", "12", "--udp", "9"), ("ping", SERVER, "--udp", "9", "-s", "11"), ("ping", SERVER, "--udp", "9", "-s", "545"),
                       ("call", SERVER, "7", "1", "--udp", "9"), ("call", SERVER, "7", "1", "1", "5", "--udp", "9"),
                       ("call", SERVER, "-1", "1", "1", "--udp", "9"),
-                      ("call", SERVER, "7", "65536", "1", "--udp", "9"), ("call", f"{SERVER}.5", "7", "1", "1", "--udp", "9"), ("watch",)):
+                      ("call", SERVER, "7", "65536", "1", "--udp", "9"), ("call", f"{SERVER}.5", "7", "1", "1", "--udp", "9"), ("watch",),
+                      ("serve", "--udp", "9", "--program", "7:3-1"), ("serve", "--udp", "9", "--program", "7:1-65536"),
+                      ("serve", "--udp", "9", "--program", "4294967296:1"), ("serve", "--udp", "9", "--socket", "2"), ("serve", "--udp", "9", "--station", "all")):
             status, out, err = run(*words)
             self.assertEqual((status, out), (2, ""), words)
             self.assertIn("xns-net", err)

@@ -8,6 +8,7 @@ import pydoc
 import random
 import subprocess
 import threading
+import types
 import unittest
 
 import xns
@@ -116,6 +117,21 @@ class ReadingTest(unittest.TestCase):
         self.assertIn("Draw(self, points: List[Shapes.Point], color: Shapes.Color) -> Shapes.DrawResults", told)
         self.assertIn("Ask(self, from_: int)", told)
         self.assertIn("Nothing(self) -> None", told)
+
+    def test_names_of_python(self):
+        own = xns.Programs().read(
+            b"Own: PROGRAM 1 VERSION 1 = BEGIN import: ERROR [self: CARDINAL] = 1; None: ERROR = 2;"
+            b" class: TYPE = RECORD [self, def: CARDINAL]; Say: PROCEDURE [self, lambda: CARDINAL] = 0; END."
+        )
+        error = getattr(own, "import")(self=5)
+        self.assertEqual((error.self, type(error).__name__, str(getattr(own, "None")())), (5, "import_", "None_"))
+        self.assertEqual(getattr(own, "class")(self=1, def_=2), (1, 2))
+        told = []
+        client = own.client(types.SimpleNamespace(call=lambda *call: told.append(call) or xns.Answer(0, xns.Kind.RETURN, 0, [])))
+        client.Say(1, 2)
+        client.Say(self=3, lambda_=4)
+        self.assertEqual(told, [(1, 1, 0, [1, 2]), (1, 1, 0, [3, 4])])
+        self.assertIn("Say(self_, self: int, lambda_: int) -> None", pydoc.plain(pydoc.render_doc(client)))
 
 
 class ValuesTest(unittest.TestCase):

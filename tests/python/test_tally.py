@@ -114,6 +114,11 @@ class TallyTest(unittest.TestCase):
         self.assertGreater(min(serving.relay.spoiled.values()), 10)
         self.assertEqual(serving.relay.empty, 0)  # nobody sends a datagram of no bytes
 
+    def test_words(self):
+        for words in ((), ("serve",), ("sub", "4000", "5")):
+            ended = subprocess.run([*TALLY, *words], stderr=subprocess.PIPE, text=True, timeout=60)
+            self.assertEqual((ended.returncode, len(ended.stderr.splitlines())), (1, 1))
+
     def test_python(self):
         self.serve_and_add(PYTHON[0])
 
