@@ -1,6 +1,6 @@
 #!/usr/bin/env python3
-"""Times a proved program beside a plain Rust peer: five runs of each in turn, or fifteen of `exchange` and `calls`, which scatter, or so
-many that they take a second. It prints the least of each and their ratio.
+"""Times a proved program beside a plain Rust peer: five runs of each in turn, or fifteen of `exchange`, `calls` and `hosts`, which scatter, or
+so many that they take a second together. It prints the least of each and their ratio.
 
     python3 bench/compare.py readme       README's table, in some ten minutes once all is built; with --write behind it stands in README
     python3 bench/compare.py all          all of those below, and then the table of their ratios, with the peer of each, the processor and the compilers
