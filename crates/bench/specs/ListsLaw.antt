@@ -7,7 +7,7 @@ use Rattle.courier_types.specs.Value.{ValueModel, count, values_from}
 use Rattle.courier_types.specs.Spelling.{values_spelling}
 use Rattle.courier_types.specs.Fits.{has_shape, each_passes, AreValues}
 use Rattle.courier_calls.specs.Table.{EntryModel, ProcedureModel}
-use Rattle.courier_calls.specs.Calls.{Asked, SeenModel, OutcomeModel, found, in_procedures, HasArguments, IsListedCall, IsSent, AllowsOutcome}
+use Rattle.courier_calls.specs.Calls.{AskedCall, SeenModel, OutcomeModel, found, in_procedures, HasArguments, IsListedCall, IsSent, AllowsOutcome}
 use Rattle.courier_calls.specs.Calls.{IsAllowed, IsLawful}
 use Rattle.courier_calls.specs.OneEntry.{of_one_entry}
 use Rattle.bench.specs.Lists.{list_shape, lists_entry, counted, IsCount, lists}
@@ -56,7 +56,7 @@ by_procedure : (list v : ValueModel) (listed : Bool) → IsSent list_shape list
 by_procedure list v true s h = s
 by_procedure list v false s h = absurd h
 
-allowed : (list : ValueModel) (q : Asked) → IsSent list_shape list → IsListedCall lists.table q
+allowed : (list : ValueModel) (q : AskedCall) → IsSent list_shape list → IsListedCall lists.table q
     → IsAllowed lists.table q (OutcomeModel.returned list)
 unfolding found
 allowed list q s h =

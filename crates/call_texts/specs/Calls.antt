@@ -11,9 +11,9 @@ use Rattle.call_texts.specs.declared.unread.Unshown.TheVariants as unshown
 use Rattle.call_texts.specs.Showing.{ShowingWants, UnreadModel, shown}
 
 -- a text behind a front, or why there is none
-abbrev pub behind : List ℕ → Result (List ℕ) UnreadModel → Result (List ℕ) UnreadModel
-behind front (Ok text) = Ok (front ++ text)
-behind front (Err unread) = Err unread
+abbrev pub text_with_front : List ℕ → Result (List ℕ) UnreadModel → Result (List ℕ) UnreadModel
+text_with_front front (Ok text) = Ok (front ++ text)
+text_with_front front (Err unread) = Err unread
 
 -- a function answered that text, or why there is none, or that nothing is declared, unless memory ran out
 abbrev pub ShowsDeclared : Result (Option (Vec ℕ)) Unshown → Option (Result (List ℕ) UnreadModel) → Type 0
@@ -36,12 +36,12 @@ declared_shown find show None = None
 
 -- a return or an abort: a name and components
 abbrev pub named_shown : List ℕ → FieldsModel → List ℕ → Result (List ℕ) UnreadModel
-named_shown name fields words = behind (name ++ codes " ") (shown fields words)
+named_shown name fields words = text_with_front (name ++ codes " ") (shown fields words)
 
 -- a call: the program, the procedure and the arguments, where they are declared
 unfoldable pub call_shown : List Program → ℕ → ℕ → ℕ → List ℕ → Option (Result (List ℕ) UnreadModel)
 call_shown programs program version procedure words = declared_shown (λ p. procedure_by p.procedures procedure)
-    (λ p q. behind (program_name p ++ codes " " ++ q.name ++ codes " ") (shown q.arguments words)) (program_by programs program version)
+    (λ p q. text_with_front (program_name p ++ codes " " ++ q.name ++ codes " ") (shown q.arguments words)) (program_by programs program version)
 
 -- a return of a call: the procedure and the results
 unfoldable pub return_shown : List Program → ℕ → ℕ → ℕ → List ℕ → Option (Result (List ℕ) UnreadModel)

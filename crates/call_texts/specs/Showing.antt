@@ -25,11 +25,11 @@ Shows (Ok v) text = text ≡ Ok v.items
 Shows (Err (unshown.Unread u)) text = text ≡ Err (u.place, u.reason)
 Shows (Err unshown.NoMemory) text = Unit {0}
 
-abbrev pub reason_of : Reason → UnreadReason
-reason_of read_reasons.Truncated = reasons.Truncated
-reason_of read_reasons.NotBoolean = reasons.NotBoolean
-reason_of read_reasons.NotListed = reasons.NotListed
-reason_of read_reasons.OverMaximum = reasons.OverMaximum
+abbrev pub unread_reason : Reason → UnreadReason
+unread_reason read_reasons.Truncated = reasons.Truncated
+unread_reason read_reasons.NotBoolean = reasons.NotBoolean
+unread_reason read_reasons.NotListed = reasons.NotListed
+unread_reason read_reasons.OverMaximum = reasons.OverMaximum
 
 -- the values of these components with their names, in brackets
 abbrev pub bracketed : Components → ValueModels → List ℕ
@@ -46,7 +46,7 @@ limited text = if nat_le (length text) most_text then Ok text else Err (0, reaso
 -- the text of a value that takes so many of the words
 abbrev pub text_of_value : Components → List ℕ → Result (ValueModel × ℕ) ReadFault → Result (List ℕ) UnreadModel
 text_of_value parts words (Ok v) = if v.1 == length words then limited (record_text parts v.0) else Err (v.1, reasons.Trailing)
-text_of_value parts words (Err fault) = Err (fault.place, reason_of fault.reason)
+text_of_value parts words (Err fault) = Err (fault.place, unread_reason fault.reason)
 
 -- the text of the record that the words are, all of them
 abbrev pub shown : FieldsModel → List ℕ → Result (List ℕ) UnreadModel
@@ -61,10 +61,10 @@ IfNoMemory (Err (unshown.Unread u)) P = Unit {0}
 IfNoMemory (Err unshown.NoMemory) P = P
 
 -- a value was read, and takes all the words
-abbrev pub IsWhole : List ℕ → Result (ValueModel × ℕ) ReadFault → Type 0
-IsWhole words (Ok v) = v.1 ≡ length words
-IsWhole words (Err fault) = ⊥
+abbrev pub TakesAllWords : List ℕ → Result (ValueModel × ℕ) ReadFault → Type 0
+TakesAllWords words (Ok v) = v.1 ≡ length words
+TakesAllWords words (Err fault) = ⊥
 
 -- showing a record wants memory: for its value, or, where that takes all the words, for its text
 abbrev pub ShowingWants : FieldsModel → List ℕ → Type 0
-ShowingWants fields words = WantsMemory fields.1 words ⊎ IsWhole words (value_of fields.1 words)
+ShowingWants fields words = WantsMemory fields.1 words ⊎ TakesAllWords words (value_of fields.1 words)

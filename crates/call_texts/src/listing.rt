@@ -2,10 +2,10 @@
 
 ghost use Rattle.std.specs.Prelude.{[], map};
 ghost use Rattle.std.specs.List.{flat_map};
-ghost use Rattle.courier_programs.specs.Meanings.{components_seen, error_model, procedure_model, resolved_model};
-ghost use Rattle.call_texts.specs.Appending.{Appends};
+ghost use Rattle.courier_programs.specs.Meanings.{components_seen, resolved_error, resolved_procedure, resolved_model};
+ghost use Rattle.call_texts.specs.Appending.{AppendsText};
 ghost use Rattle.call_texts.specs.Calls.{program_name};
-ghost use Rattle.call_texts.specs.Listing.{components_line, error_line, line_head, names_text, numbered, procedure_line, program_text, results_end};
+ghost use Rattle.call_texts.specs.Listing.{components_line, error_line, line_head, names_text, numbered_text, procedure_line, program_text, results_end};
 
 use crate::appending::{append, append_number, append_program_name};
 use courier_programs::{Procedure, Program, RemoteError};
@@ -14,7 +14,7 @@ use std::alloc::AllocError;
 
 /// Appends names with commas between.
 fn append_names(out: &mut Vec<u8>, components: &[(Vec<u8>, Named)]) -> Result<(), AllocError>
-    ensures { Appends result (names_text [] (components_seen components.now)) out.old out.new }
+    ensures { AppendsText result (names_text [] (components_seen components.now)) out.old out.new }
 {
     let mut front: &[u8] = b"";
     for component in components {
@@ -26,7 +26,7 @@ fn append_names(out: &mut Vec<u8>, components: &[(Vec<u8>, Named)]) -> Result<()
 }
 
 fn append_components(out: &mut Vec<u8>, components: &[(Vec<u8>, Named)]) -> Result<(), AllocError>
-    ensures { Appends result (components_line (components_seen components.now)) out.old out.new }
+    ensures { AppendsText result (components_line (components_seen components.now)) out.old out.new }
 {
     append(out, b"[")?;
     append_names(out, components)?;
@@ -39,7 +39,7 @@ fn append_numbered(
     number: u16,
     name: &[u8],
 ) -> Result<(), AllocError>
-    ensures { Appends result (numbered kind.now number name.now) out.old out.new }
+    ensures { AppendsText result (numbered_text kind.now number name.now) out.old out.new }
 {
     append(out, kind)?;
     append_number(out, u32::from(number))?;
@@ -57,7 +57,7 @@ fn append_head(
     number: u16,
     name: &[u8],
 ) -> Result<(), AllocError>
-    ensures { Appends result (line_head (program_name (resolved_model program.now)) kind.now number name.now) out.old out.new }
+    ensures { AppendsText result (line_head (program_name (resolved_model program.now)) kind.now number name.now) out.old out.new }
 {
     append_program_name(out, program)?;
     append_numbered(out, kind, number, name)
@@ -65,7 +65,7 @@ fn append_head(
 
 /// Appends the components of results, and the end of the line.
 fn append_results(out: &mut Vec<u8>, components: &[(Vec<u8>, Named)]) -> Result<(), AllocError>
-    ensures { Appends result (results_end (components_seen components.now)) out.old out.new }
+    ensures { AppendsText result (results_end (components_seen components.now)) out.old out.new }
 {
     append(out, b" returns ")?;
     append_components(out, components)?;
@@ -78,7 +78,7 @@ fn append_procedure(
     program: &Program,
     procedure: &Procedure,
 ) -> Result<(), AllocError>
-    ensures { Appends result (procedure_line (program_name (resolved_model program.now)) (procedure_model procedure.now)) out.old out.new }
+    ensures { AppendsText result (procedure_line (program_name (resolved_model program.now)) (resolved_procedure procedure.now)) out.old out.new }
 {
     append_head(
         out,
@@ -93,7 +93,7 @@ fn append_procedure(
 
 #[tactic(auto, unfolding(crate::specs::Listing::error_line))]
 fn append_error(out: &mut Vec<u8>, program: &Program, error: &RemoteError) -> Result<(), AllocError>
-    ensures { Appends result (error_line (program_name (resolved_model program.now)) (error_model error.now)) out.old out.new }
+    ensures { AppendsText result (error_line (program_name (resolved_model program.now)) (resolved_error error.now)) out.old out.new }
 {
     append_head(out, program, b" error ", error.number, &error.name)?;
     append_components(out, &error.arguments.components)?;
@@ -101,7 +101,7 @@ fn append_error(out: &mut Vec<u8>, program: &Program, error: &RemoteError) -> Re
 }
 
 fn append_procedures(out: &mut Vec<u8>, program: &Program) -> Result<(), AllocError>
-    ensures { Appends result (flat_map (procedure_line (program_name (resolved_model program.now))) (map procedure_model program.now.procedures.items)) out.old out.new }
+    ensures { AppendsText result (flat_map (procedure_line (program_name (resolved_model program.now))) (map resolved_procedure program.now.procedures.items)) out.old out.new }
 {
     for procedure in &program.procedures {
         append_procedure(out, program, procedure)?;
@@ -110,7 +110,7 @@ fn append_procedures(out: &mut Vec<u8>, program: &Program) -> Result<(), AllocEr
 }
 
 fn append_errors(out: &mut Vec<u8>, program: &Program) -> Result<(), AllocError>
-    ensures { Appends result (flat_map (error_line (program_name (resolved_model program.now))) (map error_model program.now.errors.items)) out.old out.new }
+    ensures { AppendsText result (flat_map (error_line (program_name (resolved_model program.now))) (map resolved_error program.now.errors.items)) out.old out.new }
 {
     for error in &program.errors {
         append_error(out, program, error)?;
@@ -123,7 +123,7 @@ fn append_errors(out: &mut Vec<u8>, program: &Program) -> Result<(), AllocError>
 /// then.
 #[tactic(auto, unfolding(crate::specs::Listing::program_text))]
 pub fn append_program(out: &mut Vec<u8>, program: &Program) -> Result<(), AllocError>
-    ensures { Appends result (program_text (resolved_model program.now)) out.old out.new }
+    ensures { AppendsText result (program_text (resolved_model program.now)) out.old out.new }
 {
     append_program_name(out, program)?;
     append(out, b"\n")?;

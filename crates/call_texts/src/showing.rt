@@ -4,7 +4,7 @@ ghost use Rattle.std.specs.Prelude.{◌≡◌, ◌<◌, length};
 ghost use Rattle.courier_types.specs.Value.{value_model, value_models};
 ghost use Rattle.call_texts.specs.declared.unread.Unshown.TheVariants.{Unread as UnreadWord};
 ghost use Rattle.courier_programs.specs.Meanings.{components_seen, fields_model};
-ghost use Rattle.call_texts.specs.Showing.{IfNoMemory, ShowingWants, Shows, bracketed, limited, reason_of as reason_in, record_text, shown};
+ghost use Rattle.call_texts.specs.Showing.{IfNoMemory, ShowingWants, Shows, bracketed, limited, unread_reason as unread_reason_in, record_text, shown};
 
 use crate::unread::{Unread, UnreadReason, Unshown};
 use courier_programs::Fields;
@@ -12,8 +12,8 @@ use courier_texts::{Named, TextRefusal, print_record};
 use courier_types::{ReadRefusal, Reason, Value, read};
 use std::alloc::Global;
 
-fn reason_of(reason: Reason) -> UnreadReason
-    ensures { result ≡ reason_in reason }
+fn unread_reason(reason: Reason) -> UnreadReason
+    ensures { result ≡ unread_reason_in reason }
 {
     match reason {
         Reason::Truncated => UnreadReason::Truncated,
@@ -74,7 +74,7 @@ pub(crate) fn show(alloc: Global, fields: &Fields, words: &[u16]) -> Result<Vec<
             }
             text_of(alloc, &fields.components, &value)
         }
-        Err(ReadRefusal::Fault(fault)) => Err(unread(fault.place, reason_of(fault.reason))),
+        Err(ReadRefusal::Fault(fault)) => Err(unread(fault.place, unread_reason(fault.reason))),
         Err(ReadRefusal::NoMemory) => Err(Unshown::NoMemory),
     }
 }

@@ -12,7 +12,7 @@ use Rattle.courier_messages.specs.Refusal.{Stops}
 use Rattle.courier_calls.specs.declared.answering.Target.{Target}
 use Rattle.courier_calls.specs.Calls.{SeenModel, found}
 use Rattle.courier_calls.specs.Table.{ProcedureModel, ErrorModel, EntryModel, table_model, error_of}
-use Rattle.courier_calls.specs.Caller.{CallerState, answer_to, results_in, abort_in, error_in, refusal_in, message_refusal, RefusesMessage, head_fault, reply_fault, is_listed, listed_unless, IsRightButForWords, Judges, CallerHears}
+use Rattle.courier_calls.specs.Caller.{CallerState, answer_to, results_in, abort_seen_as, error_in, refusal_in, message_refusal, RefusesMessage, head_fault, target_fault, is_answer_listed, listed_unless, IsRightButForWords, CallerJudges, CallerHears}
 use Rattle.courier_calls.proofs.Serves.{weaker}
 
 whole : (m : Message) → m ≡ with_words (head_in m) (words_in m)
@@ -28,7 +28,7 @@ headed m (n ∷ ms) head h = absurd cc
 
 -- a fault of the text
 pub fault_first : (caller : CallerState) (e : SessionFault) (ms : List Message) (q : Result Phase SessionFault) → Stops e ⊥ ((q ≡ Err e) × (ms ≡ []))
-    → Judges caller (Err e) ms q
+    → CallerJudges caller (Err e) ms q
 fault_first caller e ms q =
     weaker e (λ u. u) (λ h. subst (λ (ns : List Message). RefusesMessage caller ns q e) (sym h.1) h.0)
 
@@ -40,17 +40,17 @@ nothing_yet caller (m ∷ ms) q k h = absurd cc
 -- the definition's answer to a message begins with what its head shows
 
 results_refused : (f : Result (EntryModel × ProcedureModel) SeenModel) (t : ℕ) (words : List ℕ) (e : SessionFault) →
-    listed_unless (is_listed f (Return t words)) ≡ Some e → refusal_in (results_in f words) ≡ Some e
+    listed_unless (is_answer_listed f (Return t words)) ≡ Some e → refusal_in (results_in f words) ≡ Some e
 results_refused (Ok x) t words e h = absurd cc
 results_refused (Err r) t words e h = h
 
 error_refused : (error : ℕ) (o : Option ErrorModel) (x : EntryModel × ProcedureModel) (t : ℕ) (words : List ℕ) (e : SessionFault) → error_of x.0.errors error ≡ o →
-    listed_unless (is_listed (Ok x) (Abort t error words)) ≡ Some e → refusal_in (error_in error o words) ≡ Some e
+    listed_unless (is_answer_listed (Ok x) (Abort t error words)) ≡ Some e → refusal_in (error_in error o words) ≡ Some e
 error_refused error (Some f) x t words e is h = absurd cc
 error_refused error None x t words e is h = cc
 
 abort_refused : (f : Result (EntryModel × ProcedureModel) SeenModel) (t error : ℕ) (words : List ℕ) (e : SessionFault) →
-    listed_unless (is_listed f (Abort t error words)) ≡ Some e → refusal_in (abort_in f error words) ≡ Some e
+    listed_unless (is_answer_listed f (Abort t error words)) ≡ Some e → refusal_in (abort_seen_as f error words) ≡ Some e
 abort_refused (Ok x) t error words e h = error_refused error (error_of x.0.errors error) x t words e refl h
 abort_refused (Err r) t error words e h = h
 
@@ -70,10 +70,10 @@ by_head caller (Some w) (Call t p v q words) e h = h
 by_head caller (Some w) (Reject t r words) e h = expected_refused (t == caller.transaction) (Ok (SeenModel.rejected r words)) None e (λ k. absurd cc) h
 by_head caller (Some w) (Return t words) e h =
     let f = found (table_model caller.table) w.program w.version w.procedure in
-    expected_refused (t == caller.transaction) (results_in f words) (listed_unless (is_listed f (Return t words))) e (results_refused f t words e) h
+    expected_refused (t == caller.transaction) (results_in f words) (listed_unless (is_answer_listed f (Return t words))) e (results_refused f t words e) h
 by_head caller (Some w) (Abort t a words) e h =
     let f = found (table_model caller.table) w.program w.version w.procedure in
-    expected_refused (t == caller.transaction) (abort_in f a words) (listed_unless (is_listed f (Abort t a words))) e (abort_refused f t a words e) h
+    expected_refused (t == caller.transaction) (abort_seen_as f a words) (listed_unless (is_answer_listed f (Abort t a words))) e (abort_refused f t a words e) h
 
 -- neither fault is want of memory
 
@@ -86,7 +86,7 @@ stops_expected {P} true right e is x = stops_unlisted right e is x
 stops_expected {P} false right e is x = let w : WrongTransaction ≡ e = cc in subst (λ (g : SessionFault). Stops g ⊥ P) w x
 
 stops_reply : {P : Type 0} → (table : List EntryModel) (expects : ℕ) (waiting : Option Target) (transaction : ℕ) (m : Message) (e : SessionFault) →
-    reply_fault table expects waiting transaction m ≡ Some e → P → Stops e ⊥ P
+    target_fault table expects waiting transaction m ≡ Some e → P → Stops e ⊥ P
 stops_reply {P} table expects None transaction m e is x = let w : WrongTransaction ≡ e = cc in subst (λ (g : SessionFault). Stops g ⊥ P) w x
 stops_reply {P} table expects (Some t) transaction m e is x = stops_expected (transaction == expects) _ e is x
 
@@ -100,13 +100,13 @@ stops_head table expects waiting (Abort t a words) e is x = stops_reply table ex
 -- the head of a message
 
 pub wrong_head : (caller : CallerState) (ms : List Message) (q : Result Phase SessionFault) (head : Head) (o : Option SessionFault) (e : SessionFault) → o ≡ Some e → map head_in ms ≡ head ∷ [] →
-    ((words : List ℕ) → o ≡ head_fault (table_model caller.table) caller.transaction caller.waiting (with_words head words)) → Judges caller (Err e) ms q
+    ((words : List ℕ) → o ≡ head_fault (table_model caller.table) caller.transaction caller.waiting (with_words head words)) → CallerJudges caller (Err e) ms q
 wrong_head caller [] q head o e some h f = absurd cc
 wrong_head caller (m ∷ ms) q head o e some h f =
     let d = headed m ms head h in
     let is : head_fault (table_model caller.table) caller.transaction caller.waiting m ≡ Some e =
     ap (head_fault (table_model caller.table) caller.transaction caller.waiting) d.0 ∙ sym (f (words_in m)) ∙ some in
-    subst (λ (ns : List Message). Judges caller (Err e) (m ∷ ns) q) (sym d.1)
+    subst (λ (ns : List Message). CallerJudges caller (Err e) (m ∷ ns) q) (sym d.1)
     (stops_head (table_model caller.table) caller.transaction caller.waiting m e is (by_head caller caller.waiting m e is))
 
 pub right_head : (caller : CallerState) (ms : List Message) (q : Result Phase SessionFault) (head : Head) (o : Option SessionFault) → o ≡ None → IsOk q → map head_in ms ≡ head ∷ [] →
@@ -122,6 +122,6 @@ right_head caller (m ∷ ms) q head o none k h f =
 
 -- an item at which something is wrong
 pub judged : (old new : CallerState) (ms : List Message) (q : Result Phase SessionFault) (e : SessionFault) (r : Result (Unit {0}) SessionFault) → r ≡ Err e
-    → new.outcome ≡ old.outcome → new.waiting ≡ old.waiting → Judges old (Err e) ms q → CallerHears old new ms q r
+    → new.outcome ≡ old.outcome → new.waiting ≡ old.waiting → CallerJudges old (Err e) ms q → CallerHears old new ms q r
 judged old new ms q e r hr o w h =
     subst (λ (t : Result (Unit {0}) SessionFault). CallerHears old new ms q t) (sym hr) (o, w, weaker e (λ u. absurd u) (λ k. k) h)

@@ -15,7 +15,7 @@ use Rattle.courier_messages.specs.Phases.{run, said}
 use Rattle.courier_messages.specs.Text.{signs}
 use Rattle.xns_spp.specs.declared.item.Item.{Item}
 use Rattle.courier_calls.specs.Calls.{Serving}
-use Rattle.courier_calls.specs.Server.{ServerState, Judges, TakesItem}
+use Rattle.courier_calls.specs.Server.{ServerState, ServerJudges, TakesItem}
 use Rattle.courier_calls.specs.declared.call.Call as calls
 use Rattle.courier_calls.proofs.Serves.{weaker}
 
@@ -28,7 +28,7 @@ fault_first e ms q =
 
 -- an item at which something is wrong
 pub refused_at : {S : Type 0} (serving : Serving S) (old new : ServerState S) (x : Item) (e : SessionFault) (r : Result (Option calls.Call) SessionFault) → r ≡ Err e
-    → new.state ≡ old.state → new.out ≡ old.out → Judges old.phase (Err e) (said old.phase (signs x)) (run old.phase (signs x)) → TakesItem serving old new x r
+    → new.state ≡ old.state → new.out ≡ old.out → ServerJudges old.phase (Err e) (said old.phase (signs x)) (run old.phase (signs x)) → TakesItem serving old new x r
 refused_at serving old new x e r hr s o h =
     subst (λ (t : Result (Option calls.Call) SessionFault). TakesItem serving old new x t) (sym hr)
     (weaker e (λ u. absurd u) (λ w. record { stops = w.0; calls = w.1; state = s; out = o }) h)

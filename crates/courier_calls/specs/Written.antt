@@ -18,6 +18,6 @@ written_words (Value shape value) = value_spelling (value_model value.now)
 written_words (Words words) = words.now
 
 -- what is written is of the arguments: it fits, and its words are theirs
-pub record IsWritten (arguments : ArgumentsModel) (written : Written) : Type 0 where
+pub record IsOfArguments (arguments : ArgumentsModel) (written : Written) : Type 0 where
   pub fits : CanBeWritten written
   pub words : written_words written ≡ argument_words arguments

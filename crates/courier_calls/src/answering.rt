@@ -5,7 +5,7 @@ ghost use Rattle.courier_messages.specs.declared.message.Message.TheVariants.{Ab
 ghost use Rattle.courier_calls.specs.Table.{table_model, IsCheckedTable};
 ghost use Rattle.courier_messages.specs.Head.{with_words, words_in};
 ghost use Rattle.courier_calls.specs.Calls.{SeenModel, found};
-ghost use Rattle.courier_calls.specs.Caller.{abort_in, answer_to, head_fault, is_listed, IsReadAs, results_in, unasked};
+ghost use Rattle.courier_calls.specs.Caller.{abort_seen_as, answer_to, head_fault, is_answer_listed, IsReadAs, results_in, unasked};
 
 use crate::call::Seen;
 use crate::table::Table;
@@ -59,9 +59,9 @@ fn read_abort(
     message: &PiecedMessage,
 ) -> Result<Seen, SessionFault>
     requires { IsCheckedTable (table_model table.now) }
-    ensures read { IsReadAs result (abort_in (found (table_model table.now) target.program target.version target.procedure) error
+    ensures read { IsReadAs result (abort_seen_as (found (table_model table.now) target.program target.version target.procedure) error
         (words_in message.now)) }
-    ensures memory { result ≡ Err NoMemory → (transaction : ℕ) → is_listed (found (table_model table.now) target.program
+    ensures memory { result ≡ Err NoMemory → (transaction : ℕ) → is_answer_listed (found (table_model table.now) target.program
         target.version target.procedure) (Abort transaction error (words_in message.now)) ≡ true }
 {
     let Ok((entry, _)) = table.find(target.program, target.version, target.procedure) else {
@@ -118,8 +118,8 @@ pub fn read_answer(
 
 /// Whether the table lists what a message with this head brings as the answer to the call: results of its procedure, or
 /// an error of its program.
-fn is_listed(table: &Table, target: Target, head: Head) -> bool
-    ensures { (words : List ℕ) → result ≡ is_listed (found (table_model table.now) target.program target.version target.procedure)
+fn is_answer_listed(table: &Table, target: Target, head: Head) -> bool
+    ensures { (words : List ℕ) → result ≡ is_answer_listed (found (table_model table.now) target.program target.version target.procedure)
         (with_words head words) }
 {
     match head {
@@ -158,7 +158,7 @@ pub fn head_fault(
     };
     if transaction != expects {
         Some(SessionFault::WrongTransaction)
-    } else if is_listed(table, target, head) {
+    } else if is_answer_listed(table, target, head) {
         None
     } else {
         Some(SessionFault::BadReply)

@@ -3,7 +3,7 @@ ghost use Rattle.std.specs.Prelude.{◌≡◌, [], ◌≤◌, ◌*◌, length, I
 ghost use Rattle.courier_messages.specs.Message.{message_words, most_words};
 ghost use Rattle.courier_calls.specs.Table.{entry_model, procedure_model};
 ghost use Rattle.courier_calls.specs.Calls.{AllowsOutcome, outcome_model, seen_of, unlisted_model, arguments_model, raw_call};
-ghost use Rattle.courier_calls.specs.Written.{IsWritten};
+ghost use Rattle.courier_calls.specs.Written.{IsOfArguments};
 ghost use Rattle.courier_calls.specs.Calls.{SeenModel, invalid_arguments};
 ghost use Rattle.courier_calls.specs.Answers.{answer_message};
 ghost use Rattle.courier_messages.specs.RawCalls.{call_message};
@@ -92,7 +92,7 @@ pub fn call_words(
     written: Written,
     spare: &mut Spare,
 ) -> Result<Vec<u16>, AllocError>
-    requires { IsWritten (arguments_model call.now.arguments) written }
+    requires { IsOfArguments (arguments_model call.now.arguments) written }
     ensures { IfOk result (λ w. w.items ≡ message_words (call_message transaction (raw_call call.now))) }
 {
     let high = (call.program / 65536) as u16;

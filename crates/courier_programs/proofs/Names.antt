@@ -10,7 +10,7 @@ use Rattle.courier_programs.specs.declared.program.Program.{Program}
 use Rattle.courier_programs.specs.Laws.{IsDeclared, IsDeclaredAs, ReferredTypeIsDeclared}
 use Rattle.courier_programs.specs.Meanings.{MeaningList, MeaningModel, meaning_of, meanings_seen}
 use Rattle.courier_programs.specs.Refused.{NameFault, ◌>>=◌}
-use Rattle.courier_programs.specs.Scopes.{Env, look_up, program_named, text_of, type_by, type_named}
+use Rattle.courier_programs.specs.Scopes.{Env, look_up, program_named, name_text, type_by, type_named}
 
 pub same_bytes : (xs ys : List ℕ) → bytes_eq xs ys ≡ true → xs ≡ ys
 same_bytes xs ys h = (bytes_eq-Decides xs ys).0 h
@@ -44,14 +44,14 @@ meant_type e r (Some MeaningModel.error) t h = absurd (cc)
 meant_type e r None t h = absurd (cc)
 
 of_program : (e : Env) (program name : ℕ) (found : Result Program NameFault) (t : NamedModel × ℕ) → program_named e program ≡ found
-    → ((found >>= λ p. Ok (meaning_of (meanings_seen p.meanings.items) (text_of e.names name))) >>= λ m. type_by e (references.Other program name) m) ≡ Ok t
+    → ((found >>= λ p. Ok (meaning_of (meanings_seen p.meanings.items) (name_text e.names name))) >>= λ m. type_by e (references.Other program name) m) ≡ Ok t
     → IsDeclaredAs e (references.Other program name) (MeaningModel.type t.0 t.1)
 of_program e program name (Ok p) t is h =
-    (p, is, found_is_declared (meanings_seen p.meanings.items) (text_of e.names name) (MeaningModel.type t.0 t.1) (meant_type e (references.Other program name) (meaning_of (meanings_seen p.meanings.items) (text_of e.names name)) t h))
+    (p, is, found_is_declared (meanings_seen p.meanings.items) (name_text e.names name) (MeaningModel.type t.0 t.1) (meant_type e (references.Other program name) (meaning_of (meanings_seen p.meanings.items) (name_text e.names name)) t h))
 of_program e program name (Err f) t is h = absurd (cc)
 
 pub type_is_declared : ReferredTypeIsDeclared
 unfolding type_named look_up
 type_is_declared e (references.Own name) t h =
-    found_is_declared e.meanings (text_of e.names name) (MeaningModel.type t.0 t.1) (meant_type e (references.Own name) (meaning_of e.meanings (text_of e.names name)) t h)
+    found_is_declared e.meanings (name_text e.names name) (MeaningModel.type t.0 t.1) (meant_type e (references.Own name) (meaning_of e.meanings (name_text e.names name)) t h)
 type_is_declared e (references.Other program name) t h = of_program e program name (program_named e program) t refl h

@@ -12,10 +12,10 @@ use Rattle.courier_programs.specs.declared.name_reason.NameReason.TheVariants as
 use Rattle.courier_programs.specs.declared.program.Program.{Program}
 use Rattle.courier_programs.specs.Declarations.{Addition, adds_meaning, adds_procedure, adds_error, constant_meant, constant_value, declaration_meant, declaration_step, env_at, error_meant, is_type, most_depth, most_type_parts, once_meant, own_text, procedure_meant, record_shape, settled, sound, whole_fields, whole_type, with_addition}
 use Rattle.courier_programs.specs.Laws.{AreFieldsNamed, AreTypesNamed, IsDeclared, IsErrorNamed, IsMeaningNamed, IsProcedureNamed}
-use Rattle.courier_programs.specs.Meanings.{ErrorModel, FieldsModel, MeaningList, MeaningModel, ProcedureModel, ResolvedModel, components_from, meanings_seen, resolved_model}
+use Rattle.courier_programs.specs.Meanings.{ResolvedError, FieldsModel, MeaningList, MeaningModel, ResolvedProcedure, ResolvedModel, components_from, meanings_seen, resolved_model}
 use Rattle.courier_programs.specs.Refused.{NameFault, ◌>>=◌, steps}
 use Rattle.courier_programs.specs.Resolving.{dependency_step, empty_program, reports_step, resolved, with_dependencies, with_reports}
-use Rattle.courier_programs.specs.Scopes.{Env, depended_upon, dependency_of, program_by, program_named, read_or_unknown, spent, text_of, type_named, word_of}
+use Rattle.courier_programs.specs.Scopes.{Env, depended_upon, dependency_of, program_by, program_named, read_or_unknown, spent, name_text, type_named, word_of}
 use Rattle.courier_programs.specs.Types.{array_meant, candidates_meant, choice_meant, components_meant, enumeration_meant, fields_meant, maximum_of, member_step, referred, sequence_meant, tag_members, type_level_meant, type_meant, variants_from}
 use Rattle.courier_programs.proofs.Names.{type_is_declared}
 use Rattle.courier_programs.proofs.Results.{bind_ok, done, ok_is, over_ok}
@@ -58,11 +58,11 @@ upon_named e name None p before is = absurd (cc)
 
 referred_named : (e : Env) → IsEnvNamed e → (r : Reference) (t : NamedModel × ℕ) → type_named e r ≡ Ok t → IsNamed t.0
 unfolding program_named
-referred_named e env (references.Own name) t is = meaning_named e.meanings (text_of e.names name) t.0 t.1 env.meanings (type_is_declared e (references.Own name) t is)
+referred_named e env (references.Own name) t is = meaning_named e.meanings (name_text e.names name) t.0 t.1 env.meanings (type_is_declared e (references.Own name) t is)
 referred_named e env (references.Other program name) t is =
     let d = type_is_declared e (references.Other program name) t is in
     let named = upon_named e program (dependency_of e.names e.dependencies program) d.0 env.before d.1 in
-    meaning_named (meanings_seen d.0.meanings.items) (text_of e.names name) t.0 t.1 named.meanings d.2
+    meaning_named (meanings_seen d.0.meanings.items) (name_text e.names name) t.0 t.1 named.meanings d.2
 
 -- ---- types
 
@@ -161,13 +161,13 @@ added_named e env p (DeclaredModel.is_constant type c) room added is inside =
 added_named e env p (DeclaredModel.is_procedure arguments results errors n) room added is inside =
     let a = bind_ok (whole_fields e arguments room) _ added is in
     let r = bind_ok (whole_fields e results a.0.1) _ added a.2 in
-    let q : ProcedureModel = record { name = own_text e; number = n; arguments = a.0.0; results = r.0.0 } in
+    let q : ResolvedProcedure = record { name = own_text e; number = n; arguments = a.0.0; results = r.0.0 } in
     let last = cond_ok _ _ (Ok (adds_procedure q, r.0.1)) added r.2 in
     subst (λ (x : Addition × ℕ). IsAdditionNamed x.0) (ok_is (adds_procedure q, r.0.1) added last)
     (whole_fields_named e env arguments room a.0 a.1 inside.0, whole_fields_named e env results a.0.1 r.0 r.1 inside.1)
 added_named e env p (DeclaredModel.is_error arguments n) room added is inside =
     let a = bind_ok (whole_fields e arguments room) _ added is in
-    let r : ErrorModel = record { name = own_text e; number = n; arguments = a.0.0 } in
+    let r : ResolvedError = record { name = own_text e; number = n; arguments = a.0.0 } in
     let last = cond_ok _ _ (Ok (adds_error r, a.0.1)) added a.2 in
     subst (λ (x : Addition × ℕ). IsAdditionNamed x.0) (ok_is (adds_error r, a.0.1) added last) (whole_fields_named e env arguments room a.0 a.1 inside)
 
@@ -198,7 +198,7 @@ step_named names before dependencies all st d next is inside named =
     let added = bind_ok (once_meant e st.0 d st.1) _ next is in
     let meant = cond_ok _ _ (declaration_meant e st.0 d.1 st.1) added.0 added.1 in
     let one = added_named e (record { meanings = named.meanings; before = all }) st.0 d.1 st.1 added.0 meant inside in
-    subst (λ (n : ResolvedModel × ℕ). AreTypesNamed n.0) (ok_is _ next added.2) (with_addition_named st.0 (text_of names d.0) added.0.0 named one)
+    subst (λ (n : ResolvedModel × ℕ). AreTypesNamed n.0) (ok_is _ next added.2) (with_addition_named st.0 (name_text names d.0) added.0.0 named one)
 
 pub resolved_named : (names : List (List ℕ)) (before : List Program) (w : ProgramModel) (p : ResolvedModel) → resolved names before w ≡ Ok p → AreBefore before
     → AllByRecursion (λ d. DeclaredIn names d.1) w.declarations → AreTypesNamed p

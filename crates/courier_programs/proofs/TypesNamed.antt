@@ -11,7 +11,7 @@ use Rattle.courier_texts.specs.Named.{NamedModel}
 use Rattle.courier_programs.specs.Meanings.{Components, components_from}
 use Rattle.courier_programs.specs.Refused.{NameFault, steps}
 use Rattle.courier_programs.proofs.Results.{bind_ok, ok_is}
-use Rattle.courier_programs.specs.Scopes.{Env, spent, text_of}
+use Rattle.courier_programs.specs.Scopes.{Env, spent, name_text}
 use Rattle.courier_programs.specs.Types.{Candidates, Designators, Members, candidate_group, candidate_step, candidates_meant, component_step, components_meant, designator_step, designator_word, member_step, member_word, named_part, new_name, once, variants_from, word_by_name}
 
 -- ---- steps
@@ -54,12 +54,12 @@ is_none_of : {A : Type 0} (o : Option A) (e : NameFault) → cond (is_some o) (E
 is_none_of (Some x) e h = absurd (cc)
 is_none_of None e h = refl
 
-name_was_new : (e : Env) (ms : Members) (name : ℕ) → new_name e ms name ≡ Ok tt → word_by_name ms (text_of e.names name) ≡ None
-name_was_new e ms name is = is_none_of (word_by_name ms (text_of e.names name)) _ is
+name_was_new : (e : Env) (ms : Members) (name : ℕ) → new_name e ms name ≡ Ok tt → word_by_name ms (name_text e.names name) ≡ None
+name_was_new e ms name is = is_none_of (word_by_name ms (name_text e.names name)) _ is
 
 -- the name is plain, as those of the notation are
 abbrev pub IsPlainIn : List (List ℕ) → ℕ → Type 0
-IsPlainIn names name = is_plain_name (text_of names name) ≡ true
+IsPlainIn names name = is_plain_name (name_text names name) ≡ true
 
 -- the names of members and candidates in a type that is written are plain
 abbrev mutual
@@ -87,8 +87,8 @@ member_named e st m next is plain have =
     let word = bind_ok (member_word e st.0 m) _ next room.2 in
     let new = bind_ok (new_name e st.0 m.0) _ word.0 word.1 in
     let none = name_was_new e st.0 m.0 new.1 in
-    let more = have_more st.0 (text_of e.names m.0) word.0 have plain none in
-    let same : (st.0 ++ (text_of e.names m.0, word.0) ∷ [], room.0) ≡ next = ok_is _ next word.2 in
+    let more = have_more st.0 (name_text e.names m.0) word.0 have plain none in
+    let same : (st.0 ++ (name_text e.names m.0, word.0) ∷ [], room.0) ≡ next = ok_is _ next word.2 in
     subst (λ (n : Members × ℕ). HaveNames n.0) same more
 
 -- ---- components
@@ -106,13 +106,13 @@ MakesAll names one = (type : TypeModel) → NamesIn names type → Makes (one ty
 
 -- a part that is made is of that name, and its type is named
 part_named : (e : Env) (one : ℕ → Result (NamedModel × ℕ) NameFault) → Makes one → (room name : ℕ) (part : (List ℕ × NamedModel) × ℕ) → named_part e one room name ≡ Ok part
-    → IsNamed part.0.1 × (text_of e.names name ≡ part.0.0)
+    → IsNamed part.0.1 × (name_text e.names name ≡ part.0.0)
 unfolding named_part
 part_named e one makes room name part is =
     let left = bind_ok (spent e room 1) _ part is in
     let t = bind_ok (one left.0) _ part left.2 in
-    let same : ((text_of e.names name, t.0.0), t.0.1) ≡ part = ok_is _ part t.2 in
-    subst (λ (p : (List ℕ × NamedModel) × ℕ). IsNamed p.0.1 × (text_of e.names name ≡ p.0.0)) same (makes left.0 t.0 t.1, refl)
+    let same : ((name_text e.names name, t.0.0), t.0.1) ≡ part = ok_is _ part t.2 in
+    subst (λ (p : (List ℕ × NamedModel) × ℕ). IsNamed p.0.1 × (name_text e.names name ≡ p.0.0)) same (makes left.0 t.0 t.1, refl)
 
 component_named : (e : Env) (one : ℕ → Result (NamedModel × ℕ) NameFault) → Makes one → (st : Components × ℕ) (name : ℕ) (next : Components × ℕ) → component_step e one st name ≡ Ok next
     → AreComponentsNamed (components_from st.0) → AreComponentsNamed (components_from next.0)
@@ -146,7 +146,7 @@ abbrev candidate_names : Candidates → List (List ℕ)
 candidate_names cs = map (λ c. c.0) cs
 
 abbrev chosen_names : Env → List (ℕ × ℕ) → List (List ℕ)
-chosen_names e ds = map (λ d. text_of e.names d.0) ds
+chosen_names e ds = map (λ d. name_text e.names d.0) ds
 
 abbrev AreMade : Candidates → Type 0
 AreMade cs = AllByRecursion (λ c. IsNamed c.1.1) cs
@@ -189,11 +189,11 @@ designator_named e tag front st d next is plain taken =
     let word = bind_ok (designator_word e tag st.0 d) _ next is in
     let new = bind_ok (new_name e st.0 d.0) _ word.0 word.1 in
     let none = name_was_new e st.0 d.0 new.1 in
-    let name = text_of e.names d.0 in
+    let name = name_text e.names d.0 in
     let next_is : (st.0 ++ (name, word.0) ∷ [], st.1 ++ (d.0, word.0) ∷ []) ≡ next = ok_is _ next word.2 in
     let behind : member_names (st.0 ++ (name, word.0) ∷ []) ≡ front ++ chosen_names e (st.1 ++ (d.0, word.0) ∷ []) =
     map_more (λ m. m.0) st.0 (name, word.0) ∙ ap (λ (ns : List (List ℕ)). ns ++ name ∷ []) taken.names
-    ∙ append_assoc front (chosen_names e st.1) (name ∷ []) ∙ ap (λ (ns : List (List ℕ)). front ++ ns) (sym (map_more (λ x. text_of e.names x.0) st.1 (d.0, word.0))) in
+    ∙ append_assoc front (chosen_names e st.1) (name ∷ []) ∙ ap (λ (ns : List (List ℕ)). front ++ ns) (sym (map_more (λ x. name_text e.names x.0) st.1 (d.0, word.0))) in
     subst (AreTaken e front) next_is (record { have = have_more st.0 name word.0 taken.have plain none; names = behind })
 
 candidates_named_as : (e : Env) (one : ℕ → Result (NamedModel × ℕ) NameFault) → Makes one → (chosen : List (ℕ × ℕ)) (st next : Candidates × ℕ) → steps (candidate_step e one) st chosen ≡ Ok next → AreMade st.0
@@ -206,7 +206,7 @@ candidates_named_as e one makes (d ∷ chosen) st next is made =
     let step = bind_ok (candidate_step e one st d) _ next is in
     let part = bind_ok (named_part e one st.1 d.0) _ step.0 step.1 in
     let one_made = part_named e one makes st.1 d.0 part.0 part.1 in
-    let name = text_of e.names d.0 in
+    let name = name_text e.names d.0 in
     let same : (st.0 ++ (part.0.0.0, (d.1, part.0.0.1)) ∷ [], part.0.1) ≡ step.0 = ok_is _ step.0 part.2 in
     let here : AreMade step.0.0 = subst (λ (n : Candidates × ℕ). AreMade n.0) same (all_more (λ c. IsNamed c.1.1) st.0 (part.0.0.0, (d.1, part.0.0.1)) made one_made.0) in
     let put : candidate_names (st.0 ++ (part.0.0.0, (d.1, part.0.0.1)) ∷ []) ≡ candidate_names st.0 ++ name ∷ [] =

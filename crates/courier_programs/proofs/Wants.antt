@@ -10,11 +10,11 @@ use Rattle.courier_programs.specs.declared.refusal.Refusal.TheVariants as refusa
 use Rattle.courier_notation.specs.ProgramModels.{FieldList}
 use Rattle.courier_programs.specs.Declarations.{most_depth, record_shape, sound, whole_fields}
 use Rattle.courier_programs.specs.Meanings.{Components, FieldsModel, components_from}
-use Rattle.courier_programs.specs.Memory.{FirstWasRead, HasFields, TypeWants}
+use Rattle.courier_programs.specs.Memory.{FirstWasRead, HasFields, ResolvedTypeWants}
 use Rattle.courier_programs.specs.Refused.{IfNoMemory, IsWanted, NameFault, ◌>>=◌, over}
 use Rattle.courier_programs.proofs.Results.{done, first_was_right, ok_is}
 use Rattle.courier_programs.specs.Resolving.{dependency_step}
-use Rattle.courier_programs.specs.Scopes.{Env, dependency_of, program_by, spent, text_of, type_named, word_of}
+use Rattle.courier_programs.specs.Scopes.{Env, dependency_of, program_by, spent, name_text, type_named, word_of}
 use Rattle.courier_programs.specs.Types.{array_meant, candidates_meant, choice_meant, components_meant, enumeration_meant, fields_meant, maximum_of, named_part, referred, sequence_meant, tag_members, type_level_meant, type_meant, variants_from}
 
 -- ---- answers
@@ -49,7 +49,7 @@ its_parts n room t is some =
     let same : t ≡ (n, room) = sym (ok_is (n, room) t is) in
     rw same at some
 
-level_wants : (e : Env) (one : TypeModel → ℕ → Result (NamedModel × ℕ) NameFault) (type : TypeModel) (room : ℕ) (t : NamedModel × ℕ) → type_level_meant e one type room ≡ Ok t → HasParts t.0 → TypeWants e type
+level_wants : (e : Env) (one : TypeModel → ℕ → Result (NamedModel × ℕ) NameFault) (type : TypeModel) (room : ℕ) (t : NamedModel × ℕ) → type_level_meant e one type room ≡ Ok t → HasParts t.0 → ResolvedTypeWants e type
 unfolding type_level_meant enumeration_meant array_meant sequence_meant fields_meant components_meant choice_meant referred
 level_wants e one TypeModel.boolean room t is some = its_parts NamedModel.boolean room t is some
 level_wants e one TypeModel.cardinal room t is some = its_parts NamedModel.cardinal room t is some
@@ -67,12 +67,12 @@ level_wants e one (TypeModel.fields (field_and names type groups)) room t is som
 level_wants e one (TypeModel.choice tag groups) room t is some = first_was_right (tag_members e tag) (λ members. over (λ all. NamedModel.choice (variants_from all)) (candidates_meant e members one [] ([], room) groups)) t is
 level_wants e one (TypeModel.named r) room t is some = first_was_right (type_named e r) (λ found. spent e room (found.1 - 1) >>= λ left. Ok (found.0, left)) t is
 
-behind_room : (e : Env) (one : TypeModel → ℕ → Result (NamedModel × ℕ) NameFault) (type : TypeModel) (room : Result ℕ NameFault) (t : NamedModel × ℕ) → (room >>= λ left. type_level_meant e one type left) ≡ Ok t → HasParts t.0 → TypeWants e type
+behind_room : (e : Env) (one : TypeModel → ℕ → Result (NamedModel × ℕ) NameFault) (type : TypeModel) (room : Result ℕ NameFault) (t : NamedModel × ℕ) → (room >>= λ left. type_level_meant e one type left) ≡ Ok t → HasParts t.0 → ResolvedTypeWants e type
 behind_room e one type (Ok left) t is some = level_wants e one type left t is some
 behind_room e one type (Err fault) t is some = absurd (cc)
 
 -- a type that has parts wanted memory
-pub type_wants : (e : Env) (depth : ℕ) (type : TypeModel) (room : ℕ) (t : NamedModel × ℕ) → type_meant e depth type room ≡ Ok t → HasParts t.0 → TypeWants e type
+pub type_wants : (e : Env) (depth : ℕ) (type : TypeModel) (room : ℕ) (t : NamedModel × ℕ) → type_meant e depth type room ≡ Ok t → HasParts t.0 → ResolvedTypeWants e type
 unfolding type_meant
 type_wants e zero type room t is some = absurd (cc)
 type_wants e (suc depth) type room t is some = behind_room e (type_meant e depth) type (spent e room 1) t is some
@@ -85,7 +85,7 @@ had_room e groups room x is = first_was_right (spent e room 1) (λ left. compone
 -- a part that was made had room
 pub part_had_room : (e : Env) (one : ℕ → Result (NamedModel × ℕ) NameFault) (room name : ℕ) (x : (List ℕ × NamedModel) × ℕ) → named_part e one room name ≡ Ok x → IsOk (spent e room 1)
 unfolding named_part
-part_had_room e one room name x is = first_was_right (spent e room 1) (λ left. one left >>= λ t. Ok ((text_of e.names name, t.0), t.1)) x is
+part_had_room e one room name x is = first_was_right (spent e room 1) (λ left. one left >>= λ t. Ok ((name_text e.names name, t.0), t.1)) x is
 
 -- ---- dependencies
 

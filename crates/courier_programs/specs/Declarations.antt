@@ -18,9 +18,9 @@ use Rattle.courier_programs.specs.declared.declarations.Added.TheVariants as add
 use Rattle.courier_programs.specs.declared.limits.TheConstants.{MOST_TYPE_PARTS}
 use Rattle.courier_programs.specs.declared.name_reason.NameReason.TheVariants as reasons
 use Rattle.courier_programs.specs.declared.program.Program.{Program}
-use Rattle.courier_programs.specs.Meanings.{Components, components_from, FieldsModel, ProcedureModel, ErrorModel, MeaningModel, MeaningList, meaning_of, ResolvedModel, meaning_model, procedure_model, error_model}
+use Rattle.courier_programs.specs.Meanings.{Components, components_from, FieldsModel, ResolvedProcedure, ResolvedError, MeaningModel, MeaningList, meaning_of, ResolvedModel, meaning_model, resolved_procedure, resolved_error}
 use Rattle.courier_programs.specs.Refused.{NameFault, ◌>>=◌}
-use Rattle.courier_programs.specs.Scopes.{Env, text_of, value_named, spent}
+use Rattle.courier_programs.specs.Scopes.{Env, name_text, value_named, spent}
 use Rattle.courier_programs.specs.Types.{type_meant, components_meant}
 
 abbrev pub most_depth : ℕ
@@ -32,13 +32,13 @@ most_type_parts = MOST_TYPE_PARTS
 -- ---- whole types
 
 -- the first fault of a shape is told at the name that is declared
-abbrev pub told_at : Env → Option ShapeFault → Result (Unit {0}) NameFault
-told_at e None = Ok tt
-told_at e (Some shape_faults.TooDeep) = Err (e.own, reasons.TooDeep)
-told_at e (Some _) = Err (e.own, reasons.NoWords)
+abbrev pub fault_at_name : Env → Option ShapeFault → Result (Unit {0}) NameFault
+fault_at_name e None = Ok tt
+fault_at_name e (Some shape_faults.TooDeep) = Err (e.own, reasons.TooDeep)
+fault_at_name e (Some _) = Err (e.own, reasons.NoWords)
 
 abbrev pub sound : Env → ShapeModel → Result (Unit {0}) NameFault
-sound e shape = told_at e (shape_fault shape)
+sound e shape = fault_at_name e (shape_fault shape)
 
 -- a type that stands by itself
 unfoldable pub whole_type : Env → TypeModel → ℕ → Result (NamedModel × ℕ) NameFault
@@ -57,13 +57,13 @@ whole_fields e groups room =
 
 pub data Addition : Type 0 where
   adds_meaning : MeaningModel → Addition
-  adds_procedure : ProcedureModel → Addition
-  adds_error : ErrorModel → Addition
+  adds_procedure : ResolvedProcedure → Addition
+  adds_error : ResolvedError → Addition
 
 abbrev pub addition_of : Added → Addition
 addition_of (additions.Meaning m) = adds_meaning (meaning_model m)
-addition_of (additions.Procedure p) = adds_procedure (procedure_model p)
-addition_of (additions.Error r) = adds_error (error_model r)
+addition_of (additions.Procedure p) = adds_procedure (resolved_procedure p)
+addition_of (additions.Error r) = adds_error (resolved_error r)
 
 -- a type that is recursive stands for none, and takes no room
 abbrev pub settled : ℕ → Result (NamedModel × ℕ) NameFault → Result (Addition × ℕ) NameFault
@@ -80,28 +80,28 @@ unfoldable pub constant_meant : Env → TypeModel → Constant → ℕ → Resul
 constant_meant e type constant room = whole_type e type room >>= λ t. (constant_value e constant >>= λ value. Ok (adds_meaning (MeaningModel.constant value), t.1))
 
 -- the procedure of that number
-abbrev pub procedure_by : List ProcedureModel → ℕ → Option ProcedureModel
+abbrev pub procedure_by : List ResolvedProcedure → ℕ → Option ResolvedProcedure
 procedure_by procedures number = find (λ p. p.number == number) procedures
 
 -- the error of that number
-abbrev pub error_by : List ErrorModel → ℕ → Option ErrorModel
+abbrev pub error_by : List ResolvedError → ℕ → Option ResolvedError
 error_by errors number = find (λ r. r.number == number) errors
 
 abbrev pub own_text : Env → List ℕ
-own_text e = text_of e.names e.own
+own_text e = name_text e.names e.own
 
-abbrev pub new_procedure : Env → List ProcedureModel → ProcedureModel → ℕ → Result (Addition × ℕ) NameFault
+abbrev pub new_procedure : Env → List ResolvedProcedure → ResolvedProcedure → ℕ → Result (Addition × ℕ) NameFault
 new_procedure e procedures p room = if is_some (procedure_by procedures p.number) then Err (e.own, reasons.DoubledNumber) else Ok (adds_procedure p, room)
 
-abbrev pub new_error : Env → List ErrorModel → ErrorModel → ℕ → Result (Addition × ℕ) NameFault
+abbrev pub new_error : Env → List ResolvedError → ResolvedError → ℕ → Result (Addition × ℕ) NameFault
 new_error e errors r room = if is_some (error_by errors r.number) then Err (e.own, reasons.DoubledNumber) else Ok (adds_error r, room)
 
-unfoldable pub procedure_meant : Env → List ProcedureModel → FieldList → FieldList → ℕ → ℕ → Result (Addition × ℕ) NameFault
+unfoldable pub procedure_meant : Env → List ResolvedProcedure → FieldList → FieldList → ℕ → ℕ → Result (Addition × ℕ) NameFault
 procedure_meant e procedures arguments results number room =
     whole_fields e arguments room >>= λ a. (whole_fields e results a.1
     >>= λ r. new_procedure e procedures (record { name = own_text e; number = number; arguments = a.0; results = r.0 }) r.1)
 
-unfoldable pub error_meant : Env → List ErrorModel → FieldList → ℕ → ℕ → Result (Addition × ℕ) NameFault
+unfoldable pub error_meant : Env → List ResolvedError → FieldList → ℕ → ℕ → Result (Addition × ℕ) NameFault
 error_meant e errors arguments number room =
     whole_fields e arguments room >>= λ a. new_error e errors (record { name = own_text e; number = number; arguments = a.0 }) a.1
 
@@ -135,10 +135,10 @@ env_at names before dependencies meanings own type = record {
 
 -- what a declaration adds, if its name differs from those before
 abbrev pub once_meant : Env → ResolvedModel → ℕ × DeclaredModel → ℕ → Result (Addition × ℕ) NameFault
-once_meant e p d room = if is_some (meaning_of p.meanings (text_of e.names d.0)) then Err (d.0, reasons.DoubledName) else declaration_meant e p d.1 room
+once_meant e p d room = if is_some (meaning_of p.meanings (name_text e.names d.0)) then Err (d.0, reasons.DoubledName) else declaration_meant e p d.1 room
 
 -- the program behind a declaration, and what is left of the room for parts
 unfoldable pub declaration_step : List (List ℕ) → List Program → List Dependency → ResolvedModel × ℕ → ℕ × DeclaredModel → Result (ResolvedModel × ℕ) NameFault
 declaration_step names before dependencies st d =
     once_meant (env_at names before dependencies st.0.meanings d.0 (is_type d.1)) st.0 d st.1
-    >>= λ added. Ok (with_addition st.0 (text_of names d.0) added.0, added.1)
+    >>= λ added. Ok (with_addition st.0 (name_text names d.0) added.0, added.1)

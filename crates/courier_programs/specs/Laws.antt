@@ -6,8 +6,8 @@ use Rattle.courier_notation.specs.declared.written.Reference.TheVariants as refe
 use Rattle.courier_texts.specs.Laws.{AreComponentsNamed, IsNamed}
 use Rattle.courier_texts.specs.Named.{NamedModel}
 use Rattle.courier_programs.specs.declared.program.Program.{Program}
-use Rattle.courier_programs.specs.Meanings.{ErrorModel, FieldsModel, MeaningList, MeaningModel, ProcedureModel, ResolvedModel, components_from, meaning_of, meanings_seen, resolved_model}
-use Rattle.courier_programs.specs.Scopes.{Env, program_named, text_of, type_named}
+use Rattle.courier_programs.specs.Meanings.{ResolvedError, FieldsModel, MeaningList, MeaningModel, ResolvedProcedure, ResolvedModel, components_from, meaning_of, meanings_seen, resolved_model}
+use Rattle.courier_programs.specs.Scopes.{Env, program_named, name_text, type_named}
 use Rattle.courier_programs.specs.Texts.{text_meant}
 
 -- the name was declared as that, and no declaration before has it
@@ -19,9 +19,9 @@ pub record IsDeclared (meanings : MeaningList) (name : List ℕ) (meaning : Mean
 
 -- a reference means this: what the same program declared before, or what the program declares that is depended upon by the first name
 abbrev pub IsDeclaredAs : Env → Reference → MeaningModel → Type 0
-IsDeclaredAs e (references.Own name) meaning = IsDeclared e.meanings (text_of e.names name) meaning
+IsDeclaredAs e (references.Own name) meaning = IsDeclared e.meanings (name_text e.names name) meaning
 IsDeclaredAs e (references.Other program name) meaning =
-    (p : Program) × (program_named e program ≡ Ok p) × IsDeclared (meanings_seen p.meanings.items) (text_of e.names name) meaning
+    (p : Program) × (program_named e program ≡ Ok p) × IsDeclared (meanings_seen p.meanings.items) (name_text e.names name) meaning
 
 -- what a reference stands for as a type was declared as that type
 abbrev pub ReferredTypeIsDeclared : Type 0
@@ -38,10 +38,10 @@ IsMeaningNamed _ = Unit {0}
 abbrev pub AreFieldsNamed : FieldsModel → Type 0
 AreFieldsNamed fields = AreComponentsNamed (components_from fields.0)
 
-abbrev pub IsProcedureNamed : ProcedureModel → Type 0
+abbrev pub IsProcedureNamed : ResolvedProcedure → Type 0
 IsProcedureNamed p = AreFieldsNamed p.arguments × AreFieldsNamed p.results
 
-abbrev pub IsErrorNamed : ErrorModel → Type 0
+abbrev pub IsErrorNamed : ResolvedError → Type 0
 IsErrorNamed r = AreFieldsNamed r.arguments
 
 -- members and candidates in all that a program declares have names of their own

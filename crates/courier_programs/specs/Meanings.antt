@@ -31,22 +31,22 @@ FieldsModel = Components × ShapeModel
 abbrev pub fields_model : Fields → FieldsModel
 fields_model fields = (components_seen fields.components.items, shape_model fields.shape)
 
-pub record ProcedureModel : Type 0 where
+pub record ResolvedProcedure : Type 0 where
   pub name : List ℕ
   pub number : ℕ
   pub arguments : FieldsModel
   pub results : FieldsModel
 
-abbrev pub procedure_model : Procedure → ProcedureModel
-procedure_model p = record { name = p.name.items; number = p.number; arguments = fields_model p.arguments; results = fields_model p.results }
+abbrev pub resolved_procedure : Procedure → ResolvedProcedure
+resolved_procedure p = record { name = p.name.items; number = p.number; arguments = fields_model p.arguments; results = fields_model p.results }
 
-pub record ErrorModel : Type 0 where
+pub record ResolvedError : Type 0 where
   pub name : List ℕ
   pub number : ℕ
   pub arguments : FieldsModel
 
-abbrev pub error_model : RemoteError → ErrorModel
-error_model e = record { name = e.name.items; number = e.number; arguments = fields_model e.arguments }
+abbrev pub resolved_error : RemoteError → ResolvedError
+resolved_error e = record { name = e.name.items; number = e.number; arguments = fields_model e.arguments }
 
 pub data MeaningModel : Type 0 where
   type : NamedModel → ℕ → MeaningModel
@@ -78,8 +78,8 @@ pub record ResolvedModel : Type 0 where
   pub number : ℕ
   pub version : ℕ
   pub meanings : MeaningList
-  pub procedures : List ProcedureModel
-  pub errors : List ErrorModel
+  pub procedures : List ResolvedProcedure
+  pub errors : List ResolvedError
 
 abbrev pub resolved_model : Program → ResolvedModel
 resolved_model p = record {
@@ -87,6 +87,6 @@ resolved_model p = record {
   number = p.number;
   version = p.version;
   meanings = meanings_seen p.meanings.items;
-  procedures = map procedure_model p.procedures.items;
-  errors = map error_model p.errors.items;
+  procedures = map resolved_procedure p.procedures.items;
+  errors = map resolved_error p.errors.items;
 }

@@ -7,7 +7,7 @@ use Rattle.courier_notation.specs.Written.{TypeModel, FieldModels, no_fields, fi
 use Rattle.courier_programs.specs.declared.declarations.Added.{Added}
 use Rattle.courier_programs.specs.declared.declarations.Added.TheVariants as additions
 use Rattle.courier_programs.specs.declared.program.Program.{Program}
-use Rattle.courier_programs.specs.Scopes.{Env, program_by, spent, text_of, type_named, word_of}
+use Rattle.courier_programs.specs.Scopes.{Env, program_by, spent, name_text, type_named, word_of}
 use Rattle.courier_programs.specs.Types.{maximum_of, tag_members}
 
 abbrev pub HasFields : FieldModels → Type 0
@@ -16,33 +16,33 @@ HasFields (field_and names type groups) = Unit {0}
 
 -- The type has members, elements, components or candidates, or is named. The number, the maximum, the enumeration of the
 -- designators and the name in front of them are right.
-abbrev pub TypeWants : Env → TypeModel → Type 0
-TypeWants e (TypeModel.enumeration members) = 0 < length members
-TypeWants e (TypeModel.array count element) = IsOk (word_of e count)
-TypeWants e (TypeModel.sequence most element) = IsOk (maximum_of e most)
-TypeWants e (TypeModel.fields groups) = HasFields groups
-TypeWants e (TypeModel.choice tag groups) = IsOk (tag_members e tag)
-TypeWants e (TypeModel.named r) = IsOk (type_named e r)
-TypeWants e _ = ⊥
+abbrev pub ResolvedTypeWants : Env → TypeModel → Type 0
+ResolvedTypeWants e (TypeModel.enumeration members) = 0 < length members
+ResolvedTypeWants e (TypeModel.array count element) = IsOk (word_of e count)
+ResolvedTypeWants e (TypeModel.sequence most element) = IsOk (maximum_of e most)
+ResolvedTypeWants e (TypeModel.fields groups) = HasFields groups
+ResolvedTypeWants e (TypeModel.choice tag groups) = IsOk (tag_members e tag)
+ResolvedTypeWants e (TypeModel.named r) = IsOk (type_named e r)
+ResolvedTypeWants e _ = ⊥
 
 -- what a declaration adds wants memory: a procedure or an error that there is room for, or a type or a constant whose type wants memory
-abbrev pub DeclaredWants : Env → DeclaredModel → ℕ → Type 0
-DeclaredWants e (DeclaredModel.is_type type) room = TypeWants e type
-DeclaredWants e (DeclaredModel.is_constant type constant) room = TypeWants e type
-DeclaredWants e _ room = IsOk (spent e room 1)
+abbrev pub AddedWants : Env → DeclaredModel → ℕ → Type 0
+AddedWants e (DeclaredModel.is_type type) room = ResolvedTypeWants e type
+AddedWants e (DeclaredModel.is_constant type constant) room = ResolvedTypeWants e type
+AddedWants e _ room = IsOk (spent e room 1)
 
-abbrev pub IsFull : {X : Type 0} → Vec X → Type 0
-IsFull v = vec_capacity v ≤ vec_len v
+abbrev pub IsFullVec : {X : Type 0} → Vec X → Type 0
+IsFullVec v = vec_capacity v ≤ vec_len v
 
 -- a program has no room for what is added, a name among its names, and a procedure or an error among its own
 abbrev pub AddingWants : Program → Added → Type 0
-AddingWants p (additions.Meaning m) = IsFull p.meanings
-AddingWants p (additions.Procedure q) = IsFull p.procedures ⊎ IsFull p.meanings
-AddingWants p (additions.Error r) = IsFull p.errors ⊎ IsFull p.meanings
+AddingWants p (additions.Meaning m) = IsFullVec p.meanings
+AddingWants p (additions.Procedure q) = IsFullVec p.procedures ⊎ IsFullVec p.meanings
+AddingWants p (additions.Error r) = IsFullVec p.errors ⊎ IsFullVec p.meanings
 
 -- a program has a name, or declares something
 abbrev pub DeclaringWants : List (List ℕ) → ProgramModel → Type 0
-DeclaringWants names w = (0 < length (text_of names w.name)) ⊎ (0 < length w.declarations)
+DeclaringWants names w = (0 < length (name_text names w.name)) ⊎ (0 < length w.declarations)
 
 -- what a program depends upon first was read
 abbrev pub FirstWasRead : List Program → List Dependency → Type 0

@@ -8,7 +8,7 @@ use Rattle.courier_programs.specs.declared.name_reason.NameReason.TheVariants as
 use Rattle.courier_programs.specs.declared.program.Program.{Program}
 use Rattle.courier_programs.specs.Meanings.{MeaningModel, ResolvedModel}
 use Rattle.courier_programs.specs.Refused.{NameFault, ◌>>=◌, steps}
-use Rattle.courier_programs.specs.Scopes.{Env, text_of, program_by, dependency_of, look_up, last_name}
+use Rattle.courier_programs.specs.Scopes.{Env, name_text, program_by, dependency_of, look_up, last_name}
 use Rattle.courier_programs.specs.Declarations.{declaration_step, env_at, most_type_parts}
 
 -- a dependency, whose name differs from those before, and which was read
@@ -33,7 +33,7 @@ reports_step e _ _ = Ok tt
 -- a program in which nothing is declared
 abbrev pub empty_program : List (List ℕ) → ProgramModel → ResolvedModel
 empty_program names w = record {
-  name = text_of names w.name;
+  name = name_text names w.name;
   number = w.number;
   version = w.version;
   meanings = [];

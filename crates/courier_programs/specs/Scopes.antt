@@ -43,8 +43,8 @@ text_or_none (Some text) = text
 text_or_none None = []
 
 -- the text of the name of that number
-abbrev pub text_of : List (List ℕ) → ℕ → List ℕ
-text_of names name = text_or_none (slice_get names name)
+abbrev pub name_text : List (List ℕ) → ℕ → List ℕ
+name_text names name = text_or_none (slice_get names name)
 
 -- the program that was read with that number and version
 abbrev pub program_by : List Program → ℕ → ℕ → Option Program
@@ -52,7 +52,7 @@ program_by programs number version = find (λ p. (p.number == number) && (p.vers
 
 -- the dependency of that name
 abbrev pub dependency_of : List (List ℕ) → List Dependency → ℕ → Option Dependency
-dependency_of names dependencies name = find (λ d. bytes_eq (text_of names d.name) (text_of names name)) dependencies
+dependency_of names dependencies name = find (λ d. bytes_eq (name_text names d.name) (name_text names name)) dependencies
 
 abbrev pub read_or_unknown : ℕ → Option Program → Result Program NameFault
 read_or_unknown name (Some p) = Ok p
@@ -68,10 +68,10 @@ program_named e name = depended_upon e name (dependency_of e.names e.dependencie
 
 -- what is referred to
 unfoldable pub look_up : Env → Reference → Result (Option MeaningModel) NameFault
-look_up e (references.Own name) = Ok (meaning_of e.meanings (text_of e.names name))
+look_up e (references.Own name) = Ok (meaning_of e.meanings (name_text e.names name))
 look_up e (references.Other program name) = do
   found ← program_named e program
-  Ok (meaning_of (meanings_seen found.meanings.items) (text_of e.names name))
+  Ok (meaning_of (meanings_seen found.meanings.items) (name_text e.names name))
 
 -- the name at which a reference is wrong
 abbrev pub last_name : Reference → ℕ
@@ -80,7 +80,7 @@ last_name (references.Other program name) = name
 
 -- a type's declaration refers to itself
 abbrev pub is_itself : Env → Reference → Bool
-is_itself e (references.Own name) = e.is_type && bytes_eq (text_of e.names name) (text_of e.names e.own)
+is_itself e (references.Own name) = e.is_type && bytes_eq (name_text e.names name) (name_text e.names e.own)
 is_itself e (references.Other program name) = false
 
 abbrev pub type_by : Env → Reference → Option MeaningModel → Result (NamedModel × ℕ) NameFault

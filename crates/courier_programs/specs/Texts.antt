@@ -21,10 +21,10 @@ abbrev pub TextFault : Type 0
 TextFault = ℕ × ProgramReason
 
 -- a text was read as that program, or has that first fault, unless memory ran out
-abbrev pub Reads : {X Y : Type 0} → (X → Y) → Result X ProgramRefusal → Result Y TextFault → Type 0
-Reads view (Ok x) read = read ≡ Ok (view x)
-Reads view (Err (refusals.Wrong place reason)) read = read ≡ Err (place, reason)
-Reads view (Err refusals.NoMemory) read = Unit {0}
+abbrev pub ReadsProgram : {X Y : Type 0} → (X → Y) → Result X ProgramRefusal → Result Y TextFault → Type 0
+ReadsProgram view (Ok x) read = read ≡ Ok (view x)
+ReadsProgram view (Err (refusals.Wrong place reason)) read = read ≡ Err (place, reason)
+ReadsProgram view (Err refusals.NoMemory) read = Unit {0}
 
 -- P holds where memory was refused
 abbrev pub IfNoMemory : {X : Type 0} → Result X ProgramRefusal → Type 0 → Type 0

@@ -12,7 +12,7 @@ use Rattle.courier_texts.specs.Named.{NamedModel, named_model, VariantModels, no
 use Rattle.courier_programs.specs.declared.name_reason.NameReason.TheVariants as reasons
 use Rattle.courier_programs.specs.Meanings.{Components, components_from}
 use Rattle.courier_programs.specs.Refused.{NameFault, ◌>>=◌, over, steps}
-use Rattle.courier_programs.specs.Scopes.{Env, text_of, last_name, type_named, word_of, spent}
+use Rattle.courier_programs.specs.Scopes.{Env, name_text, last_name, type_named, word_of, spent}
 
 -- members of an enumeration, or designators: their names and words
 abbrev pub Members : Type 0
@@ -22,16 +22,16 @@ Members = List (List ℕ × ℕ)
 abbrev pub word_by_name : Members → List ℕ → Option ℕ
 word_by_name members name = option_map (λ m. m.1) (find (λ m. bytes_eq m.0 name) members)
 
-abbrev pub has_word : Members → ℕ → Bool
-has_word members word = list_any (λ m. nat_eq m.1 word) members
+abbrev pub lists_word : Members → ℕ → Bool
+lists_word members word = list_any (λ m. nat_eq m.1 word) members
 
 -- no member before has that name
 abbrev pub new_name : Env → Members → ℕ → Result (Unit {0}) NameFault
-new_name e members name = if is_some (word_by_name members (text_of e.names name)) then Err (name, reasons.DoubledName) else Ok tt
+new_name e members name = if is_some (word_by_name members (name_text e.names name)) then Err (name, reasons.DoubledName) else Ok tt
 
 -- no member before has that word
 abbrev pub new_word : Members → ℕ → ℕ → Result ℕ NameFault
-new_word members name word = if has_word members word then Err (name, reasons.DoubledWord) else Ok word
+new_word members name word = if lists_word members word then Err (name, reasons.DoubledWord) else Ok word
 
 -- ---- enumerations
 
@@ -39,7 +39,7 @@ unfoldable pub member_word : Env → Members → ℕ × Numeric → Result ℕ N
 member_word e members m = new_name e members m.0 >>= λ _. (word_of e m.1 >>= λ word. new_word members m.0 word)
 
 unfoldable pub member_step : Env → Members × ℕ → ℕ × Numeric → Result (Members × ℕ) NameFault
-member_step e st m = spent e st.1 1 >>= λ room. (member_word e st.0 m >>= λ word. Ok (st.0 ++ (text_of e.names m.0, word) ∷ [], room))
+member_step e st m = spent e st.1 1 >>= λ room. (member_word e st.0 m >>= λ word. Ok (st.0 ++ (name_text e.names m.0, word) ∷ [], room))
 
 unfoldable pub enumeration_meant : Env → List (ℕ × Numeric) → ℕ → Result (NamedModel × ℕ) NameFault
 enumeration_meant e members room = over NamedModel.enumeration (steps (member_step e) ([], room) members)
@@ -59,7 +59,7 @@ sequence_meant e most one room = maximum_of e most >>= λ n. over (NamedModel.se
 -- ---- records
 
 abbrev pub has_name : Env → List ℕ → ℕ → Bool
-has_name e seen name = list_any (λ n. bytes_eq (text_of e.names n) (text_of e.names name)) seen
+has_name e seen name = list_any (λ n. bytes_eq (name_text e.names n) (name_text e.names name)) seen
 
 -- a name that differs from those before
 abbrev pub once : Env → List ℕ → ℕ → Result (List ℕ) NameFault
@@ -67,7 +67,7 @@ once e seen name = if has_name e seen name then Err (name, reasons.DoubledName) 
 
 -- a component or a candidate, whose type one makes: its name and its type
 unfoldable pub named_part : Env → (ℕ → Result (NamedModel × ℕ) NameFault) → ℕ → ℕ → Result ((List ℕ × NamedModel) × ℕ) NameFault
-named_part e one room name = spent e room 1 >>= λ left. (one left >>= λ t. Ok ((text_of e.names name, t.0), t.1))
+named_part e one room name = spent e room 1 >>= λ left. (one left >>= λ t. Ok ((name_text e.names name, t.0), t.1))
 
 -- a component of the type that one makes
 unfoldable pub component_step : Env → (ℕ → Result (NamedModel × ℕ) NameFault) → Components × ℕ → ℕ → Result (Components × ℕ) NameFault
@@ -117,7 +117,7 @@ given_alone name (Some word) = Ok word
 given_alone name None = Err (name, reasons.NoDesignator)
 
 abbrev pub chosen_word : Env → Option Members → ℕ → Option ℕ → Result ℕ NameFault
-chosen_word e (Some members) name given = of_member name given (word_by_name members (text_of e.names name))
+chosen_word e (Some members) name given = of_member name given (word_by_name members (name_text e.names name))
 chosen_word e None name given = given_alone name given
 
 -- the word of a designator that differs from those before
@@ -130,7 +130,7 @@ abbrev pub Designators : Type 0
 Designators = Members × List (ℕ × ℕ)
 
 unfoldable pub designator_step : Env → Option Members → Designators → Designator → Result Designators NameFault
-designator_step e tag st d = designator_word e tag st.0 d >>= λ word. Ok (st.0 ++ (text_of e.names d.0, word) ∷ [], st.1 ++ (d.0, word) ∷ [])
+designator_step e tag st d = designator_word e tag st.0 d >>= λ word. Ok (st.0 ++ (name_text e.names d.0, word) ∷ [], st.1 ++ (d.0, word) ∷ [])
 
 -- a candidate of the type that one makes
 unfoldable pub candidate_step : Env → (ℕ → Result (NamedModel × ℕ) NameFault) → Candidates × ℕ → ℕ × ℕ → Result (Candidates × ℕ) NameFault

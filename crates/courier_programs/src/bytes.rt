@@ -2,7 +2,7 @@
 
 ghost use Rattle.std.specs.Prelude.{◌≡◌, ◌<◌, IfOk, OnErr, length};
 ghost use Rattle.std.specs.Str.{bytes_eq};
-ghost use Rattle.courier_programs.specs.Scopes.{names_seen, text_of};
+ghost use Rattle.courier_programs.specs.Scopes.{names_seen, name_text};
 
 use std::alloc::{AllocError, Global};
 
@@ -15,7 +15,7 @@ pub(crate) fn is_same(a: &[u8], b: &[u8]) -> bool
 
 /// The text of the name of that index.
 pub(crate) fn text(names: &[Vec<u8>], name: u32) -> &[u8]
-    ensures { result.now ≡ text_of (names_seen names.now) name }
+    ensures { result.now ≡ name_text (names_seen names.now) name }
 {
     match names.get(name as usize) {
         Some(bytes) => bytes,

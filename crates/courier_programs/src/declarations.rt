@@ -9,10 +9,10 @@ ghost use Rattle.courier_texts.specs.Named.{named_model};
 ghost use Rattle.courier_programs.specs.Declarations.{addition_of, constant_meant, constant_value as constant_value_of};
 ghost use Rattle.courier_programs.specs.Declarations.{declaration_meant, declaration_step, error_meant, is_type as is_type_of, new_error as new_error_of, new_procedure as new_procedure_of, once_meant};
 ghost use Rattle.courier_programs.specs.Declarations.{procedure_meant, settled, sound, whole_fields as whole_fields_of, whole_type as whole_type_of, with_addition};
-ghost use Rattle.courier_programs.specs.Meanings.{error_model, fields_model, meaning_model, meaning_of as meaning_in, procedure_model, resolved_model};
-ghost use Rattle.courier_programs.specs.Memory.{AddingWants, DeclaredWants, TypeWants};
+ghost use Rattle.courier_programs.specs.Meanings.{resolved_error, fields_model, meaning_model, meaning_of as meaning_in, resolved_procedure, resolved_model};
+ghost use Rattle.courier_programs.specs.Memory.{AddingWants, AddedWants, ResolvedTypeWants};
 ghost use Rattle.courier_programs.specs.Refused.{Finds, Gives, IfNoMemory};
-ghost use Rattle.courier_programs.specs.Scopes.{env, names_seen, spent, text_of};
+ghost use Rattle.courier_programs.specs.Scopes.{env, names_seen, spent, name_text};
 
 use crate::bytes::text;
 use crate::finding::{error_of, procedure_of};
@@ -56,7 +56,7 @@ fn whole_type(
     written: &WrittenType,
 ) -> Result<(Named, usize), Refusal>
     ensures exact { Gives (λ x. (named_model x.0, x.1)) result (whole_type_of (env scope.now) (type_model written.now) room) }
-    ensures memory { IfNoMemory result (TypeWants (env scope.now) (type_model written.now)) }
+    ensures memory { IfNoMemory result (ResolvedTypeWants (env scope.now) (type_model written.now)) }
 {
     let (named, left) = type_of(alloc, MOST_DEPTH, written, scope, room)?;
     let shape = shape_of(alloc, &named)?;
@@ -90,7 +90,7 @@ fn type_added(
     written: &WrittenType,
 ) -> Result<(Added, usize), Refusal>
     ensures exact { Gives (λ x. (addition_of x.0, x.1)) result (settled room (whole_type_of (env scope.now) (type_model written.now) room)) }
-    ensures memory { IfNoMemory result (TypeWants (env scope.now) (type_model written.now)) }
+    ensures memory { IfNoMemory result (ResolvedTypeWants (env scope.now) (type_model written.now)) }
 {
     match whole_type(alloc, scope, room, written) {
         Ok((named, left)) => {
@@ -126,7 +126,7 @@ fn constant_added(
     constant: Constant,
 ) -> Result<(Added, usize), Refusal>
     ensures exact { Gives (λ x. (addition_of x.0, x.1)) result (constant_meant (env scope.now) (type_model written.now) constant room) }
-    ensures memory { IfNoMemory result (TypeWants (env scope.now) (type_model written.now)) }
+    ensures memory { IfNoMemory result (ResolvedTypeWants (env scope.now) (type_model written.now)) }
 {
     let (_named, left) = whole_type(alloc, scope, room, written)?;
     let value = constant_value(scope, constant)?;
@@ -140,7 +140,7 @@ fn new_procedure(
     procedure: Procedure,
     room: usize,
 ) -> Result<(Added, usize), Refusal>
-    ensures { Finds (λ x. (addition_of x.0, x.1)) result (new_procedure_of (env scope.now) (map procedure_model procedures.now) (procedure_model procedure) room) }
+    ensures { Finds (λ x. (addition_of x.0, x.1)) result (new_procedure_of (env scope.now) (map resolved_procedure procedures.now) (resolved_procedure procedure) room) }
 {
     match procedure_of(procedures, procedure.number) {
         Some(_) => Err(wrong(scope.own, NameReason::DoubledNumber)),
@@ -155,7 +155,7 @@ fn new_error(
     error: RemoteError,
     room: usize,
 ) -> Result<(Added, usize), Refusal>
-    ensures { Finds (λ x. (addition_of x.0, x.1)) result (new_error_of (env scope.now) (map error_model errors.now) (error_model error) room) }
+    ensures { Finds (λ x. (addition_of x.0, x.1)) result (new_error_of (env scope.now) (map resolved_error errors.now) (resolved_error error) room) }
 {
     match error_of(errors, error.number) {
         Some(_) => Err(wrong(scope.own, NameReason::DoubledNumber)),
@@ -173,7 +173,7 @@ fn procedure_added(
     number: u16,
     room: usize,
 ) -> Result<(Added, usize), Refusal>
-    ensures exact { Gives (λ x. (addition_of x.0, x.1)) result (procedure_meant (env scope.now) (map procedure_model procedures.now) (field_models arguments.now) (field_models results.now) number room) }
+    ensures exact { Gives (λ x. (addition_of x.0, x.1)) result (procedure_meant (env scope.now) (map resolved_procedure procedures.now) (field_models arguments.now) (field_models results.now) number room) }
     ensures memory { IfNoMemory result (IsOk (spent (env scope.now) room 1)) }
 {
     let (arguments, left) = whole_fields(alloc, scope, room, arguments)?;
@@ -197,7 +197,7 @@ fn error_added(
     number: u16,
     room: usize,
 ) -> Result<(Added, usize), Refusal>
-    ensures exact { Gives (λ x. (addition_of x.0, x.1)) result (error_meant (env scope.now) (map error_model errors.now) (field_models arguments.now) number room) }
+    ensures exact { Gives (λ x. (addition_of x.0, x.1)) result (error_meant (env scope.now) (map resolved_error errors.now) (field_models arguments.now) number room) }
     ensures memory { IfNoMemory result (IsOk (spent (env scope.now) room 1)) }
 {
     let (arguments, left) = whole_fields(alloc, scope, room, arguments)?;
@@ -220,7 +220,7 @@ fn added_by(
     room: usize,
 ) -> Result<(Added, usize), Refusal>
     ensures exact { Gives (λ x. (addition_of x.0, x.1)) result (declaration_meant (env scope.now) (resolved_model program.now) (declared_view declared.now) room) }
-    ensures memory { IfNoMemory result (DeclaredWants (env scope.now) (declared_view declared.now) room) }
+    ensures memory { IfNoMemory result (AddedWants (env scope.now) (declared_view declared.now) room) }
 {
     match declared {
         Declared::Type(written) => type_added(alloc, scope, room, written),
@@ -288,7 +288,7 @@ fn named_once(
     room: usize,
 ) -> Result<(Added, usize), Refusal>
     ensures exact { Gives (λ x. (addition_of x.0, x.1)) result (once_meant (env scope.now) (resolved_model program.now) (declaration_view declaration.now) room) }
-    ensures memory { IfNoMemory result (is_some (meaning_in (resolved_model program.now).meanings (text_of (names_seen scope.now.names.now) declaration.now.name)) ≡ false) }
+    ensures memory { IfNoMemory result (is_some (meaning_in (resolved_model program.now).meanings (name_text (names_seen scope.now.names.now) declaration.now.name)) ≡ false) }
 {
     match meaning_of(&program.meanings, text(scope.names, declaration.name)) {
         Some(_) => Err(wrong(declaration.name, NameReason::DoubledName)),
@@ -308,7 +308,7 @@ pub(crate) fn take_declaration(
     room: usize,
 ) -> Result<usize, Refusal>
     ensures exact { Gives (λ left. (resolved_model program.new, left)) result (declaration_step (names_seen names.now) before.now dependencies.now (resolved_model program.old, room) (declaration_view declaration.now)) }
-    ensures memory { IfNoMemory result (is_some (meaning_in (resolved_model program.old).meanings (text_of (names_seen names.now) declaration.now.name)) ≡ false) }
+    ensures memory { IfNoMemory result (is_some (meaning_in (resolved_model program.old).meanings (name_text (names_seen names.now) declaration.now.name)) ≡ false) }
 {
     let scope = Scope {
         names,

@@ -2,7 +2,7 @@
 
 ghost use Rattle.std.specs.Prelude.{◌≡◌, IfNone, IfSome, None, Some, map};
 ghost use Rattle.courier_programs.specs.Declarations.{error_by, procedure_by};
-ghost use Rattle.courier_programs.specs.Meanings.{error_model, procedure_model};
+ghost use Rattle.courier_programs.specs.Meanings.{resolved_error, resolved_procedure};
 ghost use Rattle.courier_programs.specs.Scopes.{program_by};
 
 use crate::program::{Procedure, Program, RemoteError};
@@ -22,8 +22,8 @@ pub fn program_of(programs: &[Program], number: u32, version: u16) -> Option<&Pr
 
 /// The procedure with that number. `None` if none has it.
 pub fn procedure_of(procedures: &[Procedure], number: u16) -> Option<&Procedure>
-    ensures some { IfSome result (λ p. procedure_by (map procedure_model procedures.now) number ≡ Some (procedure_model p.now)) }
-    ensures none { IfNone result (procedure_by (map procedure_model procedures.now) number ≡ None) }
+    ensures some { IfSome result (λ p. procedure_by (map resolved_procedure procedures.now) number ≡ Some (resolved_procedure p.now)) }
+    ensures none { IfNone result (procedure_by (map resolved_procedure procedures.now) number ≡ None) }
 {
     for procedure in procedures {
         if procedure.number == number {
@@ -35,8 +35,8 @@ pub fn procedure_of(procedures: &[Procedure], number: u16) -> Option<&Procedure>
 
 /// The error with that number. `None` if none has it.
 pub fn error_of(errors: &[RemoteError], number: u16) -> Option<&RemoteError>
-    ensures some { IfSome result (λ e. error_by (map error_model errors.now) number ≡ Some (error_model e.now)) }
-    ensures none { IfNone result (error_by (map error_model errors.now) number ≡ None) }
+    ensures some { IfSome result (λ e. error_by (map resolved_error errors.now) number ≡ Some (resolved_error e.now)) }
+    ensures none { IfNone result (error_by (map resolved_error errors.now) number ≡ None) }
 {
     for error in errors {
         if error.number == number {

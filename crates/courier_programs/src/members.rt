@@ -5,7 +5,7 @@ ghost use Rattle.courier_texts.specs.Named.{members_seen};
 ghost use Rattle.courier_programs.specs.Refused.{Finds, Gives, IfNoMemory, steps};
 ghost use Rattle.courier_programs.specs.Scopes.{env};
 ghost use Rattle.courier_programs.specs.Types.{agreed, chosen_word as chosen_word_of, designator_step, designator_word as designator_word_of};
-ghost use Rattle.courier_programs.specs.Types.{given_alone, given_word as given_word_of, has_word as has_word_in, member_step};
+ghost use Rattle.courier_programs.specs.Types.{given_alone, given_word as given_word_of, lists_word as lists_word_in, member_step};
 ghost use Rattle.courier_programs.specs.Types.{member_word as member_word_of, new_name as new_name_in, new_word as new_word_in, tag_members as tag_members_of};
 ghost use Rattle.courier_programs.specs.Types.{word_by_name as word_by_name_in};
 
@@ -29,8 +29,8 @@ fn word_by_name(members: &[(Vec<u8>, u16)], name: &[u8]) -> Option<u16>
     None
 }
 
-fn has_word(members: &[(Vec<u8>, u16)], word: u16) -> bool
-    ensures { result ≡ has_word_in (members_seen members.now) word }
+fn lists_word(members: &[(Vec<u8>, u16)], word: u16) -> bool
+    ensures { result ≡ lists_word_in (members_seen members.now) word }
 {
     for member in members {
         if member.1 == word {
@@ -54,7 +54,7 @@ fn new_name(scope: &Scope, members: &[(Vec<u8>, u16)], name: u32) -> Result<(), 
 fn new_word(members: &[(Vec<u8>, u16)], name: u32, word: u16) -> Result<u16, Refusal>
     ensures { Finds (λ x. x) result (new_word_in (members_seen members.now) name word) }
 {
-    if has_word(members, word) {
+    if lists_word(members, word) {
         return Err(wrong(name, NameReason::DoubledWord));
     }
     Ok(word)

@@ -8,7 +8,7 @@ ghost use Rattle.courier_programs.specs.Memory.{DeclaringWants, FirstWasRead, Re
 ghost use Rattle.courier_programs.specs.Refused.{Finds, Gives, IfNoMemory, steps};
 ghost use Rattle.courier_programs.specs.Resolving.{dependency_step, reported as reported_in, reports_step, resolved};
 ghost use Rattle.courier_programs.specs.Resolving.{empty_program as empty_program_of, with_dependencies as with_dependencies_of, with_reports as with_reports_of};
-ghost use Rattle.courier_programs.specs.Scopes.{env, names_seen, text_of};
+ghost use Rattle.courier_programs.specs.Scopes.{env, names_seen, name_text};
 
 use crate::bytes::{copied, text};
 use crate::declarations::take_declaration;
@@ -163,7 +163,7 @@ fn empty_program(
     written: &WrittenProgram,
 ) -> Result<Program, AllocError>
     ensures exact { IfOk result (λ program. resolved_model program ≡ empty_program_of (names_seen names.now) (program_view written.now)) }
-    ensures memory { OnErr result (0 < length (text_of (names_seen names.now) written.now.name)) }
+    ensures memory { OnErr result (0 < length (name_text (names_seen names.now) written.now.name)) }
 {
     let name = copied(alloc, text(names, written.name))?;
     Ok(Program {

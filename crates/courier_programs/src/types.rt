@@ -4,7 +4,7 @@ ghost use Rattle.std.specs.Prelude.{◌≡◌, ◌<◌, [], IsOk, length, option
 ghost use Rattle.courier_notation.specs.Written.{candidate_models, candidates_from, field_models, fields_from, type_model};
 ghost use Rattle.courier_texts.specs.Named.{members_seen, named_model};
 ghost use Rattle.courier_programs.specs.Meanings.{components_seen};
-ghost use Rattle.courier_programs.specs.Memory.{TypeWants};
+ghost use Rattle.courier_programs.specs.Memory.{ResolvedTypeWants};
 ghost use Rattle.courier_programs.specs.Refused.{Finds, Gives, IfNoMemory, over, steps};
 ghost use Rattle.courier_programs.specs.Scopes.{env, spent, type_named as type_named_of, word_of as word_of_numeric};
 ghost use Rattle.courier_programs.specs.Types.{array_meant, candidate_group, candidate_step, candidates_meant, candidates_seen, choice_meant, component_step};
@@ -367,7 +367,7 @@ fn type_by(
     room: usize,
 ) -> Result<(Named, usize), Refusal>
     ensures exact { Gives (λ x. (named_model x.0, x.1)) result (type_level_meant (env scope.now) (type_meant (env scope.now) depth) (type_model written.now) room) }
-    ensures memory { IfNoMemory result (TypeWants (env scope.now) (type_model written.now)) }
+    ensures memory { IfNoMemory result (ResolvedTypeWants (env scope.now) (type_model written.now)) }
 {
     match written {
         WrittenType::Boolean => Ok((Named::Boolean, room)),
@@ -398,7 +398,7 @@ pub(crate) fn type_of(
     room: usize,
 ) -> Result<(Named, usize), Refusal>
     ensures exact { Gives (λ x. (named_model x.0, x.1)) result (type_meant (env scope.now) depth (type_model written.now) room) }
-    ensures memory { IfNoMemory result (TypeWants (env scope.now) (type_model written.now)) }
+    ensures memory { IfNoMemory result (ResolvedTypeWants (env scope.now) (type_model written.now)) }
 {
     if depth == 0 {
         return Err(wrong(scope.own, NameReason::TooDeep));

@@ -20,7 +20,7 @@ use Rattle.courier_sessions.specs.declared.program.Program.{Program}
 use Rattle.courier_sessions.specs.Answering.{Answering, transaction_in, is_a_call, after_item as after_heard}
 use Rattle.courier_sessions.specs.Answerings.{HasAnswered, IsAnswer}
 use Rattle.courier_sessions.specs.Talk.{Talk, wrong_unless, reply_fault, after_item}
-use Rattle.courier_sessions.specs.Talks.{HasDone, Refuses, made_messages, count_if}
+use Rattle.courier_sessions.specs.Talks.{HasDone, StopsTalk, made_messages, count_if}
 use Rattle.courier_sessions.proofs.Answered.{stops}
 use Rattle.courier_sessions.proofs.Done.{refuses}
 use Rattle.courier_sessions.proofs.Room.{last_is}
@@ -159,7 +159,7 @@ caller_goes asks hear law made back given got t programs fed sent taken handed a
       (subst (AllByRecursion IsAnswer) (sym front.1) s.good)) in
       some_is_not_none (reply_fault t.waiting t.transaction m) e wrong (no_fault t.waiting t.transaction m w.0 number good.1)
 
-  by_fault : (e : SessionFault) → Refuses back t x e → ⊥
+  by_fault : (e : SessionFault) → StopsTalk back t x e → ⊥
   by_fault e (inl stopped) = subst IsFaultless stopped hs.well
   by_fault e (inr r) = by_message e r.0 r.1 r.2
 

@@ -25,7 +25,7 @@ use Rattle.courier_sessions.specs.declared.unlisted.Unlisted.{Unlisted}
 use Rattle.courier_sessions.specs.declared.unlisted.Unlisted.TheVariants as unlisted
 use Rattle.courier_sessions.specs.Answering.{Answering, new_answering, has_items, is_busy, with_call, after_item, transaction_in, is_a_call}
 use Rattle.courier_sessions.specs.Answering.{after_call, why_unlisted, reject_message, after_reject, answer_message, answer_refusal}
-use Rattle.courier_sessions.specs.Answering.{answered}
+use Rattle.courier_sessions.specs.Answering.{with_answer_out}
 use Rattle.courier_sessions.specs.declared.answer.Answer.{Answer}
 use Rattle.courier_sessions.specs.declared.answer.Answer.TheVariants as kinds
 use Rattle.courier_sessions.specs.declared.answer_refusal.AnswerRefusal.TheVariants as refusals
@@ -150,7 +150,7 @@ fits asked answer k words h e = few (nat_lt most_words (length (message_words (a
 pub answers_one : (programs : List Program) (fed given : List Item) (taken handed answers : List Message) (a : Answering) (answer : Answer)
     (k : ℕ) (words : List ℕ) → HasAnswered programs fed given taken handed answers a → a.asked ≡ Some k →
     answer_refusal a.asked answer words ≡ None → HasAnswered programs fed given taken handed (answers ++ answer_message answer k words ∷ [])
-    (answered a (answer_message answer k words))
+    (with_answer_out a (answer_message answer k words))
 answers_one programs fed given taken handed answers a answer k words h e fine =
     let m : Message = answer_message answer k words in
     let right = answers_right answer k words in
@@ -176,7 +176,7 @@ pub refuses : (programs : List Program) (fed given : List Item) (taken handed an
     why_unlisted a.programs m ≡ None → answer_refusal (Some (transaction_in m)) (kinds.Reject reason) words ≡ None →
     HasAnswered programs fed given (taken ++ m ∷ []) (handed ++ m ∷ [])
     (answers ++ answer_message (kinds.Reject reason) (transaction_in m) words ∷ [])
-    (answered a (answer_message (kinds.Reject reason) (transaction_in m) words))
+    (with_answer_out a (answer_message (kinds.Reject reason) (transaction_in m) words))
 refuses programs fed given taken handed answers a reason words m h e fine free =
     answers_one programs fed given (taken ++ m ∷ []) (handed ++ m ∷ []) answers (after_call a m) (kinds.Reject reason)
     (transaction_in m) words (hands programs fed given taken handed answers a m h e fine) refl free

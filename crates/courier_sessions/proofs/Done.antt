@@ -17,8 +17,8 @@ use Rattle.courier_messages.specs.Laws.{MoreCallsGoOut, OneItemMore}
 use Rattle.std.proofs.lemmas.Bool.{eqb-true, ltb-false}
 use Rattle.courier_sessions.specs.declared.call_refusal.CallRefusal.TheVariants.{Stopped, Busy, TooLong}
 use Rattle.courier_sessions.specs.Talk.{Talk, new_talk, next_transaction, called, call_refusal, wrong_unless, reply_fault, answered_unless}
-use Rattle.courier_sessions.specs.Talk.{answered, after_item}
-use Rattle.courier_sessions.specs.Talks.{HasDone, AreAnswers, answered_call, count_if, Refuses}
+use Rattle.courier_sessions.specs.Talk.{with_ended_messages, after_item}
+use Rattle.courier_sessions.specs.Talks.{HasDone, AreAnswers, answered_call, count_if, StopsTalk}
 
 pub start : HasDone [] [] [] [] new_talk
 unfolding conversation conversation_fault ending call_items AreAnswers
@@ -194,7 +194,7 @@ two_are_no_one ms m n more e few = let l : length ms ≡ length (m ∷ n ∷ mor
 
 feeds_by : (law : OneItemMore) (made : List RawCall) (fed given : List Item) (handed : List Message) (t n : Talk) (x : Item)
     (q : Result Phase SessionFault) (ms : List Message) → HasDone made fed given handed t → run t.phase (signs x) ≡ q →
-    said t.phase (signs x) ≡ ms → (q then λ p. answered (record t { phase = p }) ms) ≡ Ok n → HasDone made (fed ++ x ∷ []) given handed n
+    said t.phase (signs x) ≡ ms → (q then λ p. with_ended_messages (record t { phase = p }) ms) ≡ Ok n → HasDone made (fed ++ x ∷ []) given handed n
 feeds_by law made fed given handed t n x (Err e) ms h hq hm is = absurd cc
 feeds_by law made fed given handed t n x (Ok p) [] h hq hm is =
     let e : record t { phase = p } ≡ n = cc in
@@ -218,7 +218,7 @@ feeds law made fed given handed t n x h is = feeds_by law made fed given handed 
 
 refuses_by : (law : OneItemMore) (made : List RawCall) (fed given : List Item) (handed : List Message) (t : Talk) (x : Item)
     (e : SessionFault) (q : Result Phase SessionFault) (ms : List Message) → HasDone made fed given handed t → run t.phase (signs x) ≡ q →
-    said t.phase (signs x) ≡ ms → (q then λ p. answered (record t { phase = p }) ms) ≡ Err e → Refuses fed t x e
+    said t.phase (signs x) ≡ ms → (q then λ p. with_ended_messages (record t { phase = p }) ms) ≡ Err e → StopsTalk fed t x e
 refuses_by law made fed given handed t x e (Err d) ms h hq hm is =
     let s : d ≡ e = cc in inl (subst (λ (f : SessionFault). ending (fed ++ x ∷ []) ≡ Err f) s
     (ending_by law made fed given handed t x h ∙ hq))
@@ -236,6 +236,6 @@ refuses_by law made fed given handed t x e (Ok p) (m ∷ m' ∷ ms) h hq hm is =
     absurd (two_are_no_one (said t.phase (signs x)) m m' ms hm (law.single x t.phase))
 
 pub refuses : (law : OneItemMore) (made : List RawCall) (fed given : List Item) (handed : List Message) (t : Talk) (x : Item)
-    (e : SessionFault) → HasDone made fed given handed t → after_item t x ≡ Err e → Refuses fed t x e
+    (e : SessionFault) → HasDone made fed given handed t → after_item t x ≡ Err e → StopsTalk fed t x e
 refuses law made fed given handed t x e h is = refuses_by law made fed given handed t x e (run t.phase (signs x))
     (said t.phase (signs x)) h refl refl is

@@ -14,7 +14,7 @@ use Rattle.xns_spp.specs.declared.item.Item.{Item}
 use Rattle.courier_messages.specs.Refusal.{Stops}
 use Rattle.courier_sessions.specs.Answering as answering
 use Rattle.courier_sessions.specs.Answering.{Answering, is_a_call, after_messages}
-use Rattle.courier_sessions.specs.Talk.{Talk, reply_fault, wrong_unless, answered_unless, answered, after_item}
+use Rattle.courier_sessions.specs.Talk.{Talk, reply_fault, wrong_unless, answered_unless, with_ended_messages, after_item}
 use Rattle.courier_sessions.proofs.Hearing.{nothing_said, one_said, weaker}
 
 whole : (m : Message) → m ≡ with_words (head_in m) (words_in m)
@@ -31,7 +31,7 @@ headed m (n ∷ ms) head h = absurd cc
 -- the side that calls
 
 abbrev with_answers : Talk → Result Phase SessionFault → List Message → Result Talk SessionFault
-with_answers t q ms = q then λ p. answered (record t { phase = p }) ms
+with_answers t q ms = q then λ p. with_ended_messages (record t { phase = p }) ms
 
 one_answer : (t : Talk) (q : Result Phase SessionFault) (ms : List Message) (head : Head) (o : Option SessionFault) → IsOk q →
     map head_in ms ≡ head ∷ [] → ((words : List ℕ) → o ≡ reply_fault t.waiting t.transaction (with_words head words))

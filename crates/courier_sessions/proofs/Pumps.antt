@@ -7,7 +7,7 @@ use Rattle.xns_spp.specs.Sending.{send_fault, after_send, take_answer, handing, 
 use Rattle.xns_spp.specs.State.{State}
 use Rattle.xns_spp.specs.declared.item.Item.{Item}
 use Rattle.xns_spp.specs.declared.send_fault.SendFault.{SendFault}
-use Rattle.courier_sessions.specs.Pumping.{Side, sending, feeds, moving, one_step, Leads, on, Refuses, Pumped}
+use Rattle.courier_sessions.specs.Pumping.{Side, sending, feeds, moving, one_step, Leads, on, RefusesNext, Pumped}
 use Rattle.courier_sessions.specs.declared.feed_refusal.FeedRefusal.{FeedRefusal}
 
 -- steps led from the first side and end to these
@@ -103,7 +103,7 @@ module _ {S : Type 0} (side : Side S) where
 
   -- the next item is refused
   pub refused : (first : S × State) (t n : S) (e f : Held) (all k : ℕ) (refusal : FeedRefusal) → side.out t ≡ [] → f ≡ e →
-      ((s : State) → StandsFor e s → Refuses side t (take_answer s) refusal n)
+      ((s : State) → StandsFor e s → RefusesNext side t (take_answer s) refusal n)
       → Feeding side first t e all k → Pumped side first (Err refusal) n f
   refused first t n e f all k refusal none still h g =
       record {

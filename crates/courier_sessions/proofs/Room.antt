@@ -22,17 +22,17 @@ use Rattle.courier_messages.specs.Laws.{MessageIsSpelled}
 use Rattle.courier_sessions.specs.declared.program.Program.{Program}
 use Rattle.courier_sessions.specs.Answering.{Answering, is_a_call}
 use Rattle.courier_sessions.specs.Answerings.{HasAnswered}
-use Rattle.courier_sessions.specs.Room.{HasRoom}
+use Rattle.courier_sessions.specs.Room.{MessageHasRoom}
 use Rattle.courier_sessions.specs.Talk.{Talk}
 use Rattle.courier_sessions.specs.Talks.{HasDone}
 
-room : (m : Message) → length (message_words m) ≤ most_words → HasRoom m
+room : (m : Message) → length (message_words m) ≤ most_words → MessageHasRoom m
 room (Call transaction program version procedure words) h = omega (arith, h)
 room (Reject transaction reason words) h = omega (arith, h)
 room (Return transaction words) h = omega (arith, h)
 room (Abort transaction error words) h = omega (arith, h)
 
-pub read : (law : MessageIsSpelled) (bytes : List ℕ) (m : Message) → message_of bytes ≡ Ok m → HasRoom m
+pub read : (law : MessageIsSpelled) (bytes : List ℕ) (m : Message) → message_of bytes ≡ Ok m → MessageHasRoom m
 read law bytes m h = room m (law.short bytes m h)
 
 -- the messages of a conversation
@@ -41,26 +41,26 @@ said_is : (b : Bool) (r : Result Message MessageFault) (m : Message) → (if b t
 said_is true r m h = absurd cc
 said_is false r m h = h
 
-said_room : (law : MessageIsSpelled) (piece : List ℕ) (m : Message) → said_by piece ≡ Ok m → HasRoom m
+said_room : (law : MessageIsSpelled) (piece : List ℕ) (m : Message) → said_by piece ≡ Ok m → MessageHasRoom m
 unfolding said_by
 said_room law piece m h = read law piece m (said_is (nat_lt most_bytes (length piece)) (message_of piece) m h)
 
 one_more : (law : MessageIsSpelled) (piece : List ℕ) (r : Result Message MessageFault) (more : List Message) → said_by piece ≡ r →
-    AllByRecursion HasRoom more → AllByRecursion HasRoom (message_and r more)
+    AllByRecursion MessageHasRoom more → AllByRecursion MessageHasRoom (message_and r more)
 one_more law piece (Ok m) more e h = (said_room law piece m e, h)
 one_more law piece (Err f) more e h = tt
 
-all_room : (law : MessageIsSpelled) (pieces : List (List ℕ)) → AllByRecursion HasRoom (messages_in pieces)
+all_room : (law : MessageIsSpelled) (pieces : List (List ℕ)) → AllByRecursion MessageHasRoom (messages_in pieces)
 unfolding messages_in
 all_room law [] = tt
 all_room law (piece ∷ pieces) = one_more law piece (said_by piece) (messages_in pieces) refl (all_room law pieces)
 
-range_room : (law : MessageIsSpelled) (v : VersionRange) → AllByRecursion HasRoom (messages_of v)
+range_room : (law : MessageIsSpelled) (v : VersionRange) → AllByRecursion MessageHasRoom (messages_of v)
 range_room law (unread bytes) = tt
 range_room law (refused e) = tt
 range_room law (agreed text) = all_room law (pieces_behind [] (without_mark text))
 
-conversation_room : (law : MessageIsSpelled) (fed : List Item) → AllByRecursion HasRoom (conversation fed)
+conversation_room : (law : MessageIsSpelled) (fed : List Item) → AllByRecursion MessageHasRoom (conversation fed)
 unfolding conversation
 conversation_room law fed = range_room law (version_range (written fed))
 
@@ -71,8 +71,8 @@ last_is P [] x h = h.0
 last_is P (y ∷ xs) x h = last_is P xs x h.1
 
 last_room : (law : MessageIsSpelled) (before : List Message) (o : Option Message) (m : Message) (fed : List Item) →
-    before ++ option_to_list o ≡ conversation fed → o ≡ Some m → HasRoom m
-last_room law before o m fed all e = last_is HasRoom before m (subst (AllByRecursion HasRoom)
+    before ++ option_to_list o ≡ conversation fed → o ≡ Some m → MessageHasRoom m
+last_room law before o m fed all e = last_is MessageHasRoom before m (subst (AllByRecursion MessageHasRoom)
     (sym all ∙ ap (λ (x : Option Message). before ++ option_to_list x) e) (conversation_room law fed))
 
 heard_calls : (b : Bool) (q : Result Phase SessionFault) (p : Phase) → (if b then q else Err BadReply) ≡ Ok p → b ≡ true
@@ -90,7 +90,7 @@ last_call (Reject transaction reason words ∷ ms) m h = absurd cc
 last_call (Return transaction words ∷ ms) m h = absurd cc
 last_call (Abort transaction error words ∷ ms) m h = absurd cc
 
-call_room : (m : Message) → is_a_call m ≡ true → HasRoom m → length (words_in m) ≤ most_call_words
+call_room : (m : Message) → is_a_call m ≡ true → MessageHasRoom m → length (words_in m) ≤ most_call_words
 call_room (Call transaction program version procedure words) is h = h
 call_room (Reject transaction reason words) is h = absurd cc
 call_room (Return transaction words) is h = absurd cc
@@ -104,5 +104,5 @@ call law programs fed given taken handed answers a m h e =
     call_room m (last_call taken m (ap all_calls all ∙ calls)) (last_room law taken a.call m fed h.calls e)
 
 pub outcome : (law : MessageIsSpelled) (made : List RawCall) (fed given : List Item) (handed : List Message) (t : Talk) (m : Message) →
-    HasDone made fed given handed t → t.outcome ≡ Some m → HasRoom m
+    HasDone made fed given handed t → t.outcome ≡ Some m → MessageHasRoom m
 outcome law made fed given handed t m h e = last_room law handed t.outcome m fed h.messages e

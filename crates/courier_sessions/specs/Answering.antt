@@ -80,7 +80,7 @@ fed a x =
     else if is_busy a then Err unfed.Busy
     else if x.attention then Err unfed.Attention
     else if nat_lt most_item (length x.body) then Err unfed.TooLong
-    else feeding.heard (after_item a x)
+    else feeding.feed_result (after_item a x)
 
 -- the side is stopped, and otherwise stays as it was
 abbrev pub IsStopped : Answering → Answering → Type 0
@@ -168,5 +168,5 @@ AnswerAnswers refusal (Err refusals.NoMemory) = refusal ≡ None
 AnswerAnswers refusal (Err refusals.NoCall) = refusal ≡ Some refusals.NoCall
 AnswerAnswers refusal (Err refusals.TooLong) = refusal ≡ Some refusals.TooLong
 
-abbrev pub answered : Answering → Message → Answering
-answered a m = record a { out = a.out ++ cut m; call = None; asked = None }
+abbrev pub with_answer_out : Answering → Message → Answering
+with_answer_out a m = record a { out = a.out ++ cut m; call = None; asked = None }

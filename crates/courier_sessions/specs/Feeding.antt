@@ -15,9 +15,9 @@ abbrev pub most_item : ℕ
 most_item = 4 + most_bytes
 
 -- a side with one more item of its peer's, or the first fault
-abbrev pub heard : {S : Type 0} → Result S SessionFault → Result S FeedRefusal
-heard (Ok t) = Ok t
-heard (Err e) = Err (Fault e)
+abbrev pub feed_result : {S : Type 0} → Result S SessionFault → Result S FeedRefusal
+feed_result (Ok t) = Ok t
+feed_result (Err e) = Err (Fault e)
 
 -- a side once an item is taken in that leads to `after`, or the first reason why the item is refused, in this order
 abbrev pub fed_unless : {S : Type 0} → Bool → Bool → Item → Result S SessionFault → Result S FeedRefusal
@@ -26,19 +26,19 @@ fed_unless stopped busy x after =
     else if busy then Err Busy
     else if x.attention then Err Attention
     else if nat_lt most_item (length x.body) then Err TooLong
-    else heard after
+    else feed_result after
 
 -- what is returned for an item that was looked at
-abbrev pub told : Result (Unit {0}) SessionFault → Result (Unit {0}) FeedRefusal
-told (Ok u) = Ok u
-told (Err faults.NoMemory) = Err NoMemory
-told (Err NoCommonVersion) = Err (Fault NoCommonVersion)
-told (Err BadVersions) = Err (Fault BadVersions)
-told (Err (BadMessage f)) = Err (Fault (BadMessage f))
-told (Err WrongTransaction) = Err (Fault WrongTransaction)
-told (Err BadReply) = Err (Fault BadReply)
-told (Err (Stream kind)) = Err (Fault (Stream kind))
-told (Err Failed) = Err (Fault Failed)
+abbrev pub look_result : Result (Unit {0}) SessionFault → Result (Unit {0}) FeedRefusal
+look_result (Ok u) = Ok u
+look_result (Err faults.NoMemory) = Err NoMemory
+look_result (Err NoCommonVersion) = Err (Fault NoCommonVersion)
+look_result (Err BadVersions) = Err (Fault BadVersions)
+look_result (Err (BadMessage f)) = Err (Fault (BadMessage f))
+look_result (Err WrongTransaction) = Err (Fault WrongTransaction)
+look_result (Err BadReply) = Err (Fault BadReply)
+look_result (Err (Stream kind)) = Err (Fault (Stream kind))
+look_result (Err Failed) = Err (Fault Failed)
 
 -- what a look finds at an item that leads to q, before the item is taken in: a fault that a peer makes, or none
 abbrev pub Judges : {S : Type 0} → Result (Unit {0}) SessionFault → Result S SessionFault → Type 0

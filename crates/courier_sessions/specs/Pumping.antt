@@ -45,15 +45,15 @@ IsFed side t x (Err TooLong) n = (n ≡ t) × (side.fed t x ≡ Err TooLong)
 
 -- what a step comes to: `None` where no step applies; otherwise the side and the end after the step, or why the side
 -- refuses an item
-abbrev pub Step : Type 0 → Type 0
-Step S = Option (Result (S × State) FeedRefusal)
+abbrev pub StepResult : Type 0 → Type 0
+StepResult S = Option (Result (S × State) FeedRefusal)
 
-abbrev pub sending : {S : Type 0} → Option SendFault → S → State → Step S
+abbrev pub sending : {S : Type 0} → Option SendFault → S → State → StepResult S
 sending (Some f) t v = None
 sending None t v = Some (Ok (t, v))
 
 -- the step of an item that is fed; no step applies where the side is busy, and the item waits
-abbrev pub feeding : {S : Type 0} → Result S FeedRefusal → State → Step S
+abbrev pub feeding : {S : Type 0} → Result S FeedRefusal → State → StepResult S
 feeding (Ok t) v = Some (Ok (t, v))
 feeding (Err Busy) v = None
 feeding (Err Stopped) v = Some (Err Stopped)
@@ -63,17 +63,17 @@ feeding (Err (Fault f)) v = Some (Err (Fault f))
 feeding (Err NoMemory) v = Some (Err NoMemory)
 
 -- the step that feeds the side the next item that waits, if an item waits
-abbrev pub feeds : {S : Type 0} → Side S → S → State → Option Item → Step S
+abbrev pub feeds : {S : Type 0} → Side S → S → State → Option Item → StepResult S
 feeds side t v None = None
 feeds side t v (Some x) = feeding (side.fed t x) (after_take v)
 
 -- the first item that is out is sent, if the end accepts it, and the others, xs, are still out; where no item is out,
 -- the next item that waits is fed
-abbrev pub moving : {S : Type 0} → Side S → S → State → List Item → Step S
+abbrev pub moving : {S : Type 0} → Side S → S → State → List Item → StepResult S
 moving side t v (x ∷ xs) = sending (send_fault v x) (side.with_out t xs) (after_send v x)
 moving side t v [] = feeds side t v (take_answer v)
 
-abbrev pub one_step : {S : Type 0} → Side S → S × State → Step S
+abbrev pub one_step : {S : Type 0} → Side S → S × State → StepResult S
 one_step side y = moving side y.0 y.1 (side.out y.0)
 
 -- ---- the side that calls
@@ -108,19 +108,19 @@ pub data Leads {S : Type 0} (side : Side S) (x : S × State) : S × State → Ty
   on : {y z : S × State} → Leads side x y → one_step side y ≡ Some (Ok z) → Leads side x z
 
 -- the next item that waits is refused, for another reason than that the side is busy, and leaves the side as n
-abbrev pub Refuses : {S : Type 0} → Side S → S → Option Item → FeedRefusal → S → Type 0
-Refuses side t None e n = ⊥
-Refuses side t (Some x) Busy n = ⊥
-Refuses side t (Some x) NoMemory n = IsFed side t x (Err NoMemory) n
-Refuses side t (Some x) Stopped n = IsFed side t x (Err Stopped) n
-Refuses side t (Some x) TooLong n = IsFed side t x (Err TooLong) n
-Refuses side t (Some x) Attention n = IsFed side t x (Err Attention) n
-Refuses side t (Some x) (Fault f) n = IsFed side t x (Err (Fault f)) n
+abbrev pub RefusesNext : {S : Type 0} → Side S → S → Option Item → FeedRefusal → S → Type 0
+RefusesNext side t None e n = ⊥
+RefusesNext side t (Some x) Busy n = ⊥
+RefusesNext side t (Some x) NoMemory n = IsFed side t x (Err NoMemory) n
+RefusesNext side t (Some x) Stopped n = IsFed side t x (Err Stopped) n
+RefusesNext side t (Some x) TooLong n = IsFed side t x (Err TooLong) n
+RefusesNext side t (Some x) Attention n = IsFed side t x (Err Attention) n
+RefusesNext side t (Some x) (Fault f) n = IsFed side t x (Err (Fault f)) n
 
 -- where items stop moving: no step applies, or nothing is out and the next item that waits is refused
 abbrev pub Settles : {S : Type 0} → Side S → S × State → Result (Unit {0}) FeedRefusal → S → Type 0
 Settles side last (Ok u) n = (n ≡ last.0) × (one_step side last ≡ None)
-Settles side last (Err e) n = (side.out last.0 ≡ []) × Refuses side last.0 (take_answer last.1) e n
+Settles side last (Err e) n = (side.out last.0 ≡ []) × RefusesNext side last.0 (take_answer last.1) e n
 
 -- steps lead to the last side and end, where no step applies, or where nothing is out and the next item that waits is
 -- refused

@@ -8,8 +8,8 @@ use Rattle.courier_messages.specs.RawCalls.{most_call_words}
 abbrev pub most_message_words : ℕ
 most_message_words = 65534
 
-abbrev pub HasRoom : Message → Type 0
-HasRoom (Call transaction program version procedure words) = length words ≤ most_call_words
-HasRoom (Reject transaction reason words) = length words ≤ most_message_words
-HasRoom (Return transaction words) = length words ≤ most_message_words
-HasRoom (Abort transaction error words) = length words ≤ most_message_words
+abbrev pub MessageHasRoom : Message → Type 0
+MessageHasRoom (Call transaction program version procedure words) = length words ≤ most_call_words
+MessageHasRoom (Reject transaction reason words) = length words ≤ most_message_words
+MessageHasRoom (Return transaction words) = length words ≤ most_message_words
+MessageHasRoom (Abort transaction error words) = length words ≤ most_message_words

@@ -12,7 +12,7 @@ use Rattle.courier_messages.specs.Conversation.{Phase, opening}
 use Rattle.courier_messages.specs.Cutting.{cut, versions_item}
 use Rattle.courier_messages.specs.Phases.{run, said, ◌then◌}
 use Rattle.courier_messages.specs.Text.{signs}
-use Rattle.courier_sessions.specs.Feeding.{most_item, heard}
+use Rattle.courier_sessions.specs.Feeding.{most_item, feed_result}
 use Rattle.courier_sessions.specs.declared.call_refusal.CallRefusal.{CallRefusal}
 use Rattle.courier_sessions.specs.declared.call_refusal.CallRefusal.TheVariants as refusals
 use Rattle.courier_sessions.specs.declared.feed_refusal.FeedRefusal.{FeedRefusal}
@@ -73,13 +73,13 @@ answered_unless (Some e) t m = Err e
 answered_unless None t m = Ok (record t { waiting = false; outcome = Some m })
 
 -- the side with the messages that an item ended, of which there is at most one
-abbrev pub answered : Talk → List Message → Result Talk SessionFault
-answered t [] = Ok t
-answered t (m ∷ ms) = answered_unless (reply_fault t.waiting t.transaction m) t m
+abbrev pub with_ended_messages : Talk → List Message → Result Talk SessionFault
+with_ended_messages t [] = Ok t
+with_ended_messages t (m ∷ ms) = answered_unless (reply_fault t.waiting t.transaction m) t m
 
 -- the side with one more item of the peer's, or the first fault
 abbrev pub after_item : Talk → Item → Result Talk SessionFault
-after_item t x = run t.phase (signs x) then λ p. answered (record t { phase = p }) (said t.phase (signs x))
+after_item t x = run t.phase (signs x) then λ p. with_ended_messages (record t { phase = p }) (said t.phase (signs x))
 
 -- the side once an item is taken in, or the first reason why the item is refused, in this order
 abbrev pub fed : Talk → Item → Result Talk FeedRefusal
@@ -87,7 +87,7 @@ fed t x =
     if t.failed then Err unfed.Stopped
     else if x.attention then Err unfed.Attention
     else if nat_lt most_item (length x.body) then Err unfed.TooLong
-    else heard (after_item t x)
+    else feed_result (after_item t x)
 
 -- the side is stopped; what is out and the answer that is there stay
 abbrev pub IsStopped : Talk → Talk → Type 0

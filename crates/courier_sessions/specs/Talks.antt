@@ -47,7 +47,7 @@ pub record HasDone (made : List RawCall) (fed given : List Item) (handed : List 
   pub ending : ending fed ≡ Ok t.phase
 
 -- an item stops the conversation, or ends a message that is no answer to the call that waits
-abbrev pub Refuses : List Item → Talk → Item → SessionFault → Type 0
-Refuses fed t x e =
+abbrev pub StopsTalk : List Item → Talk → Item → SessionFault → Type 0
+StopsTalk fed t x e =
     (ending (fed ++ x ∷ []) ≡ Err e)
     ⊎ ((m : Message) × (conversation (fed ++ x ∷ []) ≡ conversation fed ++ m ∷ []) × (reply_fault t.waiting t.transaction m ≡ Some e))

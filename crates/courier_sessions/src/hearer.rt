@@ -19,7 +19,7 @@ pub trait Hearer {
     ghost use Rattle.courier_messages.specs.Conversation.{Phase};
     ghost use Rattle.courier_messages.specs.Refusal.{Follows, KeepsNothing, MakeSecondPiece};
     ghost use Rattle.courier_messages.specs.Text.{item_of};
-    ghost use Rattle.courier_sessions.specs.Feeding.{Judges, MayGrow, fed_unless, told};
+    ghost use Rattle.courier_sessions.specs.Feeding.{Judges, MayGrow, fed_unless, look_result};
     ghost use Rattle.courier_sessions.specs.Pumping.{Side};
 
     // What is out at the side, and what comes of an item that it is fed.
@@ -85,7 +85,7 @@ pub trait Hearer {
     /// What is returned for an item that the side looked at. A fault stops the side; where memory is refused, the side
     /// goes on.
     final fn tell(&mut self, taken: Result<(), SessionFault>) -> Result<(), FeedRefusal>
-        ensures told { result ≡ told taken }
+        ensures told { result ≡ look_result taken }
         ensures good { taken ≡ Ok tt → self.new ≡ self.old }
         ensures memory { taken ≡ Err NoMemory → self.new ≡ self.old }
         ensures stops { taken ≢ Ok tt → taken ≢ Err NoMemory → side.stops self.old self.new }

@@ -13,11 +13,11 @@ ghost use Rattle.courier_sessions.specs.declared.program.Program.{Program};
 ghost use Rattle.courier_sessions.specs.declared.unlisted.Unlisted.{Unlisted};
 ghost use Rattle.courier_sessions.specs.Answering.{Answering, new_answering, is_busy, after_item as after_heard, transaction_in};
 ghost use Rattle.courier_sessions.specs.Answering.{after_call, why_unlisted, reject_message, after_reject, answer_message, answer_refusal};
-ghost use Rattle.courier_sessions.specs.Answering.{answered};
+ghost use Rattle.courier_sessions.specs.Answering.{with_answer_out};
 ghost use Rattle.courier_sessions.specs.Answerings.{HasAnswered};
-ghost use Rattle.courier_sessions.specs.Room.{HasRoom};
+ghost use Rattle.courier_sessions.specs.Room.{MessageHasRoom};
 ghost use Rattle.courier_sessions.specs.Talk.{Talk, new_talk, called, call_refusal, after_item};
-ghost use Rattle.courier_sessions.specs.Talks.{HasDone, Refuses, made_messages};
+ghost use Rattle.courier_sessions.specs.Talks.{HasDone, StopsTalk, made_messages};
 ghost use Rattle.std.specs.Option.{option_to_list};
 ghost use Rattle.xns_spp.specs.Growth.{Begins};
 ghost use Rattle.xns_spp.specs.declared.item.Item.{Item};
@@ -37,7 +37,7 @@ pub fn a_session_is_its_conversation()
     ensures hand { (made : List RawCall) (fed given : List Item) (handed : List Message) (t : Talk) (m : Message)
         → HasDone made fed given handed t → t.outcome ≡ Some m → HasDone made fed given (handed ++ m ∷ []) (record t { outcome = None }) }
     ensures fault { (made : List RawCall) (fed given : List Item) (handed : List Message) (t : Talk) (x : Item) (e : SessionFault)
-        → HasDone made fed given handed t → after_item t x ≡ Err e → Refuses fed t x e }
+        → HasDone made fed given handed t → after_item t x ≡ Err e → StopsTalk fed t x e }
 {
     courier_messages::laws::more_calls_go_out();
     courier_messages::laws::one_item_more();
@@ -63,13 +63,13 @@ pub fn a_server_session_is_its_conversation()
     ensures answer { (programs : List Program) (fed given : List Item) (taken handed answers : List Message) (a : Answering)
         (answer : Answer) (k : ℕ) (words : List ℕ) → HasAnswered programs fed given taken handed answers a → a.asked ≡ Some k
         → answer_refusal a.asked answer words ≡ None → HasAnswered programs fed given taken handed
-        (answers ++ answer_message answer k words ∷ []) (answered a (answer_message answer k words)) }
+        (answers ++ answer_message answer k words ∷ []) (with_answer_out a (answer_message answer k words)) }
     ensures refuse { (programs : List Program) (fed given : List Item) (taken handed answers : List Message) (a : Answering) (reason : ℕ)
         (words : List ℕ) (m : Message) → HasAnswered programs fed given taken handed answers a → a.call ≡ Some m
         → why_unlisted a.programs m ≡ None → answer_refusal (Some (transaction_in m)) (Reject reason) words ≡ None
         → HasAnswered programs fed given (taken ++ m ∷ []) (handed ++ m ∷ [])
         (answers ++ answer_message (Reject reason) (transaction_in m) words ∷ [])
-        (answered a (answer_message (Reject reason) (transaction_in m) words)) }
+        (with_answer_out a (answer_message (Reject reason) (transaction_in m) words)) }
     ensures give { (programs : List Program) (fed given : List Item) (taken handed answers : List Message) (a : Answering) (x : Item)
         (xs : List Item) → HasAnswered programs fed given taken handed answers a → a.out ≡ x ∷ xs
         → HasAnswered programs fed (given ++ x ∷ []) taken handed answers (record a { out = xs }) }
@@ -110,11 +110,11 @@ pub fn sessions_agree()
 /// How many words of its own a message has at most: a call that waits has at most 65,530, and any message that was read
 /// at most 65,534. Room for so many words always serves.
 pub fn words_have_their_room()
-    ensures read { (bytes : List ℕ) (m : Message) → message_of bytes ≡ Ok m → HasRoom m }
+    ensures read { (bytes : List ℕ) (m : Message) → message_of bytes ≡ Ok m → MessageHasRoom m }
     ensures call { (programs : List Program) (fed given : List Item) (taken handed answers : List Message) (a : Answering) (m : Message)
         → HasAnswered programs fed given taken handed answers a → a.call ≡ Some m → length (words_in m) ≤ most_call_words }
     ensures outcome { (made : List RawCall) (fed given : List Item) (handed : List Message) (t : Talk) (m : Message)
-        → HasDone made fed given handed t → t.outcome ≡ Some m → HasRoom m }
+        → HasDone made fed given handed t → t.outcome ≡ Some m → MessageHasRoom m }
 {
     courier_messages::laws::message_is_spelled();
 }

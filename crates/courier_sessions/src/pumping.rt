@@ -6,7 +6,7 @@ ghost use Rattle.xns_spp.specs.Held.{StandsFor};
 ghost use Rattle.xns_spp.specs.Sending.{send_fault, after_send, take_answer, after_take};
 ghost use Rattle.xns_spp.specs.State.{State};
 ghost use Rattle.xns_spp.specs.declared.item.Item.{Item};
-ghost use Rattle.courier_sessions.specs.Pumping.{Pumped, Refuses, feeds};
+ghost use Rattle.courier_sessions.specs.Pumping.{Pumped, RefusesNext, feeds};
 
 use crate::feed_refusal::FeedRefusal;
 use crate::side::WordSide;
@@ -74,7 +74,7 @@ fn feed_first<S: WordSide>(
     ensures fed { (s : State) → StandsFor endpoint.old s → result ≡ Ok true →
         (feeds S.side side.old s (take_answer s) ≡ Some (Ok (side.new, after_take s))) × StandsFor endpoint.new (after_take s) }
     ensures unfed { (s : State) → StandsFor endpoint.old s → result ≡ Ok false → feeds S.side side.old s (take_answer s) ≡ None }
-    ensures refused { (s : State) → StandsFor endpoint.old s → IfErr result (λ e. Refuses S.side side.old (take_answer s) e side.new) }
+    ensures refused { (s : State) → StandsFor endpoint.old s → IfErr result (λ e. RefusesNext S.side side.old (take_answer s) e side.new) }
     ensures same { result ≡ Ok false → side.new ≡ side.old }
     ensures stays { result ≢ Ok true → endpoint.new ≡ endpoint.old }
     ensures out { S.side.out side.new ≡ S.side.out side.old }

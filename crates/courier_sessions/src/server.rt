@@ -9,7 +9,7 @@ ghost use Rattle.courier_messages.specs.Cutting.{cut};
 ghost use Rattle.courier_messages.specs.Head.{with_words};
 ghost use Rattle.courier_sessions.specs.Answering.{Answering, new_answering, is_busy, after_item, transaction_in};
 ghost use Rattle.courier_sessions.specs.Answering.{after_call, why_unlisted, reject_message, after_reject, answer_message, answers_to};
-ghost use Rattle.courier_sessions.specs.Answering.{answer_refusal, AnswerAnswers, answered};
+ghost use Rattle.courier_sessions.specs.Answering.{answer_refusal, AnswerAnswers, with_answer_out};
 ghost use Rattle.courier_sessions.specs.Pumping.{server_side};
 ghost use Rattle.courier_sessions.specs.declared.unlisted.Unlisted.{Unlisted};
 
@@ -166,7 +166,7 @@ impl WordServer {
 
     /// Puts out the items of an answer.
     fn put_out(&mut self, alloc: Global, head: Head, words: &[u16]) -> Result<(), AllocError>
-        ensures answered { result ≡ Ok tt → self.new ≡ answered self.old (with_words head words.now) }
+        ensures answered { result ≡ Ok tt → self.new ≡ with_answer_out self.old (with_words head words.now) }
         ensures unchanged { OnErr result (self.new ≡ self.old) }
     {
         put_message(alloc, head, words, &mut self.out)?;
@@ -203,7 +203,7 @@ impl WordServer {
         words: &[u16],
     ) -> Result<(), AnswerRefusal>
         ensures answer { AnswerAnswers (answer_refusal asked answer words.now) result }
-        ensures answered { (k : ℕ) → asked ≡ Some k → result ≡ Ok tt → self.new ≡ answered self.old (answer_message answer k words.now) }
+        ensures answered { (k : ℕ) → asked ≡ Some k → result ≡ Ok tt → self.new ≡ with_answer_out self.old (answer_message answer k words.now) }
         ensures unchanged { OnErr result (self.new ≡ self.old) }
     {
         let Some(transaction) = asked else {
@@ -231,7 +231,7 @@ impl WordServer {
     ) -> Result<(), AnswerRefusal>
         ensures answer { AnswerAnswers (answer_refusal self.old.asked answer words.now) result }
         ensures answered { (k : ℕ) → self.old.asked ≡ Some k → result ≡ Ok tt
-            → self.new ≡ answered self.old (answer_message answer k words.now) }
+            → self.new ≡ with_answer_out self.old (answer_message answer k words.now) }
         ensures unchanged { OnErr result (self.new ≡ self.old) }
     {
         self.answer_to(alloc, self.asked, answer, words)
@@ -248,7 +248,7 @@ impl WordServer {
     ) -> Result<(), AnswerRefusal>
         ensures answer { AnswerAnswers (answer_refusal (answers_to self.old answer) answer words.now) result }
         ensures answered { (k : ℕ) → answers_to self.old answer ≡ Some k → result ≡ Ok tt
-            → self.new ≡ answered self.old (answer_message answer k words.now) }
+            → self.new ≡ with_answer_out self.old (answer_message answer k words.now) }
         ensures unchanged { OnErr result (self.new ≡ self.old) }
     {
         let asked = self.answers_to(answer);

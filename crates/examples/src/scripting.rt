@@ -1,6 +1,6 @@
 //! The lines of a simulation, one after the other.
 ghost use Rattle.std.specs.Prelude.{◌≤◌, [], ◌∷◌, IfOk, length};
-ghost use Rattle.xns_script.specs.Reading.{HasRead};
+ghost use Rattle.xns_script.specs.Reading.{HasReadLines};
 
 use std::alloc::{AllocError, Global};
 use std::io;
@@ -10,7 +10,7 @@ use xns_script::Script;
 fn script_of(alloc: Global, first: &[u8], second: &[u8]) -> Result<Script, AllocError>
     requires first { length first.now ≤ 4096 }
     requires second { length second.now ≤ 4096 }
-    ensures { IfOk result (λ script. HasRead script (first.now ∷ second.now ∷ [])) }
+    ensures { IfOk result (λ script. HasReadLines script (first.now ∷ second.now ∷ [])) }
 {
     let mut script = Script::new(alloc);
     script.read_line(1, first)?;

@@ -5,7 +5,7 @@ use Rattle.std.proofs.lemmas.List.Elements.{All-contains}
 use Rattle.std.proofs.lemmas.Option.{slice_get_within}
 use Rattle.courier_sessions.specs.declared.program.Program.{Program}
 use Rattle.item_world.specs.Progress.{IsFrom}
-use Rattle.item_world.specs.World.{end_of}
+use Rattle.item_world.specs.World.{end_at}
 use Rattle.item_world.specs.declared.emitted.Emitted.{Emitted}
 use Rattle.item_world.proofs.Fronts.{all_get}
 use Rattle.item_world.specs.declared.side.Side.{Side}
@@ -34,7 +34,7 @@ use Rattle.xns_host.specs.Hosting.{HasNoRoom, IsAllInUse, IsAnswering, address_i
 use Rattle.xns_host.specs.Knowing.{id_of}
 use Rattle.xns_host.specs.Ours.{IsOpener}
 use Rattle.xns_host.specs.Ours as ours
-use Rattle.xns_host.specs.Places.{Places, Turns}
+use Rattle.xns_host.specs.Places.{Places, PlaceTurns}
 use Rattle.xns_host.specs.Registered.{named_in}
 use Rattle.xns_host.specs.Services.{programs_at}
 use Rattle.xns_host.specs.Strays.{StrayQueue, lost_stray}
@@ -44,12 +44,12 @@ use Rattle.xns_host.specs.Whole.{Whole}
 use Rattle.xns_host.specs.declared.guest.Guest.{Guest}
 use Rattle.xns_host.specs.declared.host.Host.{Host}
 use Rattle.xns_host.specs.declared.register.Register.{Register}
-use Rattle.host_world.specs.Awaiting.{CannotOpen, HasCalled, HasOpened, HostAwaits, IsSentFrom}
+use Rattle.host_world.specs.Awaiting.{CannotOpen, HasNewConnection, HasOpened, HostAwaits, IsSentFrom}
 use Rattle.host_world.specs.Following.{EachFollowed, MayTake, StandsOn}
 use Rattle.host_world.specs.Guests.{LeadsTo}
 use Rattle.host_world.specs.Meeting.{HasMade, Meeting, Party, at}
 use Rattle.host_world.specs.Meets.{opens}
-use Rattle.host_world.specs.Pairing.{no_more}
+use Rattle.host_world.specs.Pairing.{with_no_more}
 use Rattle.host_world.specs.Station.{IsStation, called_end}
 use Rattle.host_world.specs.declared.station.Station.{Station}
 use Rattle.host_world.proofs.Agreed.{side_on}
@@ -62,7 +62,7 @@ use Rattle.host_world.proofs.Onward.{Laws, sound}
 
 -- ---- the host that connects
 
-pub called : (now way socket here : ℕ) (peer : Address) (h j : Host) → ConnectsTo now way socket peer (Ok here) h j → HasCalled j here (address_in h.network h.host socket) peer
+pub called : (now way socket here : ℕ) (peer : Address) (h j : Host) → ConnectsTo now way socket peer (Ok here) h j → HasNewConnection j here (address_in h.network h.host socket) peer
 called now way socket here peer h j c =
     let n = c.connected in
     let g = n.guest in
@@ -121,13 +121,13 @@ names laws h here a b programs d m bytes s given =
     let met = is_met laws.ends laws.order laws.stories a b programs m s.station s.peer s.meets in
     let linked = (sound laws a b programs s.station s.peer s.meets).1 in
     let x = made_there m.world A bytes (All-contains (HasMade m.world A) (at m A).given bytes (met.given A) given) in
-    let from = all_get (λ (y : Emitted). IsFrom (end_of m.world y.side).ends y.bytes) m.world.bag x.0 x.1 linked.bag x.2 in
+    let from = all_get (λ (y : Emitted). IsFrom (end_at m.world y.side).ends y.bytes) m.world.bag x.0 x.1 linked.bag x.2 in
     let side : x.1.side ≡ A = ap (λ (y : Side × List ℕ). y.0) x.3 in
     let same : x.1.bytes ≡ bytes = ap (λ (y : Side × List ℕ). y.1) x.3 in
-    let theirs : end_of m.world B ≡ called_end b a = k.ends B ∙ ap (λ (p : Party). p.story.state) s.new in
-    said_from a b (end_of m.world A).ends bytes s.station
-    (subst (λ (v : State). IsLinked v.ends (end_of m.world A).ends) theirs (linked.ends B))
-    (subst (λ (bs : List ℕ). IsFrom (end_of m.world A).ends bs) same (subst (λ (i : Side). IsFrom (end_of m.world i).ends x.1.bytes) side from))
+    let theirs : end_at m.world B ≡ called_end b a = k.ends B ∙ ap (λ (p : Party). p.story.state) s.new in
+    said_from a b (end_at m.world A).ends bytes s.station
+    (subst (λ (v : State). IsLinked v.ends (end_at m.world A).ends) theirs (linked.ends B))
+    (subst (λ (bs : List ℕ). IsFrom (end_at m.world A).ends bs) same (subst (λ (i : Side). IsFrom (end_at m.world i).ends x.1.bytes) side from))
 
 -- ---- the host that takes the packet in
 
@@ -147,7 +147,7 @@ record OpensAt (now way : ℕ) (bytes : List ℕ) (w : Whole) (place : Option (O
   pub there : place ≡ Some (Some next)
 
 opened_there : (now way : ℕ) (bytes : List ℕ) (p : SppPacketModel) (w : Whole) {register : Register} {mid q : Places} (number id : ℕ) (peer : Address) (programs : List Program) → spp_packet_of bytes ≡ Ok p → opener_of p ≡ Some (peer, id)
-    → programs_at w.services.programs p.target.socket ≡ Some programs → Seats now way w p.target.socket peer id programs number register mid → Turns (GuestHears now bytes false) number mid q
+    → programs_at w.services.programs p.target.socket ≡ Some programs → Seats now way w p.target.socket peer id programs number register mid → PlaceTurns (GuestHears now bytes false) number mid q
     → OpensAt now way bytes w (slice_get q.guests number)
 opened_there now way bytes p w {mid = mid} number id peer programs is opener served seats turn = record {
   packet = p;
@@ -170,7 +170,7 @@ opened_there now way bytes p w {mid = mid} number id peer programs is opener ser
 free_or_not : (place : Option (Option Guest)) (g : Guest) → place ≡ Some None → place ≡ Some (Some g) → ⊥
 free_or_not place g free taken = absurd (cc)
 
-turned_free : {P : Guest → Guest → Type 0} (number : ℕ) (p r : Places) (there : ℕ) (g : Guest) → Turns P number p r → slice_get p.guests there ≡ Some None → slice_get r.guests there ≡ Some (Some g) → ⊥
+turned_free : {P : Guest → Guest → Type 0} (number : ℕ) (p r : Places) (there : ℕ) (g : Guest) → PlaceTurns P number p r → slice_get p.guests there ≡ Some None → slice_get r.guests there ≡ Some (Some g) → ⊥
 turned_free number p r there g t free taken = by (same_or_other there number) where
   by : (there ≡ number) ⊎ (there ≢ number) → ⊥
   by (inl same) = free_or_not (slice_get p.guests there) t.guest free (ap (λ (k : ℕ). slice_get p.guests k) same ∙ t.was)
@@ -301,7 +301,7 @@ opened_at law now way there bytes k l a o from =
         silent = o.answering.made.made.silent;
       };
       meets = λ h here m s may.
-          let led : LeadsTo a b o.programs 1 m B o.next no_more [] = hears_it now bytes false g o.next law o.hears a b o.programs m B s.meets (ap (λ (x : Party). x.conversation) s.new) may in (
+          let led : LeadsTo a b o.programs 1 m B o.next with_no_more [] = hears_it now bytes false g o.next law o.hears a b o.programs m B s.meets (ap (λ (x : Party). x.conversation) s.new) may in (
             led.next,
             record {
               station = s.station;

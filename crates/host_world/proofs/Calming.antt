@@ -5,7 +5,7 @@ use Rattle.std.specs.Option.{is_some}
 use Rattle.std.proofs.lemmas.Option.{slice_get_within}
 use Rattle.xns_connection.specs.Ends.{AConnectionKeepsItsEnd}
 use Rattle.xns_host.specs.Hosting.{may_go}
-use Rattle.xns_host.specs.Places.{Acts, ActsAt, GivesNone, NextPacket, Places, Turns, became, packet_passed, seated, vacated_if}
+use Rattle.xns_host.specs.Places.{ActsOneByOne, ActsAt, GivesNone, NextPacket, Places, PlaceTurns, became, packet_passed, seated, vacated_if}
 use Rattle.xns_host.specs.Places as places
 use Rattle.xns_host.specs.Went.{GuestGives}
 use Rattle.xns_host.specs.declared.guest.Guest.{Guest}
@@ -13,7 +13,7 @@ use Rattle.xns_host.specs.declared.host_fault.HostFault.{HostFault}
 use Rattle.xns_host.specs.declared.host_fault.HostFault.TheVariants.{NoMemory}
 use Rattle.xns_host.specs.declared.outgoing.Outgoing.{Outgoing}
 use Rattle.host_world.specs.Dialogue.{Dialogue, Happening, View, free, held}
-use Rattle.host_world.specs.Seen.{guest_in, happens}
+use Rattle.host_world.specs.Seen.{guest_in, happened_at}
 use Rattle.host_world.proofs.Doing.{acting, giving_out}
 use Rattle.host_world.proofs.Happens.{Calm, IsClosedWhereTold, between_same, calm_here, calm_join, calm_then}
 use Rattle.host_world.proofs.Numbers.{Leads, at_each_place, at_place, goes_from, may_be_told, passes_then, still_there}
@@ -24,7 +24,7 @@ use Rattle.host_world.proofs.Shown.{Alone, Passes, Shows, ShowsIn}
 -- no connection came to the place, and what happened leads from this view of the old place to one of the new one
 pub record Calmly (v : View) (old new : Option (Option Guest)) : Type 0 where
   pub calm : Calm (guest_in old) (guest_in new)
-  pub passes : Passes (happens [] old new) v new
+  pub passes : Passes (happened_at [] old new) v new
 
 abbrev pub CalmAt : (old new : Option (Option Guest)) → Type 0
 CalmAt old new = (v : View) → ShowsIn v old → Calmly v old new
@@ -47,7 +47,7 @@ both_calm a b c p q v shows =
     record {
       calm = calm_then (guest_in a) (guest_in b) (guest_in c) one.calm two.calm;
       passes = subst (λ (xs : List Happening). Passes xs v c) (calm_join (guest_in a) (guest_in b) (guest_in c) one.calm two.calm (closed_where_told v a shows))
-          (passes_then (happens [] a b) (happens [] b c) v b c one.passes (λ w s. (q w s).passes));
+          (passes_then (happened_at [] a b) (happened_at [] b c) v b c one.passes (λ w s. (q w s).passes));
     }
 
 alone_calm : (g h : Guest) → ((d : Dialogue) → Shows d g → Alone d g h) → CalmAt (Some (Some g)) (Some (Some h))
@@ -82,7 +82,7 @@ then_calm a b c p q k = both_calm (slice_get a k) (slice_get b k) (slice_get c k
 set_calm : (gs : List (Option Guest)) (number : ℕ) (old new : Option Guest) → slice_get gs number ≡ Some old → CalmAt (Some old) (Some new) → AllCalm gs (slice_set gs number new)
 set_calm gs number old new is one = at_each_place CalmAt calm_there gs number old new is one
 
-pub turned : (P : Guest → Guest → Type 0) (number : ℕ) (p r : Places) → ((d : Dialogue) (g h : Guest) → Shows d g → P g h → Alone d g h) → Turns P number p r → AllCalm p.guests r.guests
+pub turned : (P : Guest → Guest → Type 0) (number : ℕ) (p r : Places) → ((d : Dialogue) (g h : Guest) → Shows d g → P g h → Alone d g h) → PlaceTurns P number p r → AllCalm p.guests r.guests
 turned P number p r each t =
     subst (AllCalm p.guests) (sym (ap (λ (q : Places). q.guests) t.is))
     (set_calm p.guests number (Some t.guest) (Some t.next) t.was (alone_calm t.guest t.next (λ d s. each d t.guest t.next s t.turn)))
@@ -101,12 +101,12 @@ acts_at ends now number p r a =
     (set_calm p.guests number (Some a.guest) (Some a.next) a.was (alone_calm a.guest a.next (λ d s. acting ends now d a.guest a.next s a.acts)))
     (leaves q number a.next (may_go a.next.connection) refl (at_place p.guests number (Some a.next) (slice_get_within p.guests number (Some a.guest) a.was))))
 
-pub all_act : AConnectionKeepsItsEnd → (now : ℕ) (p : Places) {r : Places} → Acts now p r → AllCalm p.guests r.guests
-all_act ends now p Acts.nobody = all_calm p.guests
-all_act ends now p (Acts.another {q = q} {r = r} number before first act) =
+pub all_act : AConnectionKeepsItsEnd → (now : ℕ) (p : Places) {r : Places} → ActsOneByOne now p r → AllCalm p.guests r.guests
+all_act ends now p ActsOneByOne.nobody = all_calm p.guests
+all_act ends now p (ActsOneByOne.another {q = q} {r = r} number before first act) =
     then_calm p.guests q.guests r.guests (all_act ends now p before) (acts_at ends now number q r act)
 
-asks_packet : AConnectionKeepsItsEnd → (now number : ℕ) (result : Result (Option Outgoing) HostFault) (p r : Places) → Turns (GuestGives now result) number (packet_passed p number) r → AllCalm p.guests r.guests
+asks_packet : AConnectionKeepsItsEnd → (now number : ℕ) (result : Result (Option Outgoing) HostFault) (p r : Places) → PlaceTurns (GuestGives now result) number (packet_passed p number) r → AllCalm p.guests r.guests
 asks_packet ends now number result p r t = turned (GuestGives now result) number (packet_passed p number) r (λ d g h s g_h. giving_out ends now result d g h s g_h) t
 
 gives_none : AConnectionKeepsItsEnd → (now : ℕ) (p : Places) {r : Places} → GivesNone now p r → AllCalm p.guests r.guests

@@ -10,7 +10,7 @@ use Rattle.courier_sessions.specs.declared.answer.Answer.{Answer}
 use Rattle.courier_sessions.specs.declared.answer.Answer.TheVariants as kinds
 use Rattle.xns_connection.specs.declared.why.Why.{Why}
 use Rattle.host_world.specs.Dialogue.{Dialogue, new_dialogue, View, free, held, IsEven, IsOpen, IsUntold, MayGo, Happening, announces, connects, tells, opens, closes, goes}
-use Rattle.host_world.specs.Dialogue.{Move, connecting, opening, announcing, calling, handing_answer, handing_call, answering, asking, closing, telling, freeing, abandoning, Course}
+use Rattle.host_world.specs.Dialogue.{ViewMove, connecting, opening, announcing, calling, handing_answer, handing_call, answering, asking, closing, telling, freeing, abandoning, Course}
 use Rattle.host_world.specs.Dialogue.{IsInOrder, IsOpening, is_news, is_going, Happened, WasTold, IsUnheard, IsNewlyConnected}
 
 -- ---- lists
@@ -48,7 +48,7 @@ record At (v : View) (xs : List Happening) (x : Happening) (ys : List Happening)
   before : View
   behind : View
   reaches : Course v xs before
-  step : Move before x behind
+  step : ViewMove before x behind
   on : Course behind ys w
 
 at : (v : View) (xs : List Happening) (x : Happening) (ys : List Happening) (w : View) → Course v (xs ++ x ∷ ys) w → At v xs x ys w
@@ -95,7 +95,7 @@ one_answer_more d call m unanswered number h =
       most = omega (arith, one, most);
     }
 
-stays_in_order : {v w : View} {x : Happening} → Move v x w → InOrder v → InOrder w
+stays_in_order : {v w : View} {x : Happening} → ViewMove v x w → InOrder v → InOrder w
 stays_in_order connecting h = new_in_order true
 stays_in_order opening h = new_in_order false
 stays_in_order (announcing d untold) h = record { each = h.each; few = h.few; most = h.most }
@@ -122,7 +122,7 @@ in_order xs d p = in_order_on free xs (held d) p tt
 
 -- a step into a connection of which this is so is one by which it came to be, or it was so before, and the step is not of that kind
 abbrev ComesBy : (Q : Dialogue → Type 0) (kind : Happening → Bool) (Mark : Happening → Type 0) → Type 0
-ComesBy Q kind Mark = (v : View) (x : Happening) (d : Dialogue) → Move v x (held d) → Q d
+ComesBy Q kind Mark = (v : View) (x : Happening) (d : Dialogue) → ViewMove v x (held d) → Q d
     → Mark x ⊎ ((e : Dialogue) × (v ≡ held e) × Q e × (kind x ≡ false))
 
 -- what Q says came to be in this history, or was so at first
@@ -143,7 +143,7 @@ came Q kind Mark comes v (y ∷ ys) d p q = by (came Q kind Mark comes p.0 ys d 
 
   by : Came Q kind Mark p.0 ys → Came Q kind Mark v (y ∷ ys)
   by (inl marked) = inl (marked.0, marked.1, earlier kind y marked.0 ys marked.2)
-  by (inr since) = here since.3 (comes v y since.0 (subst (λ (u : View). Move v y u) since.1 p.1) since.2)
+  by (inr since) = here since.3 (comes v y since.0 (subst (λ (u : View). ViewMove v y u) since.1 p.1) since.2)
 
 -- from a free number on it came to be
 came_to_be : (Q : Dialogue → Type 0) (kind : Happening → Bool) (Mark : Happening → Type 0) → ComesBy Q kind Mark
@@ -155,7 +155,7 @@ came_to_be Q kind Mark comes xs d p q = by (came Q kind Mark comes free xs d p q
 
 -- ---- why it is closed
 
-closed_by : (why : Why) {v : View} {x : Happening} {d : Dialogue} → Move v x (held d) → d.closed ≡ Some why
+closed_by : (why : Why) {v : View} {x : Happening} {d : Dialogue} → ViewMove v x (held d) → d.closed ≡ Some why
     → (x ≡ closes why) ⊎ ((e : Dialogue) × (v ≡ held e) × (e.closed ≡ Some why) × (is_going x ≡ false))
 closed_by why connecting q = absurd (cc)
 closed_by why opening q = absurd (cc)
@@ -168,7 +168,7 @@ closed_by why (asking d) q = inr (d, refl, q, refl)
 closed_by why (closing d other unanswered) q = inl (let same : other ≡ why = cc in ap closes same)
 closed_by why (telling d other is untold) q = inr (d, refl, q, refl)
 
-told_by : {v : View} {x : Happening} {d : Dialogue} → Move v x (held d) → d.told ≡ true
+told_by : {v : View} {x : Happening} {d : Dialogue} → ViewMove v x (held d) → d.told ≡ true
     → ((why : Why) × (x ≡ tells why)) ⊎ ((e : Dialogue) × (v ≡ held e) × (e.told ≡ true) × (is_going x ≡ false))
 told_by connecting q = absurd (cc)
 told_by opening q = absurd (cc)
@@ -181,7 +181,7 @@ told_by (asking d) q = inr (d, refl, q, refl)
 told_by (closing d other unanswered) q = inr (d, refl, q, refl)
 told_by (telling d why is untold) q = inl (why, refl)
 
-opened_by : {v : View} {x : Happening} {d : Dialogue} → Move v x (held d) → (d.ours ≡ false) × (d.calls ≡ []) × (d.closed ≡ None)
+opened_by : {v : View} {x : Happening} {d : Dialogue} → ViewMove v x (held d) → (d.ours ≡ false) × (d.calls ≡ []) × (d.closed ≡ None)
     → (x ≡ opens) ⊎ ((e : Dialogue) × (v ≡ held e) × ((e.ours ≡ false) × (e.calls ≡ []) × (e.closed ≡ None)) × ((is_news x || is_going x) ≡ false))
 opened_by connecting q = let theirs = q.0 in absurd (cc)
 opened_by opening q = inl refl
@@ -194,7 +194,7 @@ opened_by (asking d) q = inr (d, refl, q, refl)
 opened_by (closing d other unanswered) q = let none = q.2 in absurd (cc)
 opened_by (telling d why is untold) q = let unanswered = q.2 in absurd (cc)
 
-connected_by : {v : View} {x : Happening} {d : Dialogue} → Move v x (held d) → IsUntold d
+connected_by : {v : View} {x : Happening} {d : Dialogue} → ViewMove v x (held d) → IsUntold d
     → (x ≡ connects) ⊎ ((e : Dialogue) × (v ≡ held e) × IsUntold e × ((is_news x || is_going x) ≡ false))
 connected_by connecting q = inl refl
 connected_by opening q = let ours = q.0 in absurd (cc)
@@ -209,13 +209,13 @@ connected_by (telling d why is untold) q = let unheard = q.3 in absurd (cc)
 
 -- ---- what the last step says
 
-is_announcing : {v w : View} → Move v announces w → (d : Dialogue) × (v ≡ held d) × IsUntold d
+is_announcing : {v w : View} → ViewMove v announces w → (d : Dialogue) × (v ≡ held d) × IsUntold d
 is_announcing (announcing d untold) = (d, refl, untold)
 
-is_telling : {v w : View} {why : Why} → Move v (tells why) w → (d : Dialogue) × (v ≡ held d) × (d.closed ≡ Some why) × (w ≡ held (record d { told = true }))
+is_telling : {v w : View} {why : Why} → ViewMove v (tells why) w → (d : Dialogue) × (v ≡ held d) × (d.closed ≡ Some why) × (w ≡ held (record d { told = true }))
 is_telling (telling d why is untold) = (d, refl, is, refl)
 
-is_freeing : {v w : View} → Move v goes w → (d : Dialogue) × (v ≡ held d) × MayGo d × (w ≡ free)
+is_freeing : {v w : View} → ViewMove v goes w → (d : Dialogue) × (v ≡ held d) × MayGo d × (w ≡ free)
 is_freeing (freeing d may) = (d, refl, may, refl)
 
 pub reason : (xs : List Happening) (why : Why) (ys : List Happening) (v : View) → Course free (xs ++ tells why ∷ ys) v → Happened (closes why) is_going xs
@@ -247,7 +247,7 @@ newly xs ys v p =
 
 -- ---- nothing is told behind the close
 
-told_on : {d : Dialogue} {x : Happening} {w : View} → Move (held d) x w → d.told ≡ true → (is_going x ≡ true) ⊎ ((e : Dialogue) × (w ≡ held e) × (e.told ≡ true))
+told_on : {d : Dialogue} {x : Happening} {w : View} → ViewMove (held d) x w → d.told ≡ true → (is_going x ≡ true) ⊎ ((e : Dialogue) × (w ≡ held e) × (e.told ≡ true))
 told_on (announcing d untold) t = let untold_yet = untold.3 in absurd (cc)
 told_on (calling d c ours even unasked unanswered) t = inr (record d { calls = d.calls ++ call_message (transaction_of (length d.calls + 1)) c ∷ [] }, refl, t)
 told_on (handing_answer d call m ours unanswered number untold) t = absurd (cc)
@@ -259,7 +259,7 @@ told_on (telling d why is untold) t = absurd (cc)
 told_on (freeing d may) t = inl refl
 told_on (abandoning d) t = inl refl
 
-no_news : {d : Dialogue} {x : Happening} {w : View} → Move (held d) x w → d.told ≡ true → is_news x ≡ true → ⊥
+no_news : {d : Dialogue} {x : Happening} {w : View} → ViewMove (held d) x w → d.told ≡ true → is_news x ≡ true → ⊥
 no_news (announcing d untold) t n = let untold_yet = untold.3 in cc
 no_news (calling d c ours even unasked unanswered) t n = cc
 no_news (handing_answer d call m ours unanswered number untold) t n = cc
@@ -296,11 +296,11 @@ last xs why ys x zs v p news =
     by d n (told_till d ys n.before refl n.reaches) where
       by : (d : Dialogue) (n : At (held d) ys x zs v) → Frees ys ⊎ ((e : Dialogue) × (n.before ≡ held e) × (e.told ≡ true)) → Frees ys
       by d n (inl c) = c
-      by d n (inr still) = absurd (no_news (subst (λ (u : View). Move u x n.behind) still.1 n.step) still.2 news)
+      by d n (inr still) = absurd (no_news (subst (λ (u : View). ViewMove u x n.behind) still.1 n.step) still.2 news)
 
 -- ---- a number that is free
 
-is_opening : {x : Happening} {w : View} → Move free x w → IsOpening x
+is_opening : {x : Happening} {w : View} → ViewMove free x w → IsOpening x
 is_opening connecting = inl refl
 is_opening opening = inr refl
 
@@ -309,7 +309,7 @@ unfolding Course
 first x xs v p = is_opening p.1
 
 -- each step by which the number becomes free leads there
-freed : {v w : View} {g : Happening} → Move v g w → is_going g ≡ true → w ≡ free
+freed : {v w : View} {g : Happening} → ViewMove v g w → is_going g ≡ true → w ≡ free
 freed (freeing d may) e = refl
 freed (abandoning d) e = refl
 freed connecting e = absurd (cc)

@@ -14,10 +14,10 @@ use Rattle.xns_host.specs.Coming as coming
 use Rattle.xns_connection.specs.Deeds as deeds
 use Rattle.xns_connection.specs.Ends.{AConnectionKeepsItsEnd, opener_of}
 use Rattle.xns_host.specs.Events.{event_by, event_in, event_of, is_newly_open}
-use Rattle.xns_host.specs.Hosting.{IsPlace, confirms, free_place, of_closed, of_stranger, may_go, tells as has_news}
+use Rattle.xns_host.specs.Hosting.{IsPlaceForNew, confirms, free_place, of_closed, of_stranger, may_go, tells as has_news}
 use Rattle.xns_connection.specs.Living.{Deeds}
 use Rattle.xns_agenda.specs.Turns.{has_turn}
-use Rattle.xns_host.specs.Places.{AsksEvent, AsksPacket, NextEvent, NextPacket, Places, Turns, became, event_passed, packet_passed, seated, taken_by, vacated, vacated_if}
+use Rattle.xns_host.specs.Places.{AsksEvent, AsksPacket, NextEvent, NextPacket, Places, PlaceTurns, became, event_passed, packet_passed, seated, taken_by, vacated, vacated_if}
 use Rattle.xns_host.specs.Places as places
 use Rattle.xns_connection.specs.Deeds.{Parts}
 use Rattle.xns_connection.specs.Step.{AStepKeepsItsPromises, parts_of}
@@ -32,7 +32,7 @@ use Rattle.xns_host.specs.declared.host_fault.HostFault.{HostFault}
 use Rattle.xns_host.specs.declared.host_fault.HostFault.TheVariants.{NoMemory}
 use Rattle.xns_host.specs.declared.outgoing.Outgoing.{Outgoing}
 use Rattle.xns_host.specs.Strays.{StrayQueue}
-use Rattle.xns_host.specs.Identifiers.{IsNext}
+use Rattle.xns_host.specs.Identifiers.{IsNextIdentifier}
 use Rattle.xns_host.specs.Knowing.{id_of}
 use Rattle.xns_host.specs.Registered.{IsAllRegistered}
 use Rattle.xns_host.specs.declared.register.Register.{Register}
@@ -40,9 +40,9 @@ use Rattle.xns_agenda.specs.Clock.{time_at}
 use Rattle.xns_agenda.specs.Waiting.{due_time}
 use Rattle.host_world.specs.Following.{MayTake, EachFollowed, ProgramHasDone, HasGiven, IsFollowed, MayBeForgotten, deed_of, did_at, gave_at, gave_none, is_last, over_at, over_none}
 use Rattle.host_world.specs.Following as following
-use Rattle.host_world.specs.Guests.{LeadsOn, packets_in}
+use Rattle.host_world.specs.Guests.{LeadsOn, packet_returned}
 use Rattle.host_world.specs.Meeting.{Meeting}
-use Rattle.host_world.specs.Pairing.{no_more, one_message_more}
+use Rattle.host_world.specs.Pairing.{with_no_more, one_message_more}
 use Rattle.host_world.specs.Seen.{number_of}
 use Rattle.host_world.proofs.Guests.{announced, answers, calls, closes, hands, hears_it, not_served, same_goes, tells}
 use Rattle.host_world.proofs.Numbers.{at_place, beside, may_be_told, none_is, same_or_other, since_stranger, since_told}
@@ -53,7 +53,7 @@ use Rattle.host_world.proofs.Following.{AskedOnce, Led, led, left, Goes, Still, 
 -- ---- at one number, and at the others
 
 each_by : (most : ℕ) (may : Meeting → Side → Type 0) (did : ℕ → Deeds → Deeds) (gave : ℕ → List (List ℕ)) (told : ℕ → Bool) (number : ℕ) (old new : List (Option Guest))
-    → ((k : ℕ) → k ≢ number → (did k ≡ no_more) × (gave k ≡ []) × (told k ≡ false)) → ((k : ℕ) → k ≢ number → Still most (slice_get old k) (slice_get new k))
+    → ((k : ℕ) → k ≢ number → (did k ≡ with_no_more) × (gave k ≡ []) × (told k ≡ false)) → ((k : ℕ) → k ≢ number → Still most (slice_get old k) (slice_get new k))
     → IsFollowed most may (did number) (gave number) (told number) (slice_get old number) (slice_get new number)
     → (k : ℕ) → IsFollowed most may (did k) (gave k) (told k) (slice_get old k) (slice_get new k)
 each_by most may did gave told number old new others rest here k = by (same_or_other k number) where
@@ -62,10 +62,10 @@ each_by most may did gave told number old new others rest here k = by (same_or_o
   by (inr other) =
       let o = others k other in
       subst (λ (d : Deeds → Deeds). IsFollowed most may d (gave k) (told k) (slice_get old k) (slice_get new k)) (sym o.0)
-      (subst (λ (l : List (List ℕ)). IsFollowed most may no_more l (told k) (slice_get old k) (slice_get new k)) (sym o.1)
-      (subst (λ (t : Bool). IsFollowed most may no_more [] t (slice_get old k) (slice_get new k)) (sym o.2) (followed most may (slice_get old k) (slice_get new k) (rest k other))))
+      (subst (λ (l : List (List ℕ)). IsFollowed most may with_no_more l (told k) (slice_get old k) (slice_get new k)) (sym o.1)
+      (subst (λ (t : Bool). IsFollowed most may with_no_more [] t (slice_get old k) (slice_get new k)) (sym o.2) (followed most may (slice_get old k) (slice_get new k) (rest k other))))
 
-each_still : (most : ℕ) (may : Meeting → Side → Type 0) (h j : Host) → EachStill most h.guests.items j.guests.items → EachFollowed most may (λ k. no_more) gave_none over_none h j
+each_still : (most : ℕ) (may : Meeting → Side → Type 0) (h j : Host) → EachStill most h.guests.items j.guests.items → EachFollowed most may (λ k. with_no_more) gave_none over_none h j
 each_still most may h j s k = followed most may (slice_get h.guests.items k) (slice_get j.guests.items k) (s k)
 
 told_same : (number : ℕ) (told : Bool) → over_at number told number ≡ told
@@ -109,7 +109,7 @@ message_deed number tag (messages.Return transaction words) = refl
 message_deed number tag (messages.Abort transaction error words) = refl
 
 -- no step is at most one
-none_to_one : (g h : Guest) → LeadsOn 0 g h no_more [] → LeadsOn 1 g h no_more []
+none_to_one : (g h : Guest) → LeadsOn 0 g h with_no_more [] → LeadsOn 1 g h with_no_more []
 none_to_one g h on a b programs m side meets here = leads_wider 1 (on a b programs m side meets here)
 
 event_goes : (law : AStepKeepsItsPromises) (now number : ℕ) (g h : Guest) (event : Event) (o : Option Message) → GuestTells now g h → waiting_message g.connection.conversation.side ≡ o
@@ -192,7 +192,7 @@ nothing_told now p (places.nothing before none) = in_vain now p before
 nobody_there : (g : Guest) → (let a : Option (Option Guest) = Some None in a) ≡ Some (Some g) → ⊥
 nobody_there g e = absurd (cc)
 
-may_go_away : (gs : List (Option Guest)) {n : ℕ} → IsPlace gs n → (g : Guest) → slice_get gs n ≡ Some (Some g) → MayBeForgotten false g
+may_go_away : (gs : List (Option Guest)) {n : ℕ} → IsPlaceForNew gs n → (g : Guest) → slice_get gs n ≡ Some (Some g) → MayBeForgotten false g
 may_go_away gs (free_place k there) g e = absurd (nobody_there g (sym there ∙ e))
 may_go_away gs (of_closed k t f full there since first) g e =
     subst (MayBeForgotten false) (one_guest f g (sym there ∙ e)) (inr (inl (since_told (is_some f.connection.closed) f.connection.told (due_time f.connection.wait.due) t since)))
@@ -202,7 +202,7 @@ may_go_away gs (of_stranger k t f full none there since first) g e =
 
 -- a connection of another identifier is in the place then: the next one, which none that was there has
 gives_way : (most : ℕ) (may : Meeting → Side → Type 0) (register : Register) (gs : List (Option Guest)) {n : ℕ} (place : Option (Option Guest)) (h : Guest) → IsAllRegistered register gs
-    → IsPlace gs n → place ≡ Some (Some h) → IsNext register.identifiers (id_of h) → IsFollowed most may no_more [] false (slice_get gs n) place
+    → IsPlaceForNew gs n → place ≡ Some (Some h) → IsNextIdentifier register.identifiers (id_of h) → IsFollowed most may with_no_more [] false (slice_get gs n) place
 gives_way most may register gs {n = n} place h all is there next g e a b programs m side meets here z =
     following.forgotten g (at_once most g a b programs m side meets here) (may_go_away gs is g e) (inr (h, there, another_id register gs h all next n g e))
 
@@ -210,10 +210,10 @@ pub taken_beside : (p : Places) (n k : ℕ) (g : Guest) → k ≢ n → slice_ge
 taken_beside p n k g other = beside (vacated p n).guests n k (Some g) other ∙ beside p.guests n k None other
 
 nothing_done : (most : ℕ) (may : Meeting → Side → Type 0) (number : ℕ) (old new : List (Option Guest)) → ((k : ℕ) → k ≢ number → Still most (slice_get old k) (slice_get new k))
-    → IsFollowed most may no_more [] false (slice_get old number) (slice_get new number) → (k : ℕ) → IsFollowed most may no_more [] false (slice_get old k) (slice_get new k)
-nothing_done most may number old new rest here = each_by most may (λ k. no_more) gave_none over_none number old new (λ k other. (refl, refl, refl)) rest here
+    → IsFollowed most may with_no_more [] false (slice_get old number) (slice_get new number) → (k : ℕ) → IsFollowed most may with_no_more [] false (slice_get old k) (slice_get new k)
+nothing_done most may number old new rest here = each_by most may (λ k. with_no_more) gave_none over_none number old new (λ k other. (refl, refl, refl)) rest here
 
-connect_followed : (now way socket : ℕ) (peer : Address) (number : ℕ) (h j : Host) → ConnectsTo now way socket peer (Ok number) h j → EachFollowed 1 (MayTake None) (λ k. no_more) gave_none over_none h j
+connect_followed : (now way socket : ℕ) (peer : Address) (number : ℕ) (h j : Host) → ConnectsTo now way socket peer (Ok number) h j → EachFollowed 1 (MayTake None) (λ k. with_no_more) gave_none over_none h j
 connect_followed now way socket peer number h j c =
     let g = c.connected.guest in
     let is = ap (λ (p : Places). p.guests) (c.places g c.connected.there) in
@@ -225,7 +225,7 @@ connect_followed now way socket peer number h j c =
 
 -- an abandoned connection is gone, and each other one is as it was
 pub abandoned_followed : (number : ℕ) (h j : Host) → Abandons number (Ok tt) h j → (k : ℕ) → k ≢ number
-    → IsFollowed 0 (MayTake None) no_more [] false (slice_get h.guests.items k) (slice_get j.guests.items k)
+    → IsFollowed 0 (MayTake None) with_no_more [] false (slice_get h.guests.items k) (slice_get j.guests.items k)
 abandoned_followed number h j a k other =
     let same : slice_get j.guests.items k ≡ slice_get h.guests.items k
     = ap (λ (p : Places). slice_get p.guests k) a.gone ∙ beside h.guests.items number k None other in
@@ -233,9 +233,9 @@ abandoned_followed number h j a k other =
     (subst (Still 0 (slice_get h.guests.items k)) (sym same) (still 0 (slice_get h.guests.items k)))
 
 -- the one that is abandoned is gone from its place, and each other one is as it was
-gone_followed : (number : ℕ) (h j : Host) → Abandons number (Ok tt) h j → EachFollowed 1 (MayTake None) (λ k. no_more) gave_none (over_at number true) h j
+gone_followed : (number : ℕ) (h j : Host) → Abandons number (Ok tt) h j → EachFollowed 1 (MayTake None) (λ k. with_no_more) gave_none (over_at number true) h j
 gone_followed number h j a =
-    each_by 1 (MayTake None) (λ k. no_more) gave_none (over_at number true) number h.guests.items j.guests.items (λ k other. (refl, refl, told_other number k true other))
+    each_by 1 (MayTake None) (λ k. with_no_more) gave_none (over_at number true) number h.guests.items j.guests.items (λ k other. (refl, refl, told_other number k true other))
     (λ k other. subst (Still 1 (slice_get h.guests.items k)) (sym (is k ∙ beside h.guests.items number k None other)) (still 1 (slice_get h.guests.items k)))
     (λ g e a b programs m side meets here z. following.forgotten g (at_once 1 g a b programs m side meets here) (inl (told_same number true))
     (inl (is number ∙ at_place h.guests.items number None (slice_get_within h.guests.items number (Some g) e)))) where
@@ -249,7 +249,7 @@ done_followed law h j did told (following.called now number c t) = turn_followed
 done_followed law h j did told (following.answered now number n kind words f there asked t) =
     turn_followed now number (deeds.gave kind words) _ h j t
     (λ g k e s. answers (time_at h.clock now) kind n words g k law s (subst (λ (x : Guest). asked_of x.connection.conversation.side ≡ Some n) (one_guest f g (sym there ∙ e)) asked))
-done_followed law h j did told (following.closed now number t) = turn_followed now number deeds.asked no_more h j t (λ g k e s. closes (time_at h.clock now) g k law s)
+done_followed law h j did told (following.closed now number t) = turn_followed now number deeds.asked with_no_more h j t (λ g k e s. closes (time_at h.clock now) g k law s)
 done_followed law h j did told (following.was_told event t) = events_followed law h.clock.latest h j event (places_of h) (places_of j) refl refl t.next
 done_followed law h j did told (following.connected now way socket peer number c) = connect_followed now way socket peer number h j c
 done_followed law h j did told (following.was_refused now number deed fault t) = each_still 1 (MayTake None) h j (λ k. subst (Still 1 (slice_get h.guests.items k)) (sym (t.unchanged k)) (still 1 (slice_get h.guests.items k)))
@@ -274,7 +274,7 @@ gave_other number k gave other = ap (λ (b : Bool). cond b gave []) (not_equal k
 
 -- a connection of the host gave the packet, or none did
 Given : (h : Host) (result : Result (Option Outgoing) HostFault) (old new : List (Option Guest)) → Type 0
-Given h result old new = (gave : ℕ → List (List ℕ)) × HasGiven h result gave × ((k : ℕ) → IsFollowed 3 (MayTake None) no_more (gave k) false (slice_get old k) (slice_get new k))
+Given h result old new = (gave : ℕ → List (List ℕ)) × HasGiven h result gave × ((k : ℕ) → IsFollowed 3 (MayTake None) with_no_more (gave k) false (slice_get old k) (slice_get new k))
 
 none_given : (h : Host) (result : Result (Option Outgoing) HostFault) (old new : List (Option Guest)) → HasGiven h result gave_none → EachStill 3 old new → Given h result old new
 unfolding Given
@@ -285,10 +285,10 @@ acted_once : (p q r : Places) (k : ℕ) → EachStill 1 p.guests q.guests → As
 acted_once p q r k s once = still_then 1 2 (slice_get p.guests k) (slice_get q.guests k) (slice_get r.guests k) (s k) (once_still q r k once)
 
 packet_given : (law : AStepKeepsItsPromises) (h : Host) (now number : ℕ) (packet : Outgoing) (p q x r : Places) → p.guests ≡ h.guests.items → EachStill 1 p.guests q.guests
-    → ((k : ℕ) → AskedOnce q x k) → has_turn x.agenda.packets number ≡ true → Turns (GuestGives now (Ok (Some packet))) number (packet_passed x number) r → Given h (Ok (Some packet)) p.guests r.guests
+    → ((k : ℕ) → AskedOnce q x k) → has_turn x.agenda.packets number ≡ true → PlaceTurns (GuestGives now (Ok (Some packet))) number (packet_passed x number) r → Given h (Ok (Some packet)) p.guests r.guests
 unfolding Given
 packet_given law h now number packet p q x r of s once has t =
-    let sent : List (List ℕ) = packets_in (Ok (Some packet)) in
+    let sent : List (List ℕ) = packet_returned (Ok (Some packet)) in
     let is = ap (λ (x : Places). x.guests) t.is in
     let goes = gives_on law now (Ok (Some packet)) t.guest t.next t.turn in
     let less = slice_get_within x.guests number (Some t.guest) t.was in
@@ -297,12 +297,12 @@ packet_given law h now number packet p q x r of s once has t =
     let there : slice_get r.guests number ≡ Some (Some t.next) = ap (λ (l : List (Option Guest)). slice_get l number) is ∙ at_place x.guests number (Some t.next) less in (
       gave_at number sent,
       following.one number was.0 (ap (λ (l : List (Option Guest)). slice_get l number) (sym of) ∙ was.1),
-      each_by 3 (MayTake None) (λ k. no_more) (gave_at number sent) over_none number p.guests r.guests
+      each_by 3 (MayTake None) (λ k. with_no_more) (gave_at number sent) over_none number p.guests r.guests
           (λ k other. (refl, gave_other number k sent other, refl))
           (λ k other. subst (Still 3 (slice_get p.guests k)) (sym (ap (λ (l : List (Option Guest)). slice_get l k) is ∙ beside x.guests number k (Some t.next) other)) (acted_once p q x k s (once k)))
-          (subst (λ (l : List (List ℕ)). IsFollowed 3 (MayTake None) no_more l false (slice_get p.guests number) (slice_get r.guests number)) (sym (gave_same number sent))
-          (λ f at_it a b programs m side meets here z. follows (then_does 1 2 (slice_get p.guests number) (slice_get q.guests number) (slice_get r.guests number) t.guest no_more sent false (s number) mid
-          (λ c d ps n v ms same. subst (Led c d ps 2 n v no_more sent false t.guest) (sym there) (led t.next (goes.on c d ps n v ms same) (tells_on t.guest t.next goes.told))) f at_it a b programs m side meets here))),
+          (subst (λ (l : List (List ℕ)). IsFollowed 3 (MayTake None) with_no_more l false (slice_get p.guests number) (slice_get r.guests number)) (sym (gave_same number sent))
+          (λ f at_it a b programs m side meets here z. follows (then_does 1 2 (slice_get p.guests number) (slice_get q.guests number) (slice_get r.guests number) t.guest with_no_more sent false (s number) mid
+          (λ c d ps n v ms same. subst (Led c d ps 2 n v with_no_more sent false t.guest) (sym there) (led t.next (goes.on c d ps n v ms same) (tells_on t.guest t.next goes.told))) f at_it a b programs m side meets here))),
     )
 
 -- memory was refused to one that had a turn, and was not asked before
@@ -332,14 +332,14 @@ out_given law now result h j g (o ∷ os) is =
     (still_if 2 g.mid.guests j.guests.items (ap (λ (p : Places). p.guests) (g.stray o os is).1)))
 
 pub given_followed : (law : AStepKeepsItsPromises) (now : ℕ) (result : Result (Option Outgoing) HostFault) (h j : Host) → GivesOut now result h j
-    → (gave : ℕ → List (List ℕ)) × HasGiven h result gave × EachFollowed 3 (MayTake None) (λ k. no_more) gave over_none h j
+    → (gave : ℕ → List (List ℕ)) × HasGiven h result gave × EachFollowed 3 (MayTake None) (λ k. with_no_more) gave over_none h j
 unfolding Given
 given_followed law now result h j g = out_given law now result h j g h.strays.waiting refl
 
 -- ---- what comes
 
-hears_at : (law : AStepKeepsItsPromises) (now number : ℕ) (bytes : List ℕ) (confirming : Bool) (p r : Places) → Turns (GuestHears now bytes confirming) number p r
-    → (k : ℕ) → IsFollowed 1 (MayTake (Some bytes)) no_more [] false (slice_get p.guests k) (slice_get r.guests k)
+hears_at : (law : AStepKeepsItsPromises) (now number : ℕ) (bytes : List ℕ) (confirming : Bool) (p r : Places) → PlaceTurns (GuestHears now bytes confirming) number p r
+    → (k : ℕ) → IsFollowed 1 (MayTake (Some bytes)) with_no_more [] false (slice_get p.guests k) (slice_get r.guests k)
 hears_at law now number bytes confirming p r t =
     let is = ap (λ (x : Places). x.guests) t.is in
     let there : slice_get r.guests number ≡ Some (Some t.next) =
@@ -351,7 +351,7 @@ hears_at law now number bytes confirming p r t =
     following.stays t.next there (hears_it now bytes confirming t.guest t.next law t.turn a b programs m side meets (here ∙ ap (λ (x : Guest). x.connection.conversation) (sym same)) may))
 
 opens_followed : (ends : AConnectionKeepsItsEnd) (now way : ℕ) (bytes : List ℕ) (packet : SppPacketModel) (w : Whole) → IsAllRegistered w.register w.places.guests → {register : Register} {strays : StrayQueue} {r : Places} → Opens now way bytes packet w register strays r
-    → (k : ℕ) → IsFollowed 1 (MayTake (Some bytes)) no_more [] false (slice_get w.places.guests k) (slice_get r.guests k)
+    → (k : ℕ) → IsFollowed 1 (MayTake (Some bytes)) with_no_more [] false (slice_get w.places.guests k) (slice_get r.guests k)
 opens_followed ends now way bytes packet w all {r = r} (coming.opened {mid = mid} number id peer programs opener served seats turn) =
     let p = w.places in
     let is = ap (λ (x : Places). x.guests) seats.is in
@@ -362,12 +362,12 @@ opens_followed ends now way bytes packet w all {r = r} (coming.opened {mid = mid
     (λ k other. subst (Still 1 (slice_get p.guests k)) (sym (ap (λ (l : List (Option Guest)). slice_get l k) to ∙ (beside mid.guests number k (Some turn.next) other
     ∙ (ap (λ (l : List (Option Guest)). slice_get l k) is ∙ taken_beside p number k seats.guest other)))) (still 1 (slice_get p.guests k)))
     (gives_way 1 (MayTake (Some bytes)) w.register p.guests (slice_get r.guests number) turn.next all seats.place there
-    (subst (IsNext w.register.identifiers) (sym (heard_id ends now bytes false turn.guest turn.next turn.turn ∙ ap id_of (one_guest turn.guest seats.guest (sym turn.was ∙ seats.there)))) seats.answering.next))
+    (subst (IsNextIdentifier w.register.identifiers) (sym (heard_id ends now bytes false turn.guest turn.next turn.turn ∙ ap id_of (one_guest turn.guest seats.guest (sym turn.was ∙ seats.there)))) seats.answering.next))
 opens_followed ends now way bytes packet w all (coming.full why same complains) = λ k. followed 1 (MayTake (Some bytes)) (slice_get w.places.guests k) (slice_get w.places.guests k) (still 1 (slice_get w.places.guests k))
 opens_followed ends now way bytes packet w all (coming.starved same) = λ k. followed 1 (MayTake (Some bytes)) (slice_get w.places.guests k) (slice_get w.places.guests k) (still 1 (slice_get w.places.guests k))
 
 comes_followed : (law : AStepKeepsItsPromises) (ends : AConnectionKeepsItsEnd) (now way : ℕ) (bytes : List ℕ) (w : Whole) → IsAllRegistered w.register w.places.guests → {result : Bool} {n : Whole} → Comes now way bytes w result n
-    → (k : ℕ) → IsFollowed 1 (MayTake (Some bytes)) no_more [] false (slice_get w.places.guests k) (slice_get n.places.guests k)
+    → (k : ℕ) → IsFollowed 1 (MayTake (Some bytes)) with_no_more [] false (slice_get w.places.guests k) (slice_get n.places.guests k)
 comes_followed law ends now way bytes w all (coming.foreign strange) k = followed 1 (MayTake (Some bytes)) (slice_get w.places.guests k) (slice_get w.places.guests k) (still 1 (slice_get w.places.guests k))
 comes_followed law ends now way bytes w all (coming.echoes p taken is asks stray) k = followed 1 (MayTake (Some bytes)) (slice_get w.places.guests k) (slice_get w.places.guests k) (still 1 (slice_get w.places.guests k))
 comes_followed law ends now way bytes w all (coming.refuses p taken {q = q} is quotes turn) k =
@@ -376,11 +376,11 @@ comes_followed law ends now way bytes w all (coming.hears p {q = q} is names tur
 comes_followed law ends now way bytes w all (coming.opens p is opener o) k = opens_followed ends now way bytes p w all o k
 
 arrives_followed : (law : AStepKeepsItsPromises) (ends : AConnectionKeepsItsEnd) (now way : ℕ) (bytes : List ℕ) (w : Whole) → IsAllRegistered w.register w.places.guests → {result : Bool} {n : Whole} → Arrives now way bytes w result n
-    → (k : ℕ) → IsFollowed 1 (MayTake (Some bytes)) no_more [] false (slice_get w.places.guests k) (slice_get n.places.guests k)
+    → (k : ℕ) → IsFollowed 1 (MayTake (Some bytes)) with_no_more [] false (slice_get w.places.guests k) (slice_get n.places.guests k)
 arrives_followed law ends now way bytes w all (coming.meant c) k = comes_followed law ends now way bytes w all c k
 arrives_followed law ends now way bytes w all (coming.unheard p taken c is served complains) k = followed 1 (MayTake (Some bytes)) (slice_get w.places.guests k) (slice_get w.places.guests k) (still 1 (slice_get w.places.guests k))
 arrives_followed law ends now way bytes w all (coming.unmeant c never) k = followed 1 (MayTake (Some bytes)) (slice_get w.places.guests k) (slice_get w.places.guests k) (still 1 (slice_get w.places.guests k))
 
 pub heard_followed : (law : AStepKeepsItsPromises) (ends : AConnectionKeepsItsEnd) (now way : ℕ) (bytes : List ℕ) (result : Bool) (h j : Host) → TakesIn now way bytes result h j
-    → EachFollowed 1 (MayTake (Some bytes)) (λ k. no_more) gave_none over_none h j
+    → EachFollowed 1 (MayTake (Some bytes)) (λ k. with_no_more) gave_none over_none h j
 heard_followed law ends now way bytes result h j t = arrives_followed law ends (time_at h.clock now) way bytes (whole_of h) h.registered t.comes

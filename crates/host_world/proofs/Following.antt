@@ -9,7 +9,7 @@ use Rattle.item_world.specs.declared.side.Side.{Side}
 use Rattle.xns_host.specs.Hosting.{may_go}
 use Rattle.xns_connection.specs.Living.{Deeds}
 use Rattle.xns_agenda.specs.Turns.{Line, has_turn, with_turn}
-use Rattle.xns_host.specs.Places.{Acts, ActsAt, AsksEvent, AsksPacket, AsksInVain, GivesNone, Places, Turns, became, packet_passed, seated, vacated_if}
+use Rattle.xns_host.specs.Places.{ActsOneByOne, ActsAt, AsksEvent, AsksPacket, AsksInVain, GivesNone, Places, PlaceTurns, became, packet_passed, seated, vacated_if}
 use Rattle.xns_host.specs.Places as places
 use Rattle.xns_connection.specs.Step.{AStepKeepsItsPromises, parts_of}
 use Rattle.xns_connection.specs.Deeds.{Parts}
@@ -20,10 +20,10 @@ use Rattle.xns_host.specs.declared.host_fault.HostFault.{HostFault}
 use Rattle.xns_host.specs.declared.outgoing.Outgoing.{Outgoing}
 use Rattle.host_world.specs.Following.{IsFollowedTo, IsFollowed, MayBeForgotten, did_at}
 use Rattle.host_world.specs.Following as following
-use Rattle.host_world.specs.Guests.{LeadsOn, LeadsTo, packets_in}
+use Rattle.host_world.specs.Guests.{LeadsOn, LeadsTo, packet_returned}
 use Rattle.host_world.specs.Meeting.{Meeting, at}
 use Rattle.host_world.specs.Meets.{Meets}
-use Rattle.host_world.specs.Pairing.{no_more}
+use Rattle.host_world.specs.Pairing.{with_no_more}
 use Rattle.host_world.specs.declared.station.Station.{Station}
 use Rattle.host_world.proofs.Guests.{Rests, acted_rests, gives, rests_on, rests_then, same_goes}
 pub use Rattle.host_world.proofs.Happens.{not_equal}
@@ -56,7 +56,7 @@ Goes most did gave told g place = (a b : Station) (programs : List Program) (m :
 -- a guest that was there went on by itself in at most so many steps, and no guest came: one that is there was there
 pub record Still (most : ℕ) (old new : Option (Option Guest)) : Type 0 where
   pub none : old ≡ Some None → new ≡ Some None
-  pub goes : (g : Guest) → old ≡ Some (Some g) → Goes most no_more [] false g new
+  pub goes : (g : Guest) → old ≡ Some (Some g) → Goes most with_no_more [] false g new
   pub from : (h : Guest) → new ≡ Some (Some h) → (g : Guest) × (old ≡ Some (Some g))
 
 pub tells_on : (g h : Guest) → h.connection.told ≡ g.connection.told → TellsOn false g h
@@ -69,11 +69,11 @@ told_before told f g on (inr was) = by (on was) where
   by (inl never) = absurd (cc)
   by (inr before) = inr before
 
-pub at_once : (most : ℕ) (g : Guest) → LeadsOn most g g no_more []
+pub at_once : (most : ℕ) (g : Guest) → LeadsOn most g g with_no_more []
 at_once most g = same_goes most g g refl
 
 joined : {a b : Station} {programs : List Program} {few more : ℕ} {m : Meeting} {side : Side} {g h : Guest} {did : Deeds → Deeds} {gave : List (List ℕ)}
-    → (one : LeadsTo a b programs few m side g no_more []) → LeadsTo a b programs more one.next side h did gave → LeadsTo a b programs (few + more) m side h did gave
+    → (one : LeadsTo a b programs few m side g with_no_more []) → LeadsTo a b programs more one.next side h did gave → LeadsTo a b programs (few + more) m side h did gave
 joined {few = few} {more = more} {m = m} {side = side} {did = did} {gave = gave} one two = record {
   next = two.next;
   meets = two.meets;
@@ -98,14 +98,14 @@ leads_wider {few = few} more l = record {
 }
 
 led_on : {a b : Station} {programs : List Program} {few more : ℕ} {m : Meeting} {side : Side} {f g : Guest} {did : Deeds → Deeds} {gave : List (List ℕ)} {told : Bool} {place : Option (Option Guest)}
-    → (one : LeadsTo a b programs few m side g no_more []) → TellsOn false f g → Led a b programs more one.next side did gave told g place → Led a b programs (few + more) m side did gave told f place
+    → (one : LeadsTo a b programs few m side g with_no_more []) → TellsOn false f g → Led a b programs more one.next side did gave told g place → Led a b programs (few + more) m side did gave told f place
 led_on {f = f} {g = g} {told = told} one on (led h two tells) = led h (joined one two) (λ z. told_before told f g on (tells z))
 led_on {f = f} {g = g} {told = told} one on (left h two was) = left h (joined one two) (told_before told f g on was)
 
 pub still : (most : ℕ) (o : Option (Option Guest)) → Still most o o
 still most o = record {
   none = λ e. e;
-  goes = λ g e a b programs m side meets here. subst (Led a b programs most m side no_more [] false g) (sym e) (led g (at_once most g a b programs m side meets here) inr);
+  goes = λ g e a b programs m side meets here. subst (Led a b programs most m side with_no_more [] false g) (sym e) (led g (at_once most g a b programs m side meets here) inr);
   from = λ h e. (h, e);
 }
 
@@ -115,9 +115,9 @@ still_then few more x y z p q = record {
   goes = λ g e a b programs m side meets here. by g a b programs m side y q (p.goes g e a b programs m side meets here);
   from = λ h e. let k = q.from h e in p.from k.0 k.1;
 } where
-  by : (g : Guest) (a b : Station) (programs : List Program) (m : Meeting) (side : Side) (o : Option (Option Guest)) → Still more o z → Led a b programs few m side no_more [] false g o → Led a b programs (few + more) m side no_more [] false g z
+  by : (g : Guest) (a b : Station) (programs : List Program) (m : Meeting) (side : Side) (o : Option (Option Guest)) → Still more o z → Led a b programs few m side with_no_more [] false g o → Led a b programs (few + more) m side with_no_more [] false g z
   by g a b programs m side o s (led h l on) = led_on l on (s.goes h refl a b programs l.next side l.meets l.same)
-  by g a b programs m side o s (left h l was) = subst (Led a b programs (few + more) m side no_more [] false g) (sym (s.none refl)) (left h (leads_wider more l) was)
+  by g a b programs m side o s (left h l was) = subst (Led a b programs (few + more) m side with_no_more [] false g) (sym (s.none refl)) (left h (leads_wider more l) was)
 
 pub one_guest : (g h : Guest) → (let a : Option (Option Guest) = Some (Some g) in a) ≡ Some (Some h) → g ≡ h
 one_guest g h e = cc
@@ -126,7 +126,7 @@ one_guest g h e = cc
 pub then_does : (few more : ℕ) (x y z : Option (Option Guest)) (k : Guest) (did : Deeds → Deeds) (gave : List (List ℕ)) (told : Bool) → Still few x y → y ≡ Some (Some k) → Goes more did gave told k z
     → (g : Guest) → x ≡ Some (Some g) → Goes (few + more) did gave told g z
 then_does few more x y z k did gave told p is does g e a b programs m side meets here = by y (p.goes g e a b programs m side meets here) is where
-  by : (o : Option (Option Guest)) → Led a b programs few m side no_more [] false g o → o ≡ Some (Some k) → Led a b programs (few + more) m side did gave told g z
+  by : (o : Option (Option Guest)) → Led a b programs few m side with_no_more [] false g o → o ≡ Some (Some k) → Led a b programs (few + more) m side did gave told g z
   by o (led h l on) same =
       let k_is : h ≡ k = one_guest h k same in
       led_on {f = g} l on
@@ -152,7 +152,7 @@ set_still most gs number old new is one = at_each_place (Still most) (still most
 
 -- the one connection leads on to the other in at most so many steps, and the program was told no more of it
 pub record GoesOn (most : ℕ) (g h : Guest) (gave : List (List ℕ)) : Type 0 where
-  pub on : LeadsOn most g h no_more gave
+  pub on : LeadsOn most g h with_no_more gave
   pub told : h.connection.told ≡ g.connection.told
 
 guest_still : (most : ℕ) (g h : Guest) → GoesOn most g h [] → Still most (Some (Some g)) (Some (Some h))
@@ -164,7 +164,7 @@ guest_still most g h goes = record {
   from = λ k e. (g, refl);
 }
 
-pub turns_still : (most : ℕ) (P : Guest → Guest → Type 0) (number : ℕ) (p r : Places) → ((g h : Guest) → P g h → GoesOn most g h []) → Turns P number p r → EachStill most p.guests r.guests
+pub turns_still : (most : ℕ) (P : Guest → Guest → Type 0) (number : ℕ) (p r : Places) → ((g h : Guest) → P g h → GoesOn most g h []) → PlaceTurns P number p r → EachStill most p.guests r.guests
 turns_still most P number p r each t =
     subst (EachStill most p.guests) (sym (ap (λ (q : Places). q.guests) t.is)) (set_still most p.guests number (Some t.guest) (Some t.next) t.was (guest_still most t.guest t.next (each t.guest t.next t.turn)))
 
@@ -197,7 +197,7 @@ resting_then x y z p q = record { none = λ e. q.none (p.none e); goes = λ g e.
 -- however often what was due was done of a connection that rests, that is one step
 resting_still : (x y : Option (Option Guest)) → Resting x y → Still 1 x y
 resting_still x y p = record { none = p.none; goes = λ g e a b programs m side meets here. by g y (p.goes g e) a b programs m side meets here; from = p.from } where
-  by : (g : Guest) (o : Option (Option Guest)) → RestsIn g o → Goes 1 no_more [] false g o
+  by : (g : Guest) (o : Option (Option Guest)) → RestsIn g o → Goes 1 with_no_more [] false g o
   by g o (rests h first same) a b programs m side meets here = led h (rests_on g h first a b programs m side meets here) (tells_on g h same)
   by g o (gone told) a b programs m side meets here = left g (at_once 1 g a b programs m side meets here) (inr told)
 
@@ -230,21 +230,21 @@ acts_at now number p r a k =
     subst (λ (s : Places). Resting (slice_get p.guests k) (slice_get s.guests k)) (sym a.is)
     (resting_then (slice_get p.guests k) (slice_get q.guests k) (slice_get (became p number a.next).guests k) (acted k) (left k))
 
-each_rests : (now : ℕ) (p : Places) {r : Places} → Acts now p r → EachRests p.guests r.guests
-each_rests now p Acts.nobody k = rests_itself (slice_get p.guests k)
-each_rests now p (Acts.another {q = q} {r = r} number before first act) k =
+each_rests : (now : ℕ) (p : Places) {r : Places} → ActsOneByOne now p r → EachRests p.guests r.guests
+each_rests now p ActsOneByOne.nobody k = rests_itself (slice_get p.guests k)
+each_rests now p (ActsOneByOne.another {q = q} {r = r} number before first act) k =
     resting_then (slice_get p.guests k) (slice_get q.guests k) (slice_get r.guests k) (each_rests now p before k) (acts_at now number q r act k)
 
-pub all_act : (now : ℕ) (p : Places) {r : Places} → Acts now p r → EachStill 1 p.guests r.guests
+pub all_act : (now : ℕ) (p : Places) {r : Places} → ActsOneByOne now p r → EachStill 1 p.guests r.guests
 all_act now p {r = r} acted k = resting_still (slice_get p.guests k) (slice_get r.guests k) (each_rests now p acted k)
 
 -- ---- what goes out
 
 -- the program is told nothing where a packet is asked for
-pub gives_on : (law : AStepKeepsItsPromises) (now : ℕ) (result : Result (Option Outgoing) HostFault) (g h : Guest) → GuestGives now result g h → GoesOn 2 g h (packets_in result)
+pub gives_on : (law : AStepKeepsItsPromises) (now : ℕ) (result : Result (Option Outgoing) HostFault) (g h : Guest) → GuestGives now result g h → GoesOn 2 g h (packet_returned result)
 gives_on law now result g h s = record { on = gives now result g h law s; told = given_told now g.connection h.connection s.gave }
 
-pub no_packet : (law : AStepKeepsItsPromises) (now number : ℕ) (result : Result (Option Outgoing) HostFault) (p r : Places) → packets_in result ≡ [] → Turns (GuestGives now result) number (packet_passed p number) r
+pub no_packet : (law : AStepKeepsItsPromises) (now number : ℕ) (result : Result (Option Outgoing) HostFault) (p r : Places) → packet_returned result ≡ [] → PlaceTurns (GuestGives now result) number (packet_passed p number) r
     → EachStill 2 p.guests r.guests
 no_packet law now number result p r none t =
     turns_still 2 (GuestGives now result) number (packet_passed p number) r (λ g h s. subst (GoesOn 2 g h) none (gives_on law now result g h s)) t
@@ -316,11 +316,11 @@ pub follows : {a b : Station} {programs : List Program} {most : ℕ} {m : Meetin
 follows (led h l on) = following.stays h refl l
 follows {told = told} {g = g} (left h l was) = following.forgotten h l (may_go_then told g was) (inl refl)
 
-pub followed : (most : ℕ) (may : Meeting → Side → Type 0) (x y : Option (Option Guest)) → Still most x y → IsFollowed most may no_more [] false x y
+pub followed : (most : ℕ) (may : Meeting → Side → Type 0) (x y : Option (Option Guest)) → Still most x y → IsFollowed most may with_no_more [] false x y
 followed most may x y s g e a b programs m side meets here z = follows (s.goes g e a b programs m side meets here)
 
 pub did_same : (number k : ℕ) (did : Deeds → Deeds) → k ≡ number → did_at number did k ≡ did
-did_same number k did e = ap (λ (b : Bool). cond b did no_more) (eq-eqb k number e)
+did_same number k did e = ap (λ (b : Bool). cond b did with_no_more) (eq-eqb k number e)
 
-pub did_other : (number k : ℕ) (did : Deeds → Deeds) → k ≢ number → did_at number did k ≡ no_more
-did_other number k did other = ap (λ (b : Bool). cond b did no_more) (not_equal k number (k == number) refl other)
+pub did_other : (number k : ℕ) (did : Deeds → Deeds) → k ≢ number → did_at number did k ≡ with_no_more
+did_other number k did other = ap (λ (b : Bool). cond b did with_no_more) (not_equal k number (k == number) refl other)

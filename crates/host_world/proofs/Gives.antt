@@ -8,9 +8,9 @@ use Rattle.xns_spp.specs.Held.{StandsFor}
 use Rattle.xns_spp.specs.Sending.{after_flush, flush_answer}
 use Rattle.xns_spp.specs.State.{State, send_limit}
 use Rattle.xns_spp.specs.Telling.{after_resend, resend_answer, told_answer}
-use Rattle.xns_connection.specs.Giving.{Giving, GivesAs, IsGiving, IsShort, at_first, at_flush, at_word, else_newer, flushed, giving, if_again, newer, newer_of, next_of, next_unless, older, older_of, said_again}
-use Rattle.xns_connection.specs.Story.{GoesOn, Runs, Story, flushes, made_on, resends, start, tells}
-use Rattle.xns_connection.specs.Telling.{Gives, Tells}
+use Rattle.xns_connection.specs.Giving.{Giving, GivesAs, IsGiving, MayStopAt, at_first, at_flush, at_word, else_newer, flushed, giving, if_again, newer, newer_of, next_of, next_unless, older, older_of, said_again}
+use Rattle.xns_connection.specs.Story.{ProgramDoesNothing, Runs, Story, flushes, made_on, resends, start, tells}
+use Rattle.xns_connection.specs.Telling.{GivesNextPacket, Tells}
 use Rattle.xns_connection.specs.declared.conversation.Conversation.{Conversation}
 use Rattle.xns_connection.specs.declared.owed.Owed.{Owed}
 use Rattle.host_world.proofs.Telling.{Quiet, tells_so}
@@ -108,7 +108,7 @@ dry : (x : Giving) (o : Option (List ℕ)) (y : Giving) → Older x o y → o �
 dry x (Some p) y older is = absurd (cc)
 dry x None y older is = older
 
-short_gives : (x : Giving) {y : Giving} → IsShort x y → GivesBy x.state x.packets (None, y)
+short_gives : (x : Giving) {y : Giving} → MayStopAt x y → GivesBy x.state x.packets (None, y)
 short_gives x at_first = record { path = start; quiet = record { accepted = refl; handed = refl; taken = refl }; is = sym (append-nil x.packets) }
 short_gives x (at_flush none) =
     let d = dry x (older x).0 (older x).1 (older_is x) none in
@@ -131,7 +131,7 @@ unless_gives false x = next_gives x
 
 gives_by : (c d : Conversation) (owed now_owed : Owed) (h : Story) (p : Option (List ℕ)) (y : Option (List ℕ) × Giving) → Tells c h → d.side ≡ c.side → d.closing ≡ c.closing
     → GivesBy h.state c.packets.items y → p ≡ y.0 → IsGiving d now_owed y.1
-    → (m : Story) × Tells d m × (on : GoesOn h m) × (option_to_list p ++ d.packets.items ≡ c.packets.items ++ made_on on.path)
+    → (m : Story) × Tells d m × (on : ProgramDoesNothing h m) × (option_to_list p ++ d.packets.items ≡ c.packets.items ++ made_on on.path)
 gives_by c d owed now_owed h p y t side closing g is at = (
   record h { state = y.1.state },
   tells_so c d h y.1.state t at.stands side closing g.quiet,
@@ -146,8 +146,8 @@ packet_of (Err e) = None
 
 pub gives_on_from : (dead : Bool) (c d : Conversation) (owed now_owed : Owed) (answer : Result (Option (List ℕ)) AllocError) → d.side ≡ c.side → d.closing ≡ c.closing
     → IfOk answer (λ p. (s : State) → StandsFor c.endpoint s → GivesAs (next_unless dead (giving c owed s)) p d now_owed)
-    → OnErr answer ((s : State) → StandsFor c.endpoint s → (y : Giving) × IsShort (giving c owed s) y × IsGiving d now_owed y)
-    → Gives c d (packet_of answer)
+    → OnErr answer ((s : State) → StandsFor c.endpoint s → (y : Giving) × MayStopAt (giving c owed s) y × IsGiving d now_owed y)
+    → GivesNextPacket c d (packet_of answer)
 gives_on_from dead c d owed now_owed (Ok p) side closing gave short = record {
   on = λ h t.
       let g = gave h.state t.stands in

@@ -18,18 +18,18 @@ use Rattle.xns_connection.specs.Deeds as deeds
 use Rattle.xns_connection.specs.Deeds.{Parts, acted_by, given_up, side_taken, with_answer}
 use Rattle.xns_connection.specs.Living.{Deeds}
 use Rattle.xns_connection.specs.Step.{AStepKeepsItsPromises, Hands, MovesOwed, calmly, moving_on, none_waits, parts_of}
-use Rattle.xns_connection.specs.Story.{GoesOn as StoryGoesOn, Story, asked_of, waiting_message, with_handed}
-use Rattle.xns_connection.specs.Telling.{Gives, Hears, Tells}
+use Rattle.xns_connection.specs.Story.{ProgramDoesNothing as StoryGoesOn, Story, asked_of, waiting_message, with_handed}
+use Rattle.xns_connection.specs.Telling.{GivesNextPacket, HearsBytes, Tells}
 use Rattle.xns_host.specs.Went.{GuestActs, GuestAnnounced, GuestGives, GuestHears, GuestStep, GuestTells, GuestUnserved, given_by, hears, lost}
 use Rattle.xns_connection.specs.declared.connection.Connection.{Connection}
 use Rattle.xns_connection.specs.declared.conversation.Conversation.{Conversation}
 use Rattle.xns_host.specs.declared.guest.Guest.{Guest}
 use Rattle.xns_host.specs.declared.host_fault.HostFault.{HostFault}
 use Rattle.xns_host.specs.declared.outgoing.Outgoing.{Outgoing}
-use Rattle.host_world.specs.Guests.{LeadsOn, HearsOn, LeadsTo, packets_in}
+use Rattle.host_world.specs.Guests.{LeadsOn, HearsOn, LeadsTo, packet_returned}
 use Rattle.host_world.specs.Meeting.{Meeting, at}
 use Rattle.host_world.specs.Meets.{Meets}
-use Rattle.host_world.specs.Pairing.{no_more, one_answer_more, one_call_more, one_message_more}
+use Rattle.host_world.specs.Pairing.{with_no_more, one_answer_more, one_call_more, one_message_more}
 use Rattle.host_world.specs.declared.station.Station.{Station}
 use Rattle.host_world.proofs.Gives.{gives_on_from, packet_of}
 use Rattle.host_world.proofs.Paired.{Onward, acts_on, gives_on, hears_on, stays, stays_so, then_on, told}
@@ -55,12 +55,12 @@ acts_so c d base did same act on a b programs m side meets here =
 abbrev GoesIdly : (c d : Conversation) → Type 0
 GoesIdly c d = (d.packets ≡ c.packets) × ((h : Story) → Tells c h → (m : Story) × Tells d m × StoryGoesOn h m)
 
-idly : (g h : Guest) → GoesIdly g.connection.conversation h.connection.conversation → LeadsOn 1 g h no_more []
+idly : (g h : Guest) → GoesIdly g.connection.conversation h.connection.conversation → LeadsOn 1 g h with_no_more []
 idly g h on a b programs m side meets here =
-    leads h (acts_so g.connection.conversation h.connection.conversation (λ k. k) no_more on.0 (λ k l. idling) on.1 a b programs m side meets here)
+    leads h (acts_so g.connection.conversation h.connection.conversation (λ k. k) with_no_more on.0 (λ k l. idling) on.1 a b programs m side meets here)
 
 -- a connection whose conversation is as it was leads the meeting nowhere
-pub same_goes : (most : ℕ) (g h : Guest) → h.connection.conversation ≡ g.connection.conversation → LeadsOn most g h no_more []
+pub same_goes : (most : ℕ) (g h : Guest) → h.connection.conversation ≡ g.connection.conversation → LeadsOn most g h with_no_more []
 same_goes most g h same a b programs m side meets here = record { next = m; meets = meets; same = here ∙ sym same; does = stays_so most m side }
 
 -- ---- a connection that rests
@@ -69,7 +69,7 @@ same_goes most g h same a b programs m side meets here = record { next = m; meet
 abbrev pub Rests : (c d : Conversation) → Type 0
 Rests c d = (d.packets ≡ c.packets) × ((h : Story) → Tells c h → Tells d h)
 
-pub rests_on : (g h : Guest) → Rests g.connection.conversation h.connection.conversation → LeadsOn 1 g h no_more []
+pub rests_on : (g h : Guest) → Rests g.connection.conversation h.connection.conversation → LeadsOn 1 g h with_no_more []
 rests_on g h rests = idly g h (rests.0, λ k t. (k, rests.1 k t, stays k))
 
 pub rests_then : (c d e : Conversation) → Rests c d → Rests d e → Rests c e
@@ -88,7 +88,7 @@ calls now c g h law s a b programs m side meets here =
     leads h (acts_so g.connection.conversation h.connection.conversation (λ k. record k { made = k.made ++ c ∷ [] }) (one_call_more c) s.step.packets (λ k l. calling c)
     (λ k t. (law now (deeds.made c) g.connection h.connection s.step).story k t) a b programs m side meets here)
 
-pub closes : (now : ℕ) (g h : Guest) → AStepKeepsItsPromises → GuestStep now deeds.asked g h → LeadsOn 1 g h no_more []
+pub closes : (now : ℕ) (g h : Guest) → AStepKeepsItsPromises → GuestStep now deeds.asked g h → LeadsOn 1 g h with_no_more []
 closes now g h law s = idly g h (s.step.packets, (law now deeds.asked g.connection h.connection s.step).story)
 
 pub answers : (now : ℕ) (kind : Answer) (k : ℕ) (words : List ℕ) (g h : Guest) → AStepKeepsItsPromises → GuestStep now (deeds.gave kind words) g h → asked_of g.connection.conversation.side ≡ Some k
@@ -130,10 +130,10 @@ hands now m g h law t is a b programs x side meets here =
     (λ k l. handing m is)
     (λ k told_it. by_hands now c h.connection m k law is told_it hand) a b programs x side meets here)
 
-pub tells : (now : ℕ) (g h : Guest) → GuestTells now g h → waiting_message g.connection.conversation.side ≡ None → LeadsOn 0 g h no_more []
+pub tells : (now : ℕ) (g h : Guest) → GuestTells now g h → waiting_message g.connection.conversation.side ≡ None → LeadsOn 0 g h with_no_more []
 tells now g h t is = same_goes 0 g h (ap (λ (k : Connection). k.conversation) (t.closed is))
 
-pub announced : (g h : Guest) → GuestAnnounced g h → LeadsOn 0 g h no_more []
+pub announced : (g h : Guest) → GuestAnnounced g h → LeadsOn 0 g h with_no_more []
 announced g h is = same_goes 0 g h (ap (λ (k : Guest). k.connection.conversation) is)
 
 -- ---- by itself
@@ -148,14 +148,14 @@ acts_by c d now Forget is = as_before c.conversation d.conversation is
 pub acted_rests : (now : ℕ) (g h : Guest) → GuestActs now g h → Rests g.connection.conversation h.connection.conversation
 acted_rests now g h s = acts_by g.connection h.connection now (act_at g.connection.wait now) (ap (λ (p : Parts). p.conversation) s.parts)
 
-pub acts : (now : ℕ) (g h : Guest) → GuestActs now g h → LeadsOn 1 g h no_more []
+pub acts : (now : ℕ) (g h : Guest) → GuestActs now g h → LeadsOn 1 g h with_no_more []
 acts now g h s = rests_on g h (acted_rests now g h s)
 
 unserved_by : (closed : Bool) (c d : Conversation) (p q : Parts) → d ≡ (if closed then p else q).conversation → p.conversation ≡ c → q.conversation ≡ given_up c → Rests c d
 unserved_by true c d p q is still left = as_before c d (is ∙ still)
 unserved_by false c d p q is still left = as_given_up c d (is ∙ left)
 
-pub not_served : (now error : ℕ) (g h : Guest) → GuestUnserved now error g h → LeadsOn 1 g h no_more []
+pub not_served : (now error : ℕ) (g h : Guest) → GuestUnserved now error g h → LeadsOn 1 g h with_no_more []
 not_served now error g h s =
     rests_on g h (unserved_by (is_some g.connection.closed) g.connection.conversation h.connection.conversation (parts_of g.connection) _
     (ap (λ (p : Parts). p.conversation) s.parts) refl refl)
@@ -168,31 +168,31 @@ owed_on false now c d law same =
     let rests = as_before c.conversation d.conversation (ap (λ (k : Connection). k.conversation) same) in
     (rests.0, λ h t. (h, rests.1 h t, stays h))
 
-packets_given : (way : ℕ) (left : Bool) (answer : Result (Option (List ℕ)) AllocError) → packets_in (given_by way left answer) ≡ option_to_list (packet_of answer)
+packets_given : (way : ℕ) (left : Bool) (answer : Result (Option (List ℕ)) AllocError) → packet_returned (given_by way left answer) ≡ option_to_list (packet_of answer)
 packets_given way left (Ok (Some p)) = refl
 packets_given way true (Ok None) = refl
 packets_given way false (Ok None) = refl
 packets_given way left (Err e) = refl
 
-pub gives : (now : ℕ) (result : Result (Option Outgoing) HostFault) (g h : Guest) → AStepKeepsItsPromises → GuestGives now result g h → LeadsOn 2 g h no_more (packets_in result)
+pub gives : (now : ℕ) (result : Result (Option Outgoing) HostFault) (g h : Guest) → AStepKeepsItsPromises → GuestGives now result g h → LeadsOn 2 g h with_no_more (packet_returned result)
 gives now result g h law s a b programs m side meets here =
     let n = s.gave in
     let mid = n.mid in
     let owed = owed_on g.connection.owed.moving now g.connection mid law n.moved in
-    let one = acts_so g.connection.conversation mid.conversation (λ k. k) no_more owed.0 (λ k l. idling) owed.1 a b programs m side meets here in
+    let one = acts_so g.connection.conversation mid.conversation (λ k. k) with_no_more owed.0 (λ k l. idling) owed.1 a b programs m side meets here in
     let out = gives_on_from (is_dead mid.closed) mid.conversation h.connection.conversation mid.owed h.connection.owed s.answer n.beside.0 n.beside.1 n.gave n.short in
-    let two = gives_on one.next one.meets side (packet_of s.answer) h.connection.conversation (subst (λ (k : Conversation). Gives k h.connection.conversation (packet_of s.answer)) (sym one.conversation) out) in
-    subst (LeadsTo a b programs 2 m side h no_more) (sym (ap packets_in s.is ∙ packets_given g.via h.connection.owed.fresh s.answer)) (leads h (then_on one two))
+    let two = gives_on one.next one.meets side (packet_of s.answer) h.connection.conversation (subst (λ (k : Conversation). GivesNextPacket k h.connection.conversation (packet_of s.answer)) (sym one.conversation) out) in
+    subst (LeadsTo a b programs 2 m side h with_no_more) (sym (ap packet_returned s.is ∙ packets_given g.via h.connection.owed.fresh s.answer)) (leads h (then_on one two))
 
 -- ---- what comes
 
-pub hears_it : (now : ℕ) (bytes : List ℕ) (confirming : Bool) (g h : Guest) → AStepKeepsItsPromises → GuestHears now bytes confirming g h → HearsOn g h no_more bytes
+pub hears_it : (now : ℕ) (bytes : List ℕ) (confirming : Bool) (g h : Guest) → AStepKeepsItsPromises → GuestHears now bytes confirming g h → HearsOn g h with_no_more bytes
 hears_it now bytes confirming g h law (hears {h = k} s) a b programs m side meets here may =
     let n = (at m side).story in
     let t = subst (λ (c : Conversation). Tells c n) here (told meets side) in
     let p = law now (deeds.heard bytes) g.connection k.connection s.step in
-    let heard_so : Hears g.connection.conversation k.connection.conversation bytes = record { wanted = λ z. p.wanted ∙ z; on = p.story } in
-    leads k (hears_on m meets side bytes k.connection.conversation (subst (λ (c : Conversation). Hears c k.connection.conversation bytes) (sym here) heard_so)
+    let heard_so : HearsBytes g.connection.conversation k.connection.conversation bytes = record { wanted = λ z. p.wanted ∙ z; on = p.story } in
+    leads k (hears_on m meets side bytes k.connection.conversation (subst (λ (c : Conversation). HearsBytes c k.connection.conversation bytes) (sym here) heard_so)
     (s.step.packets ∙ sym (ap (λ (c : Conversation). c.packets) here)) may)
 hears_it now bytes confirming g h law (lost stores) a b programs m side meets here may =
     same_goes 1 g g refl a b programs m side meets here

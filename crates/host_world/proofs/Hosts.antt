@@ -10,7 +10,7 @@ use Rattle.xns_agenda.specs.Clock.{time_at}
 use Rattle.xns_host.specs.Coming.{Arrives, Comes, Opens}
 use Rattle.xns_host.specs.Coming as coming
 use Rattle.xns_host.specs.Hosting.{confirms}
-use Rattle.xns_host.specs.Identifiers.{IsNext}
+use Rattle.xns_host.specs.Identifiers.{IsNextIdentifier}
 use Rattle.xns_host.specs.Knowing.{id_of}
 use Rattle.xns_host.specs.Places.{Places}
 use Rattle.xns_host.specs.Registered.{IsAllRegistered}
@@ -28,7 +28,7 @@ use Rattle.xns_host.specs.declared.host.Host.{Host}
 use Rattle.xns_host.specs.declared.host_fault.HostFault.{HostFault}
 use Rattle.xns_host.specs.declared.outgoing.Outgoing.{Outgoing}
 use Rattle.host_world.specs.Dialogue.{Dialogue, new_dialogue, View, free, held, Happening, abandons, abandoning, connects, is_said}
-use Rattle.host_world.specs.Seen.{HasLived, IsSaid, IsSeen, NumberHasHistory, Says, abandons_none, begins, finds_no_room, gives_out, goes_on, guest_in, happens, has_abandoned, has_connected, has_said, is_refused, moves, news_of, of_answer, of_call, of_close, said_at, serves, tags, takes_in, tells_nothing, was_told}
+use Rattle.host_world.specs.Seen.{HasLived, IsSaid, IsSeen, NumberHasHistory, HostSays, abandons_none, begins, finds_no_room, gives_out, goes_on, guest_in, happened_at, has_abandoned, has_connected, has_said, is_refused, moves, news_of, of_answer, of_call, of_close, said_at, serves, tags, takes_in, tells_nothing, was_told}
 use Rattle.host_world.proofs.Calming.{AllCalm, all_act, calm_if, leads_calmly, next_packet, then_calm, turned}
 use Rattle.host_world.proofs.Doing.{after_answer, after_call, after_close, hearing, unserving}
 use Rattle.host_world.proofs.Followed.{taken_beside}
@@ -57,8 +57,8 @@ opens_it ends now way bytes packet w all {r = r} (coming.opened {mid = mid} numb
       shows : Shows (new_dialogue false) seats.guest
       shows = opened_shows seats.guest seats.answering
 
-      next : IsNext w.register.identifiers (id_of turn.next)
-      next = subst (IsNext w.register.identifiers) (sym (heard_id ends now bytes false seats.guest turn.next heard)) seats.answering.next
+      next : IsNextIdentifier w.register.identifiers (id_of turn.next)
+      next = subst (IsNextIdentifier w.register.identifiers) (sym (heard_id ends now bytes false seats.guest turn.next heard)) seats.answering.next
 
       there : slice_get r.guests number ≡ Some (Some turn.next)
       there = ap (λ (l : List (Option Guest)). slice_get l number) to ∙ at_place mid.guests number (Some turn.next) (slice_get_within mid.guests number (Some turn.guest) turn.was)
@@ -125,7 +125,7 @@ giving ends now result h j g (o ∷ os) is =
     then_calm h.guests.items g.mid.guests j.guests.items (all_act ends (time_at h.clock now) (places_of h) g.acts.one_by_one)
     (calm_if g.mid.guests j.guests.items (ap (λ (p : Places). p.guests) s.1))
 
-leads : AConnectionKeepsItsEnd → (h j : Host) {more : ℕ → List Happening} → Says h j more → Leads more h.guests.items j.guests.items
+leads : AConnectionKeepsItsEnd → (h j : Host) {more : ℕ → List Happening} → HostSays h j more → Leads more h.guests.items j.guests.items
 leads ends h j (has_connected now way socket peer number c) = connects_to now way socket peer number h j c
 leads ends h j (has_said now number deed x is t) =
     one_said number x h.guests.items j.guests.items t.apart.others (said_by ends (time_at h.clock now) is (slice_get h.guests.items number) (slice_get j.guests.items number) t.went)
@@ -156,7 +156,7 @@ deed_is_said (of_call c) = refl
 deed_is_said (of_answer kind words) = refl
 deed_is_said of_close = refl
 
-all_said : {h j : Host} {more : ℕ → List Happening} → Says h j more → (k : ℕ) → filter is_said (more k) ≡ more k
+all_said : {h j : Host} {more : ℕ → List Happening} → HostSays h j more → (k : ℕ) → filter is_said (more k) ≡ more k
 all_said (has_connected now way socket peer number c) k = said_alone number connects refl k
 all_said (has_said now number deed x is t) k = said_alone number x (deed_is_said is) k
 all_said (has_abandoned number a) k = said_alone number abandons refl k
@@ -182,13 +182,13 @@ lives : AConnectionKeepsItsEnd → {h : Host} {said happened : ℕ → List Happ
 lives ends {h} (begins network host settings secret new) k =
     subst (λ (gs : List (Option Guest)). Passes [] free (slice_get gs k)) (sym new.nobody) (stays free (slice_get (replicate settings.connections None) k) (free_at_first settings.connections k))
 lives ends (goes_on {h = h} {j = j} {said = said} {happened = happened} {more = more} before step) k =
-    passes_then (happened k) (happens (more k) (slice_get h.guests.items k) (slice_get j.guests.items k)) free (slice_get h.guests.items k) (slice_get j.guests.items k)
+    passes_then (happened k) (happened_at (more k) (slice_get h.guests.items k) (slice_get j.guests.items k)) free (slice_get h.guests.items k) (slice_get j.guests.items k)
     (lives ends before k) (leads ends h j step k)
 
 said_in : {h : Host} {said happened : ℕ → List Happening} → HasLived h said happened → (k : ℕ) → filter is_said (happened k) ≡ said k
 said_in (begins network host settings secret new) k = refl
 said_in (goes_on {h = h} {j = j} {said = said} {happened = happened} {more = more} before step) k =
-    let step_k = happens (more k) (slice_get h.guests.items k) (slice_get j.guests.items k) in
+    let step_k = happened_at (more k) (slice_get h.guests.items k) (slice_get j.guests.items k) in
     filter-append is_said (happened k) step_k ∙ (ap (λ (xs : List Happening). xs ++ filter is_said step_k) (said_in before k)
     ∙ ap (λ (xs : List Happening). said k ++ xs) (said_between (more k) (guest_in (slice_get h.guests.items k)) (guest_in (slice_get j.guests.items k)) (all_said step k)))
 

@@ -12,11 +12,11 @@ use Rattle.xns_spp.specs.State.{State, IsState}
 use Rattle.xns_spp.specs.Telling.{resend_answer, after_resend, told_answer}
 use Rattle.xns_spp.specs.declared.item.Item.{Item}
 use Rattle.item_world.specs.EndLaws.{EndLaws}
-use Rattle.item_world.specs.Events.{Step, IsStep, stepped, sending, taking, flushing, resending, telling}
+use Rattle.item_world.specs.Events.{SmallStep, IsStep, stepped, sending, taking, flushing, resending, telling}
 use Rattle.item_world.specs.Invariant.{Holds}
 use Rattle.item_world.specs.Laws.{EachStepKeepsTheOrder}
 use Rattle.item_world.specs.Side.{other}
-use Rattle.item_world.specs.World.{World, end_of, moved, moment, emitted, packets_of, sender_and_bytes, sends}
+use Rattle.item_world.specs.World.{World, end_at, moved, moment, emitted, sent_packets, sender_and_bytes, sends}
 use Rattle.item_world.specs.declared.emitted.Emitted.{Emitted}
 use Rattle.item_world.specs.declared.moment.Moment.{Moment}
 use Rattle.item_world.specs.declared.side.Side.{Side}
@@ -27,16 +27,16 @@ use Rattle.host_world.specs.Pairing.{AreKept}
 
 -- ---- one move
 
-pub same_end : (w : World) (side : Side) (s : State) (bs : List (List ℕ)) → end_of (moved w side s bs) side ≡ s
+pub same_end : (w : World) (side : Side) (s : State) (bs : List (List ℕ)) → end_at (moved w side s bs) side ≡ s
 same_end w A s bs = refl
 same_end w B s bs = refl
 
-pub same_other : (w : World) (side : Side) (s : State) (bs : List (List ℕ)) → end_of (moved w side s bs) (other side) ≡ end_of w (other side)
+pub same_other : (w : World) (side : Side) (s : State) (bs : List (List ℕ)) → end_at (moved w side s bs) (other side) ≡ end_at w (other side)
 same_other w A s bs = refl
 same_other w B s bs = refl
 
 -- where the end stays and nothing is sent, nothing changes
-stays : (w : World) (side : Side) → moved w side (end_of w side) [] ≡ w
+stays : (w : World) (side : Side) → moved w side (end_at w side) [] ≡ w
 stays w A = ap (λ (bag : List Emitted). record w { bag = bag }) (append-nil w.bag)
 stays w B = ap (λ (bag : List Emitted). record w { bag = bag }) (append-nil w.bag)
 
@@ -47,28 +47,28 @@ sent_by : (side : Side) (at : Moment) (bs : List (List ℕ)) → map sender_and_
 sent_by side at [] = refl
 sent_by side at (b ∷ bs) = ap (λ (l : List (Side × List ℕ)). (side, b) ∷ l) (sent_by side at bs)
 
-pub moved_bag : (w : World) (side : Side) (s : State) (bs : List (List ℕ)) → packets_of (moved w side s bs) ≡ packets_of w ++ map (by side) bs
+pub moved_bag : (w : World) (side : Side) (s : State) (bs : List (List ℕ)) → sent_packets (moved w side s bs) ≡ sent_packets w ++ map (by side) bs
 moved_bag w side s bs =
-    let at : Moment = moment s (end_of w (other side)) in
-    map-append sender_and_bytes w.bag (map (emitted side at) bs) ∙ ap (λ (l : List (Side × List ℕ)). packets_of w ++ l) (sent_by side at bs)
+    let at : Moment = moment s (end_at w (other side)) in
+    map-append sender_and_bytes w.bag (map (emitted side at) bs) ∙ ap (λ (l : List (Side × List ℕ)). sent_packets w ++ l) (sent_by side at bs)
 
 -- ---- the world after all steps of an end
 
-pub led_end : (w : World) (side : Side) {s v : State} (p : Runs s v) → end_of w side ≡ s → end_of (led w side p) side ≡ v
+pub led_end : (w : World) (side : Side) {s v : State} (p : Runs s v) → end_at w side ≡ s → end_at (led w side p) side ≡ v
 led_end w side start e = e
-led_end w side (accepts p x) e = let u : World = led w side p in same_end u side (after_send (end_of u side) x) [] ∙ ap (λ (s : State). after_send s x) (led_end w side p e)
-led_end w side (takes p) e = let u : World = led w side p in same_end u side (after_take (end_of u side)) [] ∙ ap after_take (led_end w side p e)
-led_end w side (flushes p) e = let u : World = led w side p in same_end u side (after_flush (end_of u side)) (flush_answer (end_of u side)) ∙ ap after_flush (led_end w side p e)
-led_end w side (resends p) e = let u : World = led w side p in same_end u side (after_resend (end_of u side)) (option_to_list (resend_answer (end_of u side))) ∙ ap after_resend (led_end w side p e)
-led_end w side (tells p asks) e = let u : World = led w side p in same_end u side (end_of u side) (option_to_list (told_answer (end_of u side) asks)) ∙ led_end w side p e
+led_end w side (accepts p x) e = let u : World = led w side p in same_end u side (after_send (end_at u side) x) [] ∙ ap (λ (s : State). after_send s x) (led_end w side p e)
+led_end w side (takes p) e = let u : World = led w side p in same_end u side (after_take (end_at u side)) [] ∙ ap after_take (led_end w side p e)
+led_end w side (flushes p) e = let u : World = led w side p in same_end u side (after_flush (end_at u side)) (flush_answer (end_at u side)) ∙ ap after_flush (led_end w side p e)
+led_end w side (resends p) e = let u : World = led w side p in same_end u side (after_resend (end_at u side)) (option_to_list (resend_answer (end_at u side))) ∙ ap after_resend (led_end w side p e)
+led_end w side (tells p asks) e = let u : World = led w side p in same_end u side (end_at u side) (option_to_list (told_answer (end_at u side) asks)) ∙ led_end w side p e
 
-pub led_other : (w : World) (side : Side) {s v : State} (p : Runs s v) → end_of (led w side p) (other side) ≡ end_of w (other side)
+pub led_other : (w : World) (side : Side) {s v : State} (p : Runs s v) → end_at (led w side p) (other side) ≡ end_at w (other side)
 led_other w side start = refl
-led_other w side (accepts p x) = let u : World = led w side p in same_other u side (after_send (end_of u side) x) [] ∙ led_other w side p
-led_other w side (takes p) = let u : World = led w side p in same_other u side (after_take (end_of u side)) [] ∙ led_other w side p
-led_other w side (flushes p) = let u : World = led w side p in same_other u side (after_flush (end_of u side)) (flush_answer (end_of u side)) ∙ led_other w side p
-led_other w side (resends p) = let u : World = led w side p in same_other u side (after_resend (end_of u side)) (option_to_list (resend_answer (end_of u side))) ∙ led_other w side p
-led_other w side (tells p asks) = let u : World = led w side p in same_other u side (end_of u side) (option_to_list (told_answer (end_of u side) asks)) ∙ led_other w side p
+led_other w side (accepts p x) = let u : World = led w side p in same_other u side (after_send (end_at u side) x) [] ∙ led_other w side p
+led_other w side (takes p) = let u : World = led w side p in same_other u side (after_take (end_at u side)) [] ∙ led_other w side p
+led_other w side (flushes p) = let u : World = led w side p in same_other u side (after_flush (end_at u side)) (flush_answer (end_at u side)) ∙ led_other w side p
+led_other w side (resends p) = let u : World = led w side p in same_other u side (after_resend (end_at u side)) (option_to_list (resend_answer (end_at u side))) ∙ led_other w side p
+led_other w side (tells p asks) = let u : World = led w side p in same_other u side (end_at u side) (option_to_list (told_answer (end_at u side) asks)) ∙ led_other w side p
 
 -- ---- the bag has what was made on the way
 
@@ -83,26 +83,26 @@ more_made before now base side made bs cs one some same =
 none_made : (before now base : Sent) (side : Side) (made : List (List ℕ)) → now ≡ before ++ [] → before ≡ base ++ map (by side) made → now ≡ base ++ map (by side) made
 none_made before now base side made one some = one ∙ append-nil before ∙ some
 
-pub led_bag : (w : World) (side : Side) {s v : State} (p : Runs s v) → end_of w side ≡ s → packets_of (led w side p) ≡ packets_of w ++ map (by side) (made_on p)
-led_bag w side start e = sym (append-nil (packets_of w))
+pub led_bag : (w : World) (side : Side) {s v : State} (p : Runs s v) → end_at w side ≡ s → sent_packets (led w side p) ≡ sent_packets w ++ map (by side) (made_on p)
+led_bag w side start e = sym (append-nil (sent_packets w))
 led_bag w side (accepts p x) e =
     let u : World = led w side p in
-    none_made (packets_of u) (packets_of (led w side (accepts p x))) (packets_of w) side (made_on p) (moved_bag u side (after_send (end_of u side) x) []) (led_bag w side p e)
+    none_made (sent_packets u) (sent_packets (led w side (accepts p x))) (sent_packets w) side (made_on p) (moved_bag u side (after_send (end_at u side) x) []) (led_bag w side p e)
 led_bag w side (takes p) e =
     let u : World = led w side p in
-    none_made (packets_of u) (packets_of (led w side (takes p))) (packets_of w) side (made_on p) (moved_bag u side (after_take (end_of u side)) []) (led_bag w side p e)
+    none_made (sent_packets u) (sent_packets (led w side (takes p))) (sent_packets w) side (made_on p) (moved_bag u side (after_take (end_at u side)) []) (led_bag w side p e)
 led_bag w side (flushes {v = v} p) e =
     let u : World = led w side p in
-    more_made (packets_of u) (packets_of (led w side (flushes p))) (packets_of w) side (made_on p) (flush_answer (end_of u side)) (flush_answer v)
-    (moved_bag u side (after_flush (end_of u side)) (flush_answer (end_of u side))) (led_bag w side p e) (ap flush_answer (led_end w side p e))
+    more_made (sent_packets u) (sent_packets (led w side (flushes p))) (sent_packets w) side (made_on p) (flush_answer (end_at u side)) (flush_answer v)
+    (moved_bag u side (after_flush (end_at u side)) (flush_answer (end_at u side))) (led_bag w side p e) (ap flush_answer (led_end w side p e))
 led_bag w side (resends {v = v} p) e =
     let u : World = led w side p in
-    more_made (packets_of u) (packets_of (led w side (resends p))) (packets_of w) side (made_on p) (option_to_list (resend_answer (end_of u side))) (option_to_list (resend_answer v))
-    (moved_bag u side (after_resend (end_of u side)) (option_to_list (resend_answer (end_of u side)))) (led_bag w side p e) (ap (λ (s : State). option_to_list (resend_answer s)) (led_end w side p e))
+    more_made (sent_packets u) (sent_packets (led w side (resends p))) (sent_packets w) side (made_on p) (option_to_list (resend_answer (end_at u side))) (option_to_list (resend_answer v))
+    (moved_bag u side (after_resend (end_at u side)) (option_to_list (resend_answer (end_at u side)))) (led_bag w side p e) (ap (λ (s : State). option_to_list (resend_answer s)) (led_end w side p e))
 led_bag w side (tells {v = v} p asks) e =
     let u : World = led w side p in
-    more_made (packets_of u) (packets_of (led w side (tells p asks))) (packets_of w) side (made_on p) (option_to_list (told_answer (end_of u side) asks)) (option_to_list (told_answer v asks))
-    (moved_bag u side (end_of u side) (option_to_list (told_answer (end_of u side) asks))) (led_bag w side p e) (ap (λ (s : State). option_to_list (told_answer s asks)) (led_end w side p e))
+    more_made (sent_packets u) (sent_packets (led w side (tells p asks))) (sent_packets w) side (made_on p) (option_to_list (told_answer (end_at u side) asks)) (option_to_list (told_answer v asks))
+    (moved_bag u side (end_at u side) (option_to_list (told_answer (end_at u side) asks))) (led_bag w side p e) (ap (λ (s : State). option_to_list (told_answer s asks)) (led_end w side p e))
 
 -- ---- what was made is kept
 
@@ -126,24 +126,24 @@ kept_in_front : (xs ys : List Emitted) → AreKept xs (xs ++ ys)
 kept_in_front xs ys = record { each = λ k x e. (x, in_front xs ys k x e, refl) }
 
 pub kept_moved : (w : World) (side : Side) (s : State) (bs : List (List ℕ)) → AreKept w.bag (moved w side s bs).bag
-kept_moved w side s bs = kept_in_front w.bag (map (emitted side (moment s (end_of w (other side)))) bs)
+kept_moved w side s bs = kept_in_front w.bag (map (emitted side (moment s (end_at w (other side)))) bs)
 
 pub led_kept : (w : World) (side : Side) {s v : State} (p : Runs s v) → AreKept w.bag (led w side p).bag
 led_kept w side start = kept_itself w.bag
-led_kept w side (accepts p x) = let u : World = led w side p in kept_then w.bag u.bag (moved u side (after_send (end_of u side) x) []).bag (led_kept w side p) (kept_moved u side (after_send (end_of u side) x) [])
-led_kept w side (takes p) = let u : World = led w side p in kept_then w.bag u.bag (moved u side (after_take (end_of u side)) []).bag (led_kept w side p) (kept_moved u side (after_take (end_of u side)) [])
+led_kept w side (accepts p x) = let u : World = led w side p in kept_then w.bag u.bag (moved u side (after_send (end_at u side) x) []).bag (led_kept w side p) (kept_moved u side (after_send (end_at u side) x) [])
+led_kept w side (takes p) = let u : World = led w side p in kept_then w.bag u.bag (moved u side (after_take (end_at u side)) []).bag (led_kept w side p) (kept_moved u side (after_take (end_at u side)) [])
 led_kept w side (flushes p) =
     let u : World = led w side p in
-    let bs = flush_answer (end_of u side) in
-    kept_then w.bag u.bag (moved u side (after_flush (end_of u side)) bs).bag (led_kept w side p) (kept_moved u side (after_flush (end_of u side)) bs)
+    let bs = flush_answer (end_at u side) in
+    kept_then w.bag u.bag (moved u side (after_flush (end_at u side)) bs).bag (led_kept w side p) (kept_moved u side (after_flush (end_at u side)) bs)
 led_kept w side (resends p) =
     let u : World = led w side p in
-    let bs = option_to_list (resend_answer (end_of u side)) in
-    kept_then w.bag u.bag (moved u side (after_resend (end_of u side)) bs).bag (led_kept w side p) (kept_moved u side (after_resend (end_of u side)) bs)
+    let bs = option_to_list (resend_answer (end_at u side)) in
+    kept_then w.bag u.bag (moved u side (after_resend (end_at u side)) bs).bag (led_kept w side p) (kept_moved u side (after_resend (end_at u side)) bs)
 led_kept w side (tells p asks) =
     let u : World = led w side p in
-    let bs = option_to_list (told_answer (end_of u side) asks) in
-    kept_then w.bag u.bag (moved u side (end_of u side) bs).bag (led_kept w side p) (kept_moved u side (end_of u side) bs)
+    let bs = option_to_list (told_answer (end_at u side) asks) in
+    kept_then w.bag u.bag (moved u side (end_at u side) bs).bag (led_kept w side p) (kept_moved u side (end_at u side) bs)
 
 kept_first : (x y : Emitted) (xs ys : List Emitted) → y ≡ record x { delivered = y.delivered } → AreKept xs ys → AreKept (x ∷ xs) (y ∷ ys)
 kept_first x y xs ys same rest = record { each = each } where
@@ -181,11 +181,11 @@ same_begins : (s v : State) → v.accepted ≡ s.accepted → Begins s.accepted 
 same_begins s v e = ([], append-nil s.accepted ∙ sym e)
 
 -- what each small step keeps is true after all of them
-pub led_keeps : EndLaws → (P : World → Type 0) → ((w : World) (s : Step) → IsStep s → P w → P (stepped w s)) → (w : World) (side : Side) {s v : State} (p : Runs s v) → end_of w side ≡ s → AreItems v → P w → P (led w side p)
+pub led_keeps : EndLaws → (P : World → Type 0) → ((w : World) (s : SmallStep) → IsStep s → P w → P (stepped w s)) → (w : World) (side : Side) {s v : State} (p : Runs s v) → end_at w side ≡ s → AreItems v → P w → P (led w side p)
 led_keeps laws P each w side start e items h = h
 led_keeps laws P each w side (accepts {v = v} p x) e items h =
     let u : World = led w side p in
-    let here : end_of u side ≡ v = led_end w side p e in
+    let here : end_at u side ≡ v = led_end w side p e in
     let grows : Begins v.accepted (after_send v x).accepted = (laws.grows.send v x).accepted in
     let before : P u = led_keeps laws P each w side p e (fewer_items v (after_send v x) grows items) h in
     elim (is_ok (send_answer v x)) as (λ b. is_ok (send_answer v x) ≡ b → P (sends u side x)) [
@@ -193,7 +193,7 @@ led_keeps laws P each w side (accepts {v = v} p x) e items h =
           let more : v.accepted ++ x ∷ [] ≡ (after_send v x).accepted = sym (ap (λ (s : State). s.accepted) (laws.accepts.accepted v x yes)) in
           each u (sending side x) (items (length v.accepted) x (last_of v.accepted x (after_send v x).accepted ([], append-nil (v.accepted ++ x ∷ []) ∙ more))) before
       | false ↦ λ no.
-          let same : after_send (end_of u side) x ≡ end_of u side = ap (λ (s : State). after_send s x) here ∙ laws.accepts.refused v x no ∙ sym here in
+          let same : after_send (end_at u side) x ≡ end_at u side = ap (λ (s : State). after_send s x) here ∙ laws.accepts.refused v x no ∙ sym here in
           subst P (sym (ap (λ (s : State). moved u side s []) same ∙ stays u side)) before
     ] refl
 led_keeps laws P each w side (takes {v = v} p) e items h = each (led w side p) (taking side) tt (led_keeps laws P each w side p e (fewer_items v (after_take v) (laws.grows.take v).accepted items) h)
@@ -201,5 +201,5 @@ led_keeps laws P each w side (flushes {v = v} p) e items h = each (led w side p)
 led_keeps laws P each w side (resends {v = v} p) e items h = each (led w side p) (resending side) tt (led_keeps laws P each w side p e (fewer_items v (after_resend v) (same_begins v (after_resend v) (laws.stays.resend v).accepted) items) h)
 led_keeps laws P each w side (tells p asks) e items h = each (led w side p) (telling side asks) tt (led_keeps laws P each w side p e items h)
 
-pub led_holds : EndLaws → EachStepKeepsTheOrder → (w : World) (side : Side) {s v : State} (p : Runs s v) → end_of w side ≡ s → AreItems v → Holds w → Holds (led w side p)
+pub led_holds : EndLaws → EachStepKeepsTheOrder → (w : World) (side : Side) {s v : State} (p : Runs s v) → end_at w side ≡ s → AreItems v → Holds w → Holds (led w side p)
 led_holds laws keeps = led_keeps laws Holds keeps.each

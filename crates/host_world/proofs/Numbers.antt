@@ -9,7 +9,7 @@ use Rattle.courier_sessions.specs.declared.program.Program.{Program}
 use Rattle.xns_idp.specs.declared.address.Address.{Address}
 use Rattle.xns_spp.specs.Held.{Held}
 use Rattle.xns_spp.specs.State.{State}
-use Rattle.xns_host.specs.Hosting.{IsConnected, IsAnswering, IsPlace, free_place, of_closed, of_stranger, is_past, may_go, tells as has_news}
+use Rattle.xns_host.specs.Hosting.{IsConnected, IsAnswering, IsPlaceForNew, free_place, of_closed, of_stranger, lingers_no_more, may_go, tells as has_news}
 use Rattle.xns_host.specs.Knowing.{id_of}
 pub use Rattle.xns_agenda.proofs.Putting.{place_other as beside, place_set as at_place, same_or_other}
 use Rattle.xns_agenda.specs.Waiting.{due_time}
@@ -26,7 +26,7 @@ use Rattle.xns_connection.specs.declared.side.Side.{Side}
 use Rattle.xns_connection.specs.declared.side.Side.TheVariants.{Calls, Answers}
 use Rattle.xns_connection.specs.declared.why.Why.{Why}
 use Rattle.host_world.specs.Dialogue.{Dialogue, new_dialogue, View, free, held, MayGo, Happening, connects, connecting, freeing, goes, opening, opens}
-use Rattle.host_world.specs.Seen.{arriving, closed_since, guest_in, happens, news_of, number_of, said_at}
+use Rattle.host_world.specs.Seen.{arriving, closed_since, guest_in, happened_at, news_of, number_of, said_at}
 use Rattle.host_world.proofs.Dialogues.{course_on}
 use Rattle.host_world.proofs.Happens.{arriving_ours, arriving_theirs, between_other, between_same, closed_between, leaving_told, nothing_between, said_here, said_there}
 use Rattle.host_world.proofs.Reporting.{Reports, event_number, tells_it}
@@ -57,13 +57,13 @@ passes_then xs ys v a b p next =
 
 -- where this is said, what happens leads from any view of the old place to one of the new place
 abbrev pub LeadsAt : (said : List Happening) (old new : Option (Option Guest)) → Type 0
-LeadsAt said old new = (v : View) → ShowsIn v old → Passes (happens said old new) v new
+LeadsAt said old new = (v : View) → ShowsIn v old → Passes (happened_at said old new) v new
 
 pub still_there : (place : Option (Option Guest)) → LeadsAt [] place place
 still_there place v shows = subst (λ (xs : List Happening). Passes xs v place) (sym (nothing_between (guest_in place))) (stays v place shows)
 
 -- a connection in its place became another, or left
-pub of_guest : (g : Guest) (said : List Happening) (place : Option (Option Guest)) → ((d : Dialogue) → Shows d g → Passes (happens said (Some (Some g)) place) (held d) place)
+pub of_guest : (g : Guest) (said : List Happening) (place : Option (Option Guest)) → ((d : Dialogue) → Shows d g → Passes (happened_at said (Some (Some g)) place) (held d) place)
     → LeadsAt said (Some (Some g)) place
 of_guest g said place p free shows = absurd shows
 of_guest g said place p (held d) shows = p d shows
@@ -109,7 +109,7 @@ and_true true b e = (refl, e)
 and_true false b e = absurd (cc)
 
 pub may_be_told : (c : Connection) → may_go c ≡ true → c.told ≡ true
-may_be_told c e = (and_true c.told (is_past c) (and_true (is_some c.closed) (c.told && is_past c) e).1).0
+may_be_told c e = (and_true c.told (lingers_no_more c) (and_true (is_some c.closed) (c.told && lingers_no_more c) e).1).0
 
 pub goes_from : (v : View) (g : Guest) → g.connection.told ≡ true → ShowsIn v (Some (Some g)) → Passes (goes ∷ []) v (Some None)
 goes_from free g told shows = absurd shows
@@ -118,7 +118,7 @@ goes_from (held d) g told shows = first (held d) free goes [] (Some None) (freei
 -- ---- what the program is told
 
 -- one that was told of its close left
-tells_and_goes : (d : Dialogue) (g h : Guest) (event : Event) → Reports (news_of event) d g h → h.connection.told ≡ true → Passes (happens (news_of event ∷ []) (Some (Some g)) (Some None)) (held d) (Some None)
+tells_and_goes : (d : Dialogue) (g h : Guest) (event : Event) → Reports (news_of event) d g h → h.connection.told ≡ true → Passes (happened_at (news_of event ∷ []) (Some (Some g)) (Some None)) (held d) (Some None)
 tells_and_goes d g h event r told =
     subst (λ (xs : List Happening). Passes (news_of event ∷ xs) (held d) (Some None)) (sym (leaving_told event))
     (subst (λ (xs : List Happening). Passes (news_of event ∷ (xs ++ goes ∷ [])) (held d) (Some None)) (r.over told)
@@ -279,7 +279,7 @@ gives_way g new said other may gets =
     (first (held d) free goes (said ++ arriving new) (Some (Some new)) (freeing d (may d s)) gets))
 
 -- a new connection in a place that is free or gives way
-pub taking : (gs : List (Option Guest)) {n : ℕ} (said : List Happening) (new : Guest) → IsPlace gs n → ((k : ℕ) (g : Guest) → slice_get gs k ≡ Some (Some g) → id_of new ≢ id_of g)
+pub taking : (gs : List (Option Guest)) {n : ℕ} (said : List Happening) (new : Guest) → IsPlaceForNew gs n → ((k : ℕ) (g : Guest) → slice_get gs k ≡ Some (Some g) → id_of new ≢ id_of g)
     → Passes (said ++ arriving new) free (Some (Some new)) → LeadsAt said (slice_get gs n) (Some (Some new))
 taking gs said new (free_place k at) other gets = subst (λ (o : Option (Option Guest)). LeadsAt said o (Some (Some new))) (sym at) by where
   by : LeadsAt said (Some None) (Some (Some new))

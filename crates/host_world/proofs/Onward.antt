@@ -8,20 +8,20 @@ use Rattle.xns_spp.specs.Peers.{IsLinked}
 use Rattle.xns_spp.specs.Receiving.{receive_answer, after_receive}
 use Rattle.xns_spp.specs.State.{State}
 use Rattle.item_world.specs.EndLaws.{EndLaws}
-use Rattle.item_world.specs.Events.{Step, IsStep, stepped, arrival}
+use Rattle.item_world.specs.Events.{SmallStep, IsStep, stepped, arrival}
 use Rattle.item_world.specs.Invariant.{Holds}
-use Rattle.item_world.specs.Landing.{answered, landed, landing, reached}
+use Rattle.item_world.specs.Landing.{with_arrival, landed, landing, world_reached}
 use Rattle.item_world.specs.Laws.{EachStepKeepsTheOrder, NoWorldIsStuck}
 use Rattle.item_world.specs.Progress.{IsFrom, Linked}
 use Rattle.item_world.specs.Side.{other}
-use Rattle.item_world.specs.World.{World, end_of, marked, has_passed}
+use Rattle.item_world.specs.World.{World, end_at, marked_delivered, has_passed}
 use Rattle.item_world.specs.declared.emitted.Emitted.{Emitted}
 use Rattle.item_world.specs.declared.side.Side.{Side}
 use Rattle.item_world.specs.declared.side.Side.TheVariants.{A, B}
 use Rattle.xns_connection.specs.Story.{Story}
 use Rattle.host_world.specs.Going.{CanFinish}
 use Rattle.host_world.specs.Meeting.{Meeting, at, led, Next}
-use Rattle.host_world.specs.Meets.{Meets, Moves, acts, arrives, gives, moves, opens, strays}
+use Rattle.host_world.specs.Meets.{Meets, MeetingStep, acts, arrives, gives, moves, opens, strays}
 use Rattle.host_world.specs.Station.{IsStation, calling_end, called_end}
 use Rattle.host_world.specs.declared.station.Station.{Station}
 use Rattle.host_world.proofs.Kept.{Keeps, StoryLaws, kept, acts_end, same_marked, new_holds}
@@ -38,10 +38,10 @@ pub record Laws : Type 0 where
 abbrev pub IsSound : World → Type 0
 IsSound w = Holds w × Linked w
 
-stepped_sound : Laws → (w : World) (s : Step) → IsStep s → IsSound w → IsSound (stepped w s)
+stepped_sound : Laws → (w : World) (s : SmallStep) → IsStep s → IsSound w → IsSound (stepped w s)
 stepped_sound laws w s fits k = (laws.order.each w s fits k.0, laws.onward.each w s fits k.0 k.1)
 
-led_sound : Laws → (u : World) (side : Side) {base : Story} (n : Next base) → end_of u side ≡ base.state → IsSound u → IsSound (led u side n.on.path)
+led_sound : Laws → (u : World) (side : Side) {base : Story} (n : Next base) → end_at u side ≡ base.state → IsSound u → IsSound (led u side n.on.path)
 led_sound laws u side n here k = led_keeps laws.ends IsSound (stepped_sound laws) u side n.on.path here (are_items n.story.state n.tells.stands.fits) k
 
 -- each end knows the other's address, and the one that is called knows the caller's identifier
@@ -49,31 +49,31 @@ new_linked : (a b : Station) → Linked (record { a = calling_end a b; b = calle
 new_linked a b =
     let w : World = record { a = calling_end a b; b = called_end b a; bag = [] } in
     record {
-      ends = λ side. elim side as (λ s. IsLinked (end_of w s).ends (end_of w (other s)).ends) [
+      ends = λ side. elim side as (λ s. IsLinked (end_at w s).ends (end_at w (other s)).ends) [
         | A ↦ record { peer = refl; peer_id = inl refl; one = inr refl }
         | B ↦ record { peer = refl; peer_id = inr refl; one = inl refl }
       ];
-      bag = All-nil (λ (x : Emitted). IsFrom (end_of w x.side).ends x.bytes);
+      bag = All-nil (λ (x : Emitted). IsFrom (end_at w x.side).ends x.bytes);
     }
 
-arrived_sound : Laws → (w : World) (j : ℕ) (x : Emitted) → slice_get w.bag j ≡ Some x → has_passed w x ≡ false → IsSound w → IsSound (answered w j x)
+arrived_sound : Laws → (w : World) (j : ℕ) (x : Emitted) → slice_get w.bag j ≡ Some x → has_passed w x ≡ false → IsSound w → IsSound (with_arrival w j x)
 arrived_sound laws w j x is lives k =
-    let lands : landing w j ≡ Some (other x.side, answered w j x) = ap (landed w j) is ∙ ap (λ (b : Bool). if b then None else Some (other x.side, answered w j x)) lives in
-    subst (λ (o : Option (Side × World)). IsSound (reached w o)) lands (stepped_sound laws w (arrival j) tt k)
+    let lands : landing w j ≡ Some (other x.side, with_arrival w j x) = ap (landed w j) is ∙ ap (λ (b : Bool). if b then None else Some (other x.side, with_arrival w j x)) lives in
+    subst (λ (o : Option (Side × World)). IsSound (world_reached w o)) lands (stepped_sound laws w (arrival j) tt k)
 
 -- the end that a packet came to goes on from what it was in the connection's story
-arrived_end : (w : World) (j : ℕ) (x : Emitted) (s : State) → end_of w (other x.side) ≡ s → end_of (answered w j x) (other x.side) ≡ after_receive s x.bytes
+arrived_end : (w : World) (j : ℕ) (x : Emitted) (s : State) → end_at w (other x.side) ≡ s → end_at (with_arrival w j x) (other x.side) ≡ after_receive s x.bytes
 arrived_end w j x s e =
     let side : Side = other x.side in
-    let marks : World = marked w j x in
-    same_end marks side (after_receive (end_of marks side) x.bytes) (option_to_list (receive_answer (end_of marks side) x.bytes).reply)
+    let marks : World = marked_delivered w j x in
+    same_end marks side (after_receive (end_at marks side) x.bytes) (option_to_list (receive_answer (end_at marks side) x.bytes).reply)
     ∙ ap (λ (t : State). after_receive t x.bytes) (same_marked w j x side ∙ e)
 
-moves_soundly : Laws → {a b : Station} {programs : List Program} {m n : Meeting} → Keeps a b programs m → IsSound m.world → Moves m n → IsSound n.world
+moves_soundly : Laws → {a b : Station} {programs : List Program} {m n : Meeting} → Keeps a b programs m → IsSound m.world → MeetingStep m n → IsSound n.world
 moves_soundly laws {m = m} k s (acts side act n same) = led_sound laws m.world side n (k.ends side ∙ sym (acts_end act)) s
 moves_soundly laws {m = m} k s (gives side packet n out) = led_sound laws m.world side n (k.ends side) s
 moves_soundly laws {m = m} k s (arrives j x is lives n same) =
-    led_sound laws (answered m.world j x) (other x.side) n (arrived_end m.world j x (at m (other x.side)).story.state (k.ends (other x.side))) (arrived_sound laws m.world j x is lives s)
+    led_sound laws (with_arrival m.world j x) (other x.side) n (arrived_end m.world j x (at m (other x.side)).story.state (k.ends (other x.side))) (arrived_sound laws m.world j x is lives s)
 moves_soundly laws {m = m} k s (strays side bytes foreign n same) =
     led_sound laws m.world side n (k.ends side ∙ sym (laws.ends.foreign.after (at m side).story.state bytes foreign)) s
 

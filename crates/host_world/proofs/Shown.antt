@@ -11,7 +11,7 @@ use Rattle.xns_connection.specs.declared.connection.Connection.{Connection}
 use Rattle.xns_connection.specs.declared.side.Side.{Side}
 use Rattle.xns_connection.specs.declared.why.Why.{Why}
 use Rattle.host_world.specs.Dialogue.{Dialogue, IsUntold, View, free, held, Happening, closes}
-use Rattle.host_world.specs.Dialogue.{Move, closing, Course}
+use Rattle.host_world.specs.Dialogue.{ViewMove, closing, Course}
 use Rattle.host_world.specs.Seen.{closed_since}
 use Rattle.host_world.proofs.Happens.{Continues, closed_between, closed_same}
 use Rattle.host_world.proofs.Sides.{Has}
@@ -53,7 +53,7 @@ unfolding Course
 stays v place shows = record { view = v; shows = shows; course = refl }
 
 -- one step more, first
-pub first : (v u : View) (x : Happening) (events : List Happening) (place : Option (Option Guest)) → Move v x u → Passes events u place → Passes (x ∷ events) v place
+pub first : (v u : View) (x : Happening) (events : List Happening) (place : Option (Option Guest)) → ViewMove v x u → Passes events u place → Passes (x ∷ events) v place
 unfolding Course
 first v u x events place move p = record { view = p.view; shows = p.shows; course = (u, move, p.course) }
 

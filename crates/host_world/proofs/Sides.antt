@@ -14,9 +14,9 @@ use Rattle.courier_messages.specs.declared.message.Message.{Message}
 use Rattle.courier_messages.specs.declared.message.Message.TheVariants as messages
 use Rattle.courier_sessions.specs.Answering as answering
 use Rattle.courier_sessions.specs.Answering.{Answering, is_busy, has_items, transaction_in, with_call}
-use Rattle.courier_sessions.specs.Feeding.{heard, most_item}
+use Rattle.courier_sessions.specs.Feeding.{feed_result, most_item}
 use Rattle.courier_sessions.specs.Pumping as pumping
-use Rattle.courier_sessions.specs.Pumping.{caller_side, server_side, moving, sending, feeding, feeds, Leads, here, on, Settles, Refuses}
+use Rattle.courier_sessions.specs.Pumping.{caller_side, server_side, moving, sending, feeding, feeds, Leads, here, on, Settles, RefusesNext}
 use Rattle.courier_sessions.specs.Talk as talk
 use Rattle.courier_sessions.specs.Talk.{Talk, reply_fault, wrong_unless, answered_unless}
 use Rattle.courier_sessions.specs.declared.feed_refusal.FeedRefusal.{FeedRefusal}
@@ -98,7 +98,7 @@ fault_keeps side P k t n faults.BadReply Q s h = k.stops t n s.0 h
 fault_keeps side P k t n (faults.Stream kind) Q s h = k.stops t n s.0 h
 fault_keeps side P k t n faults.Failed Q s h = absurd s
 
-refused_keeps : {S : Type 0} (side : pumping.Side S) (P : S → Type 0) → Kept side P → (t : S) (o : Option Item) (e : FeedRefusal) (n : S) → Refuses side t o e n → P t → P n
+refused_keeps : {S : Type 0} (side : pumping.Side S) (P : S → Type 0) → Kept side P → (t : S) (o : Option Item) (e : FeedRefusal) (n : S) → RefusesNext side t o e n → P t → P n
 refused_keeps side P k t None e n r h = absurd r
 refused_keeps side P k t (Some x) Busy n r h = absurd r
 refused_keeps side P k t (Some x) NoMemory n r h = subst P (sym r.0) h
@@ -113,7 +113,7 @@ settles_keep side P k last (Err e) n s h = refused_keeps side P k last.0 (take_a
 
 -- ---- an item that is fed
 
-heard_ok : {S : Type 0} (r : Result S SessionFault) (n : S) → heard r ≡ Ok n → r ≡ Ok n
+heard_ok : {S : Type 0} (r : Result S SessionFault) (n : S) → feed_result r ≡ Ok n → r ≡ Ok n
 heard_ok (Ok t) n e = let same : t ≡ n = cc in ap Ok same
 heard_ok (Err f) n e = absurd (cc)
 
@@ -122,7 +122,7 @@ then_ok (Ok p) f n e = (p, e)
 then_ok (Err g) f n e = absurd (cc)
 
 talk_fed : (a b c : Bool) (r : Result Talk SessionFault) (n : Talk)
-    → (if a then Err Stopped else if b then Err Attention else if c then Err TooLong else heard r) ≡ Ok n → r ≡ Ok n
+    → (if a then Err Stopped else if b then Err Attention else if c then Err TooLong else feed_result r) ≡ Ok n → r ≡ Ok n
 talk_fed true b c r n e = absurd (cc)
 talk_fed false true c r n e = absurd (cc)
 talk_fed false false true r n e = absurd (cc)
@@ -156,7 +156,7 @@ with_answer cs rs t p m None n is e h =
       even = λ y z. absurd (cc);
     })
 
-with_messages : (cs rs : List Message) (t : Talk) (p : Phase) (ms : List Message) (n : Talk) → talk.answered (record t { phase = p }) ms ≡ Ok n → HasCalls cs rs t → HasCalls cs rs n
+with_messages : (cs rs : List Message) (t : Talk) (p : Phase) (ms : List Message) (n : Talk) → talk.with_ended_messages (record t { phase = p }) ms ≡ Ok n → HasCalls cs rs t → HasCalls cs rs n
 with_messages cs rs t p [] n e h =
     let same : record t { phase = p } ≡ n = cc in
     subst (HasCalls cs rs) same (record { number = h.number; waits = h.waits; has = h.has; even = h.even })
@@ -167,7 +167,7 @@ talk_kept cs rs = record {
   out = λ t xs h. record { number = h.number; waits = h.waits; has = h.has; even = h.even };
   fed = λ t n x e h.
       let ok = talk_fed t.failed x.attention (nat_lt most_item (length x.body)) (talk.after_item t x) n e in
-      let p = then_ok (run t.phase (signs x)) (λ p. talk.answered (record t { phase = p }) (said t.phase (signs x))) n ok in
+      let p = then_ok (run t.phase (signs x)) (λ p. talk.with_ended_messages (record t { phase = p }) (said t.phase (signs x))) n ok in
       with_messages cs rs t p.0 (said t.phase (signs x)) n p.1 h;
   stops = λ t n is h. subst (HasCalls cs rs) (sym is) (record { number = h.number; waits = h.waits; has = h.has; even = h.even });
 }
@@ -175,7 +175,7 @@ talk_kept cs rs = record {
 -- ---- the side that is called
 
 server_fed : (a b c d : Bool) (r : Result Answering SessionFault) (n : Answering)
-    → (if a then Err Stopped else if b then Err Busy else if c then Err Attention else if d then Err TooLong else heard r) ≡ Ok n
+    → (if a then Err Stopped else if b then Err Busy else if c then Err Attention else if d then Err TooLong else feed_result r) ≡ Ok n
     → (r ≡ Ok n) × (b ≡ false)
 server_fed true b c d r n e = absurd (cc)
 server_fed false true c d r n e = absurd (cc)

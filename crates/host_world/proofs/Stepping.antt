@@ -18,8 +18,8 @@ use Rattle.xns_spp.specs.declared.item.Item.{Item}
 use Rattle.xns_connection.specs.Closing.{drains, end_reply_stream, end_stream}
 use Rattle.xns_connection.specs.Connecting.{is_closed_due, is_dead}
 use Rattle.xns_connection.specs.Deeds.{Deed, Parts, acted, acted_by, done, given_up, nothing, shut, unserved, why_left}
-use Rattle.xns_connection.specs.Giving.{Giving, GivesAs, IsGiving, IsShort, giving, next_unless}
-use Rattle.xns_connection.specs.Moving.{Scene, Moves, closed_up, converses, deafened, drained_out, drains_only, ended, noting, replied, scene, settled_by, taken_many}
+use Rattle.xns_connection.specs.Giving.{Giving, GivesAs, IsGiving, MayStopAt, giving, next_unless}
+use Rattle.xns_connection.specs.Moving.{ConversationScene, Moves, closed_up, converses, deafened, drained_out, drains_only, with_end_out, noting, replied, conversation_scene, settled_by, taken_many}
 use Rattle.xns_connection.specs.Step.{GivesNext, MovesOwed, Step, parts_of}
 use Rattle.xns_connection.specs.declared.closing.Closing.{Closing}
 use Rattle.xns_connection.specs.declared.connection.Connection.{Connection}
@@ -32,17 +32,17 @@ use Rattle.host_world.proofs.Sides.{Has, converses_keep}
 -- ---- the closing exchange
 
 -- the side stays, and whether closing was asked for
-record Stays (x y : Scene) : Type 0 where
+record Stays (x y : ConversationScene) : Type 0 where
   side : y.side ≡ x.side
   wanted : y.closing.wanted ≡ x.closing.wanted
 
-stays : (x : Scene) → Stays x x
+stays : (x : ConversationScene) → Stays x x
 stays x = record { side = refl; wanted = refl }
 
-stays_then : {x y z : Scene} → Stays x y → Stays y z → Stays x z
+stays_then : {x y z : ConversationScene} → Stays x y → Stays y z → Stays x z
 stays_then p q = record { side = q.side ∙ p.side; wanted = q.wanted ∙ p.wanted }
 
-stays_if : (b : Bool) (x y : Scene) → Stays x y → Stays x (if b then y else x)
+stays_if : (b : Bool) (x y : ConversationScene) → Stays x y → Stays x (if b then y else x)
 stays_if true x y s = s
 stays_if false x y s = stays x
 
@@ -52,31 +52,31 @@ noted_by true b c = refl
 noted_by false true c = refl
 noted_by false false c = refl
 
-noting_stays : (o : Option Item) (x : Scene) → Stays x (noting o x)
+noting_stays : (o : Option Item) (x : ConversationScene) → Stays x (noting o x)
 noting_stays None x = stays x
 noting_stays (Some item) x = record { side = refl; wanted = noted_by (item.stream == end_stream) (item.stream == end_reply_stream) x.closing }
 
-taken_stays : (n : ℕ) (x : Scene) → Stays x (taken_many n x)
+taken_stays : (n : ℕ) (x : ConversationScene) → Stays x (taken_many n x)
 unfolding taken_many
 taken_stays zero x = stays x
 taken_stays (suc n) x = let y = taken_many n x in stays_then (taken_stays n x) (noting_stays (take_answer y.state) y)
 
-ended_stays : (x : Scene) → Stays x (ended x)
+ended_stays : (x : ConversationScene) → Stays x (with_end_out x)
 ended_stays x = stays_if _ x _ (record { side = refl; wanted = refl })
 
-drained_stays : (x : Scene) → Stays x (drained_out x)
+drained_stays : (x : ConversationScene) → Stays x (drained_out x)
 drained_stays x = stays_if _ x _ (taken_stays (waiting_count x.state) x)
 
-replied_stays : (x : Scene) → Stays x (replied x)
+replied_stays : (x : ConversationScene) → Stays x (replied x)
 replied_stays x = stays_if _ x _ (record { side = refl; wanted = refl })
 
-closed_up_stays : (x : Scene) → Stays x (closed_up x)
-closed_up_stays x = stays_then (ended_stays x) (stays_then (drained_stays (ended x)) (replied_stays (drained_out (ended x))))
+closed_up_stays : (x : ConversationScene) → Stays x (closed_up x)
+closed_up_stays x = stays_then (ended_stays x) (stays_then (drained_stays (with_end_out x)) (replied_stays (drained_out (with_end_out x))))
 
-deaf_stays : (x : Scene) → Stays x (closed_up (deafened x))
+deaf_stays : (x : ConversationScene) → Stays x (closed_up (deafened x))
 deaf_stays x = let s = closed_up_stays (deafened x) in record { side = s.side; wanted = s.wanted }
 
-settled_stays : (r : Result (Unit {0}) FeedRefusal) (x : Scene) → Stays x (settled_by r x)
+settled_stays : (r : Result (Unit {0}) FeedRefusal) (x : ConversationScene) → Stays x (settled_by r x)
 settled_stays (Ok u) x = closed_up_stays x
 settled_stays (Err NoMemory) x = stays x
 settled_stays (Err Stopped) x = deaf_stays x
@@ -85,22 +85,22 @@ settled_stays (Err TooLong) x = deaf_stays x
 settled_stays (Err Attention) x = deaf_stays x
 settled_stays (Err (Fault f)) x = deaf_stays x
 
-shut_stays : (was closed : Option Why) (x : Scene) → Stays x (shut was closed x)
+shut_stays : (was closed : Option Why) (x : ConversationScene) → Stays x (shut was closed x)
 shut_stays (Some why) closed x = stays x
 shut_stays None None x = stays x
 shut_stays None (Some why) x = record { side = refl; wanted = refl }
 
 -- ---- items move
 
-moves_keep : (ours : Bool) (cs rs : List Message) {x y : Scene} {r : Result (Unit {0}) FeedRefusal} → Moves x r y → Has ours cs rs x.side → Has ours cs rs y.side
+moves_keep : (ours : Bool) (cs rs : List Message) {x y : ConversationScene} {r : Result (Unit {0}) FeedRefusal} → Moves x r y → Has ours cs rs x.side → Has ours cs rs y.side
 moves_keep ours cs rs (drains_only drain) h = h
 moves_keep ours cs rs (converses free c) h = converses_keep ours cs rs c h
 
-moves_drained : {x y : Scene} {r : Result (Unit {0}) FeedRefusal} → Moves x r y → drains x.side x.closing ≡ true → y.side ≡ x.side
+moves_drained : {x y : ConversationScene} {r : Result (Unit {0}) FeedRefusal} → Moves x r y → drains x.side x.closing ≡ true → y.side ≡ x.side
 moves_drained (drains_only drain) d = refl
 moves_drained (converses free c) d = absurd (cc)
 
-moves_wanted : {x y : Scene} {r : Result (Unit {0}) FeedRefusal} → Moves x r y → y.closing.wanted ≡ x.closing.wanted
+moves_wanted : {x y : ConversationScene} {r : Result (Unit {0}) FeedRefusal} → Moves x r y → y.closing.wanted ≡ x.closing.wanted
 moves_wanted (drains_only drain) = refl
 moves_wanted (converses free c) = refl
 
@@ -117,12 +117,12 @@ pub record Changes (side : Side) (closing : Bool) (c e : Connection) : Type 0 wh
   pub stays : c.closed ≢ None → e.closed ≡ c.closed
 
 pub steps : (now : ℕ) (deed : Deed) (c e : Connection) (s : State) (side : Side) (wanted : Bool) → StandsFor c.conversation.endpoint s → Step now deed c e
-    → (done deed (scene c.conversation s)).side ≡ side → (done deed (scene c.conversation s)).closing.wanted ≡ wanted
-    → drains side (done deed (scene c.conversation s)).closing ≡ drains side c.conversation.closing
+    → (done deed (conversation_scene c.conversation s)).side ≡ side → (done deed (conversation_scene c.conversation s)).closing.wanted ≡ wanted
+    → drains side (done deed (conversation_scene c.conversation s)).closing ≡ drains side c.conversation.closing
     → Changes side wanted c e
 steps now deed c e s side wanted stands step is_side is_wanted same =
     let m = step.on s stands in
-    let x = done deed (scene c.conversation s) in
+    let x = done deed (conversation_scene c.conversation s) in
     let mid = m.settles.mid in
     let end : Stays mid (shut c.closed e.closed m.to) =
     stays_then (subst (Stays mid) (sym m.settles.is) (settled_stays step.moved mid)) (shut_stays c.closed e.closed m.to) in
@@ -235,7 +235,7 @@ owed_moves false now c d s stands m = then_same c.conversation.side c.conversati
 
 given_state : (now : ℕ) (answer : Result (Option (List ℕ)) AllocError) (c d e : Connection) (s : State) → StandsFor d.conversation.endpoint s
     → IfOk answer (λ p. (v : State) → StandsFor d.conversation.endpoint v → GivesAs (next_unless (is_dead d.closed) (giving d.conversation d.owed v)) p e.conversation e.owed)
-    → OnErr answer ((v : State) → StandsFor d.conversation.endpoint v → (y : Giving) × IsShort (giving d.conversation d.owed v) y × IsGiving e.conversation e.owed y)
+    → OnErr answer ((v : State) → StandsFor d.conversation.endpoint v → (y : Giving) × MayStopAt (giving d.conversation d.owed v) y × IsGiving e.conversation e.owed y)
     → (v : State) × StandsFor e.conversation.endpoint v
 given_state now (Ok p) c d e s stands gave short = let g = gave s stands in ((next_unless (is_dead d.closed) (giving d.conversation d.owed s)).1.state, g.1.stands)
 given_state now (Err k) c d e s stands gave short = let g = short s stands in (g.0.state, g.2.stands)

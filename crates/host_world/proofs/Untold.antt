@@ -13,7 +13,7 @@ use Rattle.xns_connection.specs.Step.{GivesNext, Hands, MovesOwed, none_waits, c
 use Rattle.xns_agenda.specs.declared.act.Act.{Act}
 use Rattle.xns_agenda.specs.declared.act.Act.TheVariants.{Nothing, Again, Ask, GiveUp, Forget}
 use Rattle.xns_connection.specs.declared.connection.Connection.{Connection}
-use Rattle.xns_host.specs.Identifiers.{Ids, IsNext, is_free}
+use Rattle.xns_host.specs.Identifiers.{Ids, IsNextIdentifier, is_free}
 use Rattle.xns_host.specs.Knowing.{id_of}
 use Rattle.xns_host.specs.Register.{owner_in}
 use Rattle.xns_host.specs.Registered.{IsAllRegistered}
@@ -66,14 +66,14 @@ free_owner None e = refl
 free_owner (Some n) e = absurd (cc)
 
 -- nobody had the identifier that comes next
-next_owner : (ids : Ids) (id : ℕ) → IsNext ids id → owner_in ids id ≡ None
+next_owner : (ids : Ids) (id : ℕ) → IsNextIdentifier ids id → owner_in ids id ≡ None
 next_owner ids id next =
     let found = position-Some (is_free ids.owners) ids.ahead next.place id next.first in
     let at : get_or ids.ahead next.place id ≡ id = get_or_from_slice_get ids.ahead next.place id id next.there in
     free_owner (owner_in ids id) (ap (λ (i : ℕ). is_free ids.owners i) (sym at) ∙ found.1)
 
 -- none that was there has it
-pub another_id : (register : Register) (gs : List (Option Guest)) (h : Guest) → IsAllRegistered register gs → IsNext register.identifiers (id_of h)
+pub another_id : (register : Register) (gs : List (Option Guest)) (h : Guest) → IsAllRegistered register gs → IsNextIdentifier register.identifiers (id_of h)
     → (n : ℕ) (g : Guest) → slice_get gs n ≡ Some (Some g) → id_of h ≢ id_of g
 another_id register gs h all next n g e same =
     let none : None ≡ Some n = sym (next_owner register.identifiers (id_of h) next) ∙ ap (owner_in register.identifiers) same ∙ (all.each n g e).own in

@@ -15,7 +15,7 @@ use Rattle.xns_host.specs.declared.host.Host.{Host}
 use Rattle.host_world.specs.Following.{Has, HostsStandFor}
 use Rattle.host_world.specs.Meeting.{Meeting, at, new_meeting, new_party}
 use Rattle.host_world.specs.Meets.{Meets}
-use Rattle.host_world.specs.Pairing.{DoesAt, MayCome, no_more}
+use Rattle.host_world.specs.Pairing.{DoesAt, MayCome, with_no_more}
 use Rattle.host_world.specs.Station.{IsStation, called_end}
 use Rattle.host_world.specs.declared.station.Station.{Station}
 
@@ -35,7 +35,7 @@ pub record HostAwaits (h : Host) (here : ℕ) (a b : Station) (programs : List P
 
 -- at this number the host has a new connection from this address of its own to the peer's, of which nothing has gone out: whatever connection
 -- will be made for it at the peer's address, the two are in a meeting in which nothing has happened
-pub record HasCalled (h : Host) (here : ℕ) (own peer : Address) : Type 0 where
+pub record HasNewConnection (h : Host) (here : ℕ) (own peer : Address) : Type 0 where
   pub station : Station
   pub is : IsStation station
   pub address : station.address ≡ own
@@ -67,4 +67,4 @@ pub record HasOpened (k l : Host) (there : ℕ) (bytes : List ℕ) (a : Station)
   pub made : Conversation
   pub new : IsJustMade a station programs made
   pub meets : (h : Host) (here : ℕ) (m : Meeting) → HostAwaits h here a station programs made m → MayCome m B bytes
-      → (n : Meeting) × HostsStandFor h l here there a station programs n × DoesAt 1 m n B no_more []
+      → (n : Meeting) × HostsStandFor h l here there a station programs n × DoesAt 1 m n B with_no_more []

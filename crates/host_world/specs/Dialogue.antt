@@ -60,33 +60,33 @@ pub data Happening : Type 0 where
   goes : Happening
 
 -- one step
-pub data Move : View → Happening → View → Type 0 where
-  connecting : Move free connects (held (new_dialogue true))
-  opening : Move free opens (held (new_dialogue false))
+pub data ViewMove : View → Happening → View → Type 0 where
+  connecting : ViewMove free connects (held (new_dialogue true))
+  opening : ViewMove free opens (held (new_dialogue false))
   -- the program is told that a connection of ours is open before all else of it, or never
-  announcing : (d : Dialogue) → IsUntold d → Move (held d) announces (held (record d { opened = true }))
+  announcing : (d : Dialogue) → IsUntold d → ViewMove (held d) announces (held (record d { opened = true }))
   -- a call of ours is made once all others are answered, and then its answer is handed; the calls are numbered from 1 on
   calling : (d : Dialogue) (c : RawCall) → d.ours ≡ true → IsEven d → d.asked ≡ false → d.closed ≡ None
-      → Move (held d) (calls c) (held (record d { calls = d.calls ++ call_message (transaction_of (length d.calls + 1)) c ∷ [] }))
+      → ViewMove (held d) (calls c) (held (record d { calls = d.calls ++ call_message (transaction_of (length d.calls + 1)) c ∷ [] }))
   handing_answer : (d : Dialogue) (call m : Message) → d.ours ≡ true → IsOpen d call → transaction_in m ≡ transaction_in call → d.told ≡ false
-      → Move (held d) (hands m) (held (record d { answers = d.answers ++ m ∷ [] }))
+      → ViewMove (held d) (hands m) (held (record d { answers = d.answers ++ m ∷ [] }))
   -- a call of the peer's is handed once all others are answered, and then the program answers it
   handing_call : (d : Dialogue) (m : Message) → d.ours ≡ false → IsEven d → d.told ≡ false
-      → Move (held d) (hands m) (held (record d { calls = d.calls ++ m ∷ [] }))
+      → ViewMove (held d) (hands m) (held (record d { calls = d.calls ++ m ∷ [] }))
   answering : (d : Dialogue) (call : Message) (kind : Answer) (words : List ℕ) → d.ours ≡ false → IsOpen d call → d.closed ≡ None
-      → Move (held d) (answers kind words) (held (record d { answers = d.answers ++ answer_message kind (transaction_in call) words ∷ [] }))
+      → ViewMove (held d) (answers kind words) (held (record d { answers = d.answers ++ answer_message kind (transaction_in call) words ∷ [] }))
   -- the connection is closed once, the program is told why, once, and then the number becomes free
-  asking : (d : Dialogue) → Move (held d) asks (held (record d { asked = true }))
-  closing : (d : Dialogue) (why : Why) → d.closed ≡ None → Move (held d) (closes why) (held (record d { closed = Some why }))
-  telling : (d : Dialogue) (why : Why) → d.closed ≡ Some why → d.told ≡ false → Move (held d) (tells why) (held (record d { told = true }))
-  freeing : (d : Dialogue) → MayGo d → Move (held d) goes free
+  asking : (d : Dialogue) → ViewMove (held d) asks (held (record d { asked = true }))
+  closing : (d : Dialogue) (why : Why) → d.closed ≡ None → ViewMove (held d) (closes why) (held (record d { closed = Some why }))
+  telling : (d : Dialogue) (why : Why) → d.closed ≡ Some why → d.told ≡ false → ViewMove (held d) (tells why) (held (record d { told = true }))
+  freeing : (d : Dialogue) → MayGo d → ViewMove (held d) goes free
   -- the program may abandon the connection at any time
-  abandoning : (d : Dialogue) → Move (held d) abandons free
+  abandoning : (d : Dialogue) → ViewMove (held d) abandons free
 
 -- one step after another
 unfoldable pub Course : View → List Happening → View → Type 0
 Course v [] w = v ≡ w
-Course v (x ∷ xs) w = (u : View) × Move v x u × Course u xs w
+Course v (x ∷ xs) w = (u : View) × ViewMove v x u × Course u xs w
 
 -- ---- what every history comes to
 

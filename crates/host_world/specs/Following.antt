@@ -22,10 +22,10 @@ use Rattle.xns_host.specs.declared.guest.Guest.{Guest}
 use Rattle.xns_host.specs.declared.host.Host.{Host}
 use Rattle.xns_host.specs.declared.host_fault.HostFault.{HostFault}
 use Rattle.xns_host.specs.declared.outgoing.Outgoing.{Outgoing}
-use Rattle.host_world.specs.Guests.{LeadsTo, packets_in}
+use Rattle.host_world.specs.Guests.{LeadsTo, packet_returned}
 use Rattle.host_world.specs.Meeting.{Meeting, at}
 use Rattle.host_world.specs.Meets.{Meets}
-use Rattle.host_world.specs.Pairing.{DoesAt, MayCome, no_more, one_answer_more, one_call_more, one_message_more}
+use Rattle.host_world.specs.Pairing.{DoesAt, MayCome, with_no_more, one_answer_more, one_call_more, one_message_more}
 use Rattle.host_world.specs.Seen.{number_of}
 use Rattle.host_world.specs.Station.{IsStation}
 use Rattle.host_world.specs.declared.station.Station.{Station}
@@ -71,7 +71,7 @@ MayTake (Some bytes) m side = MayCome m side bytes
 -- at this number the program did so, and nothing at the others; of the packets that a connection gave, and of being over for the
 -- program, likewise
 abbrev pub did_at : ℕ → (Deeds → Deeds) → ℕ → Deeds → Deeds
-did_at number did k = if k == number then did else no_more
+did_at number did k = if k == number then did else with_no_more
 
 abbrev pub gave_at : ℕ → List (List ℕ) → ℕ → List (List ℕ)
 gave_at number gave k = if k == number then gave else []
@@ -87,10 +87,10 @@ over_none k = false
 
 -- what the program does by an event that it is told
 abbrev pub deed_of : Event → Deeds → Deeds
-deed_of (events.Opened number tag) = no_more
+deed_of (events.Opened number tag) = with_no_more
 deed_of (events.Call number tag program version procedure m) = one_message_more m
 deed_of (events.Answer number tag answer m) = one_message_more m
-deed_of (events.Closed number tag why) = no_more
+deed_of (events.Closed number tag why) = with_no_more
 
 -- whether an event tells the program that a connection is closed
 abbrev pub is_last : Event → Bool
@@ -106,26 +106,26 @@ pub data ProgramHasDone (h j : Host) : (ℕ → Deeds → Deeds) → (ℕ → Bo
   answered : (now number k : ℕ) (kind : Answer) (words : List ℕ) (g : Guest) → slice_get h.guests.items number ≡ Some (Some g)
       → asked_of g.connection.conversation.side ≡ Some k → Turn now number (deeds.gave kind words) (Ok tt) h j
       → ProgramHasDone h j (did_at number (one_answer_more (answer_message kind k words))) over_none
-  closed : (now number : ℕ) → Turn now number deeds.asked (Ok tt) h j → ProgramHasDone h j (did_at number no_more) over_none
+  closed : (now number : ℕ) → Turn now number deeds.asked (Ok tt) h j → ProgramHasDone h j (did_at number with_no_more) over_none
   was_told : (event : Event) → TellsNext (Some event) h j
       → ProgramHasDone h j (did_at (number_of event) (deed_of event)) (over_at (number_of event) (is_last event))
-  connected : (now way socket : ℕ) (peer : Address) (number : ℕ) → ConnectsTo now way socket peer (Ok number) h j → ProgramHasDone h j (λ k. no_more) over_none
-  was_refused : (now number : ℕ) (deed : Deed) (fault : HostFault) → Turn now number deed (Err fault) h j → ProgramHasDone h j (λ k. no_more) over_none
-  abandoned : (number : ℕ) → Abandons number (Ok tt) h j → ProgramHasDone h j (λ k. no_more) (over_at number true)
-  abandoned_none : (number : ℕ) (fault : HostFault) → Abandons number (Err fault) h j → ProgramHasDone h j (λ k. no_more) over_none
+  connected : (now way socket : ℕ) (peer : Address) (number : ℕ) → ConnectsTo now way socket peer (Ok number) h j → ProgramHasDone h j (λ k. with_no_more) over_none
+  was_refused : (now number : ℕ) (deed : Deed) (fault : HostFault) → Turn now number deed (Err fault) h j → ProgramHasDone h j (λ k. with_no_more) over_none
+  abandoned : (number : ℕ) → Abandons number (Ok tt) h j → ProgramHasDone h j (λ k. with_no_more) (over_at number true)
+  abandoned_none : (number : ℕ) (fault : HostFault) → Abandons number (Err fault) h j → ProgramHasDone h j (λ k. with_no_more) over_none
   found_no_room : (now way socket : ℕ) (peer : Address) (fault : HostFault) → ConnectsTo now way socket peer (Err fault) h j
-      → ProgramHasDone h j (λ k. no_more) over_none
-  was_told_nothing : TellsNext None h j → ProgramHasDone h j (λ k. no_more) over_none
+      → ProgramHasDone h j (λ k. with_no_more) over_none
+  was_told_nothing : TellsNext None h j → ProgramHasDone h j (λ k. with_no_more) over_none
   served : (socket : ℕ) (programs : List Program) (result : Result (Unit {0}) HostFault) → ServesAt socket programs result h j
-      → ProgramHasDone h j (λ k. no_more) over_none
-  moved : (network : ℕ) → MovesTo network h j → ProgramHasDone h j (λ k. no_more) over_none
-  tagged : (number tag : ℕ) (result : Result (Unit {0}) HostFault) → Tags number tag result h j → ProgramHasDone h j (λ k. no_more) over_none
+      → ProgramHasDone h j (λ k. with_no_more) over_none
+  moved : (network : ℕ) → MovesTo network h j → ProgramHasDone h j (λ k. with_no_more) over_none
+  tagged : (number tag : ℕ) (result : Result (Unit {0}) HostFault) → Tags number tag result h j → ProgramHasDone h j (λ k. with_no_more) over_none
 
 -- the packet that goes out of the host is one that a connection gave that it has at this number; or none goes out; or the first of the host's
 -- stray replies does, which no connection gave
 pub data HasGiven (h : Host) (result : Result (Option Outgoing) HostFault) : (ℕ → List (List ℕ)) → Type 0 where
-  one : (number : ℕ) (g : Guest) → slice_get h.guests.items number ≡ Some (Some g) → HasGiven h result (gave_at number (packets_in result))
-  none : packets_in result ≡ [] → HasGiven h result gave_none
+  one : (number : ℕ) (g : Guest) → slice_get h.guests.items number ≡ Some (Some g) → HasGiven h result (gave_at number (packet_returned result))
+  none : packet_returned result ≡ [] → HasGiven h result gave_none
   stray : (o : Outgoing) (others : List Outgoing) → h.strays.waiting ≡ o ∷ others → result ≡ Ok (Some o) → HasGiven h result gave_none
 
 -- ---- two hosts

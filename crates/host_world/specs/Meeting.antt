@@ -2,12 +2,12 @@
 use Rattle.std.specs.Prelude.{◌≡◌, ℕ, List, [], Option, Some, None, slice_get}
 use Rattle.courier_sessions.specs.declared.program.Program.{Program}
 use Rattle.item_world.specs.Events.{stepped, sending, taking, flushing, resending, telling}
-use Rattle.item_world.specs.World.{World, packets_of}
+use Rattle.item_world.specs.World.{World, sent_packets}
 use Rattle.item_world.specs.declared.side.Side.{Side}
 use Rattle.item_world.specs.declared.side.Side.TheVariants.{A, B}
 use Rattle.xns_spp.specs.State.{State}
 use Rattle.xns_connection.specs.Living.{Deeds, no_deeds}
-use Rattle.xns_connection.specs.Story.{Story, Runs, start, sends, takes, flushes, resends, tells, GoesOn, new_story}
+use Rattle.xns_connection.specs.Story.{Story, Runs, start, sends, takes, flushes, resends, tells, ProgramDoesNothing, new_story}
 use Rattle.xns_connection.specs.Telling.{Tells}
 use Rattle.xns_connection.specs.declared.conversation.Conversation.{Conversation}
 use Rattle.host_world.specs.Station.{calling_end, called_end}
@@ -59,7 +59,7 @@ pub record Next (base : Story) : Type 0 where
   pub conversation : Conversation
   pub story : Story
   pub tells : Tells conversation story
-  pub on : GoesOn base story
+  pub on : ProgramDoesNothing base story
 
 -- the connection at this side goes on so, from this world on; it has given these packets then
 abbrev pub went_on : Meeting → World → Side → {base : Story} → Next base → Deeds → List (List ℕ) → Meeting
@@ -70,4 +70,4 @@ went_on m w side n l given =
 
 -- bytes that this end made
 abbrev pub HasMade : World → Side → List ℕ → Type 0
-HasMade w side bytes = (k : ℕ) × (slice_get (packets_of w) k ≡ Some (side, bytes))
+HasMade w side bytes = (k : ℕ) × (slice_get (sent_packets w) k ≡ Some (side, bytes))

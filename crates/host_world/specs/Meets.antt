@@ -2,7 +2,7 @@
 use Rattle.std.specs.Prelude.{◌≡◌, ℕ, suc, false, List, [], ◌++◌, Option, Some, None, slice_get, All}
 use Rattle.std.specs.Option.{option_to_list}
 use Rattle.courier_sessions.specs.declared.program.Program.{Program}
-use Rattle.item_world.specs.Landing.{answered}
+use Rattle.item_world.specs.Landing.{with_arrival}
 use Rattle.item_world.specs.Side.{other}
 use Rattle.item_world.specs.World.{has_passed}
 use Rattle.item_world.specs.declared.emitted.Emitted.{Emitted}
@@ -23,33 +23,33 @@ abbrev pub heard_story : Party → List ℕ → Story
 heard_story p bytes = record p.story { state = after_receive p.story.state bytes }
 
 -- one step of two connections
-pub data Moves (m : Meeting) : Meeting → Type 0 where
+pub data MeetingStep (m : Meeting) : Meeting → Type 0 where
   -- a connection moves items, is closed or given up, or its program does something; no packet is given, and those that wait stay
   acts : (side : Side) → {base : Story} → {l : Deeds} → Acts (at m side).conversation (at m side).story (at m side).deeds base l → (n : Next base)
-      → n.conversation.packets ≡ (at m side).conversation.packets → Moves m (went_on m m.world side n l (at m side).given)
+      → n.conversation.packets ≡ (at m side).conversation.packets → MeetingStep m (went_on m m.world side n l (at m side).given)
   -- a connection gives a packet, or none
   gives : (side : Side) → (packet : Option (List ℕ)) → (n : Next (at m side).story)
       → option_to_list packet ++ n.conversation.packets.items ≡ (at m side).conversation.packets.items ++ made_on n.on.path
-      → Moves m (went_on m m.world side n (at m side).deeds ((at m side).given ++ option_to_list packet))
+      → MeetingStep m (went_on m m.world side n (at m side).deeds ((at m side).given ++ option_to_list packet))
   -- packet k, which lives, comes to the other connection. What that end answers at once is in the bag then. A connection sends a system
   -- packet of its own later instead: so the bag holds all that may come, and more.
   arrives : (k : ℕ) (x : Emitted) → slice_get m.world.bag k ≡ Some x → has_passed m.world x ≡ false
       → (n : Next (heard_story (at m (other x.side)) x.bytes)) → n.conversation.packets ≡ (at m (other x.side)).conversation.packets
-      → Moves m (went_on m (answered m.world k x) (other x.side) n (at m (other x.side)).deeds (at m (other x.side)).given)
+      → MeetingStep m (went_on m (with_arrival m.world k x) (other x.side) n (at m (other x.side)).deeds (at m (other x.side)).given)
   -- bytes that are no packet of the connection come to it
   strays : (side : Side) → (bytes : List ℕ) → is_ours (at m side).story.state bytes ≡ false → (n : Next (heard_story (at m side) bytes))
-      → n.conversation.packets ≡ (at m side).conversation.packets → Moves m (went_on m m.world side n (at m side).deeds (at m side).given)
+      → n.conversation.packets ≡ (at m side).conversation.packets → MeetingStep m (went_on m m.world side n (at m side).deeds (at m side).given)
 
 -- steps of two connections, in any order, led to this meeting; the one at a calls, and these programs can be called at b
 pub data Meets (a b : Station) (programs : List Program) : Meeting → Type 0 where
   opens : (c d : Conversation) → Tells c (new_story None (calling_end a b)) → Tells d (new_story (Some programs) (called_end b a))
       → c.packets.items ≡ [] → d.packets.items ≡ [] → Meets a b programs (new_meeting a b programs c d)
-  moves : {m n : Meeting} → Meets a b programs m → Moves m n → Meets a b programs n
+  moves : {m n : Meeting} → Meets a b programs m → MeetingStep m n → Meets a b programs n
 
 -- at most so many steps led from the one meeting to the other
-pub data IsWithin : ℕ → Meeting → Meeting → Type 0 where
-  no_step : {most : ℕ} {m : Meeting} → IsWithin most m m
-  one_more : {most : ℕ} {m n o : Meeting} → IsWithin most m n → Moves n o → IsWithin (suc most) m o
+pub data IsWithinSteps : ℕ → Meeting → Meeting → Type 0 where
+  no_step : {most : ℕ} {m : Meeting} → IsWithinSteps most m m
+  one_more : {most : ℕ} {m n o : Meeting} → IsWithinSteps most m n → MeetingStep n o → IsWithinSteps (suc most) m o
 
 -- what a meeting comes to
 pub record IsMet (programs : List Program) (m : Meeting) : Type 0 where

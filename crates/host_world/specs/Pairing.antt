@@ -14,7 +14,7 @@ use Rattle.xns_connection.specs.Living.{Deeds}
 use Rattle.xns_connection.specs.contracts.connection.Connection as connection
 use Rattle.xns_connection.specs.declared.connection.Connection.{Connection}
 use Rattle.host_world.specs.Meeting.{Meeting, at}
-use Rattle.host_world.specs.Meets.{IsWithin, Meets}
+use Rattle.host_world.specs.Meets.{IsWithinSteps, Meets}
 use Rattle.host_world.specs.Station.{IsStation}
 use Rattle.host_world.specs.contracts.pair.Pair as pair
 use Rattle.host_world.specs.declared.pair.Pair.{Pair}
@@ -34,8 +34,8 @@ LendsConnection p side r = Lends pair.the_row connection.the_row p r (with_conne
 
 -- ---- what a program did, with one deed more or none
 
-abbrev pub no_more : Deeds → Deeds
-no_more l = l
+abbrev pub with_no_more : Deeds → Deeds
+with_no_more l = l
 
 abbrev pub one_call_more : RawCall → Deeds → Deeds
 one_call_more call l = record l { made = l.made ++ call ∷ [] }
@@ -65,7 +65,7 @@ pub record PairStandsFor (p : Pair) (a b : Station) (programs : List Program) (m
 -- at most so many steps led from the one meeting to the other; by them the program at this side did so, and the connection there gave these
 -- packets; the other side stayed as it was, and each packet that was made is kept
 pub record DoesAt (most : ℕ) (m n : Meeting) (side : Side) (did : Deeds → Deeds) (gave : List (List ℕ)) : Type 0 where
-  pub within : IsWithin most m n
+  pub within : IsWithinSteps most m n
   pub deeds : (at n side).deeds ≡ did (at m side).deeds
   pub given : (at n side).given ≡ (at m side).given ++ gave
   pub other : at n (other side) ≡ at m (other side)
@@ -97,5 +97,5 @@ pub record WasMade (m : Meeting) (side : Side) (bytes : List ℕ) : Type 0 where
 -- did nothing, and no packet was given; the other side stayed as it was
 pub record StepsByBytes (old new : Pair) (side : Side) (bytes : List ℕ) : Type 0 where
   pub on : (a b : Station) (programs : List Program) (m : Meeting) → PairStandsFor old a b programs m → MayCome m side bytes
-      → (n : Meeting) × PairStandsFor new a b programs n × DoesAt 1 m n side no_more []
+      → (n : Meeting) × PairStandsFor new a b programs n × DoesAt 1 m n side with_no_more []
   pub beside : connection_at new (other side) ≡ connection_at old (other side)

@@ -52,23 +52,23 @@ said_nothing k = []
 
 -- a function of a host, and what is said by it at each number. Nothing is said by one that is refused, by one that has nothing to tell, and by
 -- those that take packets in, give them out, serve, or set a network or a tag.
-pub data Says (h j : Host) : (ℕ → List Happening) → Type 0 where
+pub data HostSays (h j : Host) : (ℕ → List Happening) → Type 0 where
   has_connected : (now way socket : ℕ) (peer : Address) (number : ℕ) → ConnectsTo now way socket peer (Ok number) h j
-      → Says h j (said_at number connects)
-  has_said : (now number : ℕ) (deed : Deed) (x : Happening) → IsSaid deed x → Turn now number deed (Ok tt) h j → Says h j (said_at number x)
-  has_abandoned : (number : ℕ) → Abandons number (Ok tt) h j → Says h j (said_at number abandons)
-  was_told : (event : Event) → TellsNext (Some event) h j → Says h j (said_at (number_of event) (news_of event))
-  is_refused : (now number : ℕ) (deed : Deed) (fault : HostFault) → Turn now number deed (Err fault) h j → Says h j said_nothing
-  abandons_none : (number : ℕ) (fault : HostFault) → Abandons number (Err fault) h j → Says h j said_nothing
+      → HostSays h j (said_at number connects)
+  has_said : (now number : ℕ) (deed : Deed) (x : Happening) → IsSaid deed x → Turn now number deed (Ok tt) h j → HostSays h j (said_at number x)
+  has_abandoned : (number : ℕ) → Abandons number (Ok tt) h j → HostSays h j (said_at number abandons)
+  was_told : (event : Event) → TellsNext (Some event) h j → HostSays h j (said_at (number_of event) (news_of event))
+  is_refused : (now number : ℕ) (deed : Deed) (fault : HostFault) → Turn now number deed (Err fault) h j → HostSays h j said_nothing
+  abandons_none : (number : ℕ) (fault : HostFault) → Abandons number (Err fault) h j → HostSays h j said_nothing
   finds_no_room : (now way socket : ℕ) (peer : Address) (fault : HostFault) → ConnectsTo now way socket peer (Err fault) h j
-      → Says h j said_nothing
-  tells_nothing : TellsNext None h j → Says h j said_nothing
-  takes_in : (now way : ℕ) (bytes : List ℕ) (result : Bool) → TakesIn now way bytes result h j → Says h j said_nothing
-  gives_out : (now : ℕ) (result : Result (Option Outgoing) HostFault) → GivesOut now result h j → Says h j said_nothing
+      → HostSays h j said_nothing
+  tells_nothing : TellsNext None h j → HostSays h j said_nothing
+  takes_in : (now way : ℕ) (bytes : List ℕ) (result : Bool) → TakesIn now way bytes result h j → HostSays h j said_nothing
+  gives_out : (now : ℕ) (result : Result (Option Outgoing) HostFault) → GivesOut now result h j → HostSays h j said_nothing
   serves : (socket : ℕ) (programs : List Program) (result : Result (Unit {0}) HostFault) → ServesAt socket programs result h j
-      → Says h j said_nothing
-  moves : (network : ℕ) → MovesTo network h j → Says h j said_nothing
-  tags : (number tag : ℕ) (result : Result (Unit {0}) HostFault) → Tags number tag result h j → Says h j said_nothing
+      → HostSays h j said_nothing
+  moves : (network : ℕ) → MovesTo network h j → HostSays h j said_nothing
+  tags : (number tag : ℕ) (result : Result (Unit {0}) HostFault) → Tags number tag result h j → HostSays h j said_nothing
 
 -- ---- what happens at a number
 
@@ -101,16 +101,16 @@ between said (Some g) (Some h) =
     if id_of h == id_of g then said ++ closed_since g.connection.closed h.connection.closed else goes ∷ (said ++ arriving h)
 
 -- what happened at a number by one function, read off the place that has the number
-abbrev pub happens : (said : List Happening) → (old new : Option (Option Guest)) → List Happening
-happens said old new = between said (guest_in old) (guest_in new)
+abbrev pub happened_at : (said : List Happening) → (old new : Option (Option Guest)) → List Happening
+happened_at said old new = between said (guest_in old) (guest_in new)
 
 -- functions of a host, called in any order, led from a new host to this one. Meanwhile this was said at each number, and this happened there:
 -- what happened by one function, then by the next, as what was said and the places before and behind it show.
 pub data HasLived : Host → (said happened : ℕ → List Happening) → Type 0 where
   begins : {h : Host} (network : ℕ) (host : List ℕ) (settings : Settings) (secret : List ℕ) → IsNewHost network host settings secret h
       → HasLived h (λ k. []) (λ k. [])
-  goes_on : {h j : Host} {said happened more : ℕ → List Happening} → HasLived h said happened → Says h j more
-      → HasLived j (λ k. said k ++ more k) (λ k. happened k ++ happens (more k) (slice_get h.guests.items k) (slice_get j.guests.items k))
+  goes_on : {h j : Host} {said happened more : ℕ → List Happening} → HasLived h said happened → HostSays h j more
+      → HasLived j (λ k. said k ++ more k) (λ k. happened k ++ happened_at (more k) (slice_get h.guests.items k) (slice_get j.guests.items k))
 
 -- ---- what the program sees
 

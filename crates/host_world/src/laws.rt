@@ -6,7 +6,7 @@ ghost use Rattle.item_world.specs.Side.{other};
 ghost use Rattle.item_world.specs.World.{lifetime};
 ghost use Rattle.item_world.specs.declared.side.Side.{Side};
 ghost use Rattle.item_world.specs.declared.side.Side.TheVariants.{A, B};
-ghost use Rattle.host_world.specs.Awaiting.{CannotOpen, HasCalled, HasOpened, HostAwaits, IsSentFrom};
+ghost use Rattle.host_world.specs.Awaiting.{CannotOpen, HasNewConnection, HasOpened, HostAwaits, IsSentFrom};
 ghost use Rattle.host_world.specs.Dialogue.{Course, Dialogue, Happened, Happening, IsInOrder, IsNewlyConnected, IsOpening, IsUnheard, View, WasTold};
 ghost use Rattle.host_world.specs.Dialogue.{announces, closes, free, goes, held, is_going, is_news, tells};
 ghost use Rattle.host_world.specs.Following.{EachFollowed, ProgramHasDone, HasGiven, HostsStandFor, IsFollowed, MayTake, StandsOn, gave_none, over_none};
@@ -14,7 +14,7 @@ ghost use Rattle.host_world.specs.Going.{CanFinish};
 ghost use Rattle.host_world.specs.Guests.{WhatAHostDoesIsAStepOfTheMeeting};
 ghost use Rattle.host_world.specs.Meeting.{Meeting, at};
 ghost use Rattle.host_world.specs.Meets.{Meets, IsMet};
-ghost use Rattle.host_world.specs.Pairing.{MayCome, WasMade, no_more};
+ghost use Rattle.host_world.specs.Pairing.{MayCome, WasMade, with_no_more};
 ghost use Rattle.host_world.specs.Seen.{NumberHasHistory, HasLived};
 ghost use Rattle.host_world.specs.Station.{IsStation};
 ghost use Rattle.host_world.specs.declared.station.Station.{Station};
@@ -95,11 +95,11 @@ pub fn a_host_goes_on_with_its_meetings()
     ensures done { (h j : Host) (did : ℕ → Deeds → Deeds) (over : ℕ → Bool) → ProgramHasDone h j did over
         → EachFollowed 1 (MayTake None) did gave_none over h j }
     ensures abandons { (number : ℕ) (h j : Host) → Abandons number (Ok tt) h j → (k : ℕ) → k ≢ number
-        → IsFollowed 0 (MayTake None) no_more [] false (slice_get h.guests.items k) (slice_get j.guests.items k) }
+        → IsFollowed 0 (MayTake None) with_no_more [] false (slice_get h.guests.items k) (slice_get j.guests.items k) }
     ensures gives { (now : ℕ) (result : Result (Option Outgoing) HostFault) (h j : Host) → GivesOut now result h j
-        → (gave : ℕ → List (List ℕ)) × HasGiven h result gave × EachFollowed 3 (MayTake None) (λ k. no_more) gave over_none h j }
+        → (gave : ℕ → List (List ℕ)) × HasGiven h result gave × EachFollowed 3 (MayTake None) (λ k. with_no_more) gave over_none h j }
     ensures hears { (now way : ℕ) (bytes : List ℕ) (result : Bool) (h j : Host) → TakesIn now way bytes result h j
-        → EachFollowed 1 (MayTake (Some bytes)) (λ k. no_more) gave_none over_none h j }
+        → EachFollowed 1 (MayTake (Some bytes)) (λ k. with_no_more) gave_none over_none h j }
 {
     xns_connection::laws::a_step_keeps_its_promises();
     xns_connection::laws::a_connection_keeps_its_end();
@@ -137,7 +137,7 @@ pub fn two_hosts_agree()
 /// that the host connected to.
 pub fn two_hosts_come_to_a_meeting()
     ensures connects { (now way socket here : ℕ) (peer : Address) (h j : Host) → ConnectsTo now way socket peer (Ok here) h j
-        → HasCalled j here (address_in h.network h.host socket) peer }
+        → HasNewConnection j here (address_in h.network h.host socket) peer }
     ensures goes_on { (h j : Host) (here : ℕ) (a b : Station) (programs : List Program) (d : Conversation) (most : ℕ) (m : Meeting)
         (taken : Option (List ℕ)) (did : ℕ → Deeds → Deeds) (gave : ℕ → List (List ℕ)) (over : ℕ → Bool)
         → HostAwaits h here a b programs d m → EachFollowed most (MayTake taken) did gave over h j → MayTake taken m A

@@ -11,20 +11,20 @@ ghost use Rattle.xns_spp.specs.Packet.{SppPacketModel, spp_packet_of};
 ghost use Rattle.xns_spp.specs.Receiving.{StoresBytes};
 ghost use Rattle.xns_spp.specs.State.{State};
 ghost use Rattle.xns_spp.specs.declared.dropped.Dropped.{Dropped};
-ghost use Rattle.xns_connection.specs.Calls.{call_model};
+ghost use Rattle.xns_connection.specs.Calls.{raw_of_call};
 ghost use Rattle.xns_connection.specs.Connecting.{is_dead};
 ghost use Rattle.xns_connection.specs.Deeds.{acted, asked, gave, heard, made};
 ghost use Rattle.xns_connection.specs.Reasons.{call_fault_of, answer_fault_of};
 ghost use Rattle.xns_connection.specs.Refusing.{Answers};
 ghost use Rattle.xns_connection.specs.Step.{GivesNext, Hands, IsMade, Step, is_ours_by, parts_of};
 ghost use Rattle.xns_connection.specs.Story.{asked_of, waiting_message};
-ghost use Rattle.xns_connection.specs.Telling.{Hears, Rested};
+ghost use Rattle.xns_connection.specs.Telling.{HearsBytes, Rested};
 ghost use Rattle.xns_agenda.specs.Waiting.{HearsAt, StepsAt, act_at};
 ghost use Rattle.host_world.specs.Meeting.{Meeting, new_meeting};
 ghost use Rattle.host_world.specs.declared.station.Station.{Station};
 ghost use Rattle.host_world.specs.Meets.{IsMet};
 ghost use Rattle.host_world.specs.Pairing.{connection_at, LendsConnection, PairStandsFor, Steps, StepsByBytes};
-ghost use Rattle.host_world.specs.Pairing.{no_more, one_call_more, one_message_more, one_answer_more};
+ghost use Rattle.host_world.specs.Pairing.{with_no_more, one_call_more, one_message_more, one_answer_more};
 
 use crate::laws::two_connections_over_a_network_agree;
 use crate::station::Station;
@@ -103,10 +103,10 @@ impl Pair {
         side: Side,
         call: &Call<'_>,
     ) -> Result<(), Refusal>
-        ensures answer { Answers (call_fault_of (connection_at self.old side).conversation (call_model call.now)) result }
-        ensures steps { OnOk result (Steps 1 self.old self.new side (one_call_more (call_model call.now)) []) }
+        ensures answer { Answers (call_fault_of (connection_at self.old side).conversation (raw_of_call call.now)) result }
+        ensures steps { OnOk result (Steps 1 self.old self.new side (one_call_more (raw_of_call call.now)) []) }
         ensures waits { StepsAt now (connection_at self.old side).wait (connection_at self.new side).wait }
-        ensures step { OnOk result (Step now (made (call_model call.now)) (connection_at self.old side) (connection_at self.new side)) }
+        ensures step { OnOk result (Step now (made (raw_of_call call.now)) (connection_at self.old side) (connection_at self.new side)) }
         ensures unchanged { OnErr result (self.new ≡ self.old) }
     {
         a_step_keeps_its_promises();
@@ -136,7 +136,7 @@ impl Pair {
 
     /// Closes the connection at this side once all that it has to say is said.
     pub fn close(&mut self, alloc: Global, now: u64, side: Side)
-        ensures steps { Steps 1 self.old self.new side no_more [] }
+        ensures steps { Steps 1 self.old self.new side with_no_more [] }
         ensures asked { (connection_at self.new side).conversation.closing.wanted ≡ true }
         ensures waits { StepsAt now (connection_at self.old side).wait (connection_at self.new side).wait }
         ensures step { Step now asked (connection_at self.old side) (connection_at self.new side) }
@@ -159,7 +159,7 @@ impl Pair {
 
     /// Tells the program at this side, once, why the connection there is closed. `None`: the connection is open, or the program was told.
     pub fn take_why(&mut self, side: Side) -> Option<Why>
-        ensures steps { Steps 0 self.old self.new side no_more [] }
+        ensures steps { Steps 0 self.old self.new side with_no_more [] }
         ensures why { result ≡ (if (connection_at self.old side).told then None else (connection_at self.old side).closed) }
         ensures told { (connection_at self.new side).told ≡ (connection_at self.old side).told
             || is_some (connection_at self.old side).closed }
@@ -180,7 +180,7 @@ impl Pair {
 
     /// Does what is due at this side at this time, and says what that is.
     pub fn act(&mut self, now: u64, side: Side) -> Act
-        ensures steps { Steps 1 self.old self.new side no_more [] }
+        ensures steps { Steps 1 self.old self.new side with_no_more [] }
         ensures act { result ≡ act_at (connection_at self.old side).wait now }
         ensures step { parts_of (connection_at self.new side) ≡ acted (parts_of (connection_at self.old side)) now }
     {
@@ -195,8 +195,8 @@ impl Pair {
         now: u64,
         side: Side,
     ) -> Result<Option<Bytes>, AllocError>
-        ensures gives { IfOk result (λ o. Steps 2 self.old self.new side no_more (option_to_list o)) }
-        ensures given_none { OnErr result (Steps 2 self.old self.new side no_more []) }
+        ensures gives { IfOk result (λ o. Steps 2 self.old self.new side with_no_more (option_to_list o)) }
+        ensures given_none { OnErr result (Steps 2 self.old self.new side with_no_more []) }
         ensures waits { StepsAt now (connection_at self.old side).wait (connection_at self.new side).wait }
         ensures step { GivesNext now result (connection_at self.old side) (connection_at self.new side) }
         ensures rested { is_dead (connection_at self.new side).closed ≡ false → result ≡ Ok None
@@ -219,7 +219,7 @@ impl Pair {
     ) -> Result<bool, AllocError>
         ensures takes_in { OnOk result (StepsByBytes self.old self.new side bytes.now) }
         ensures hears { OnOk result ((p : SppPacketModel) → spp_packet_of bytes.now ≡ Ok p
-            → Hears (connection_at self.old side).conversation (connection_at self.new side).conversation bytes.now
+            → HearsBytes (connection_at self.old side).conversation (connection_at self.new side).conversation bytes.now
             × HearsAt now (connection_at self.old side).wait (connection_at self.new side).wait) }
         ensures ours { (s : State) (p : SppPacketModel) → StandsFor (connection_at self.old side).conversation.endpoint s
             → spp_packet_of bytes.now ≡ Ok p → is_ours_at s.ends p ≡ is_ours_by result }

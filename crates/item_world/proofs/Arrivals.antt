@@ -16,7 +16,7 @@ use Rattle.xns_spp.specs.declared.field_numbers.FieldNumbers.{FieldNumbers}
 use Rattle.xns_spp.specs.declared.item.Item.{Item}
 use Rattle.item_world.specs.EndLaws.{EndLaws}
 use Rattle.item_world.proofs.Moves.{IsProper, Sends, sent_close, system_proper}
-use Rattle.item_world.specs.Invariant.{IsSoundPacket, IsSoundSpelling, WentOut, Stands}
+use Rattle.item_world.specs.Invariant.{IsSoundPacket, IsSoundSpelling, WentOut, StandsBesidePeer}
 use Rattle.xns_spp.specs.Fronts.{begins_more}
 use Rattle.item_world.specs.World.{moment, lifetime, is_past}
 use Rattle.item_world.specs.declared.emitted.Emitted.{Emitted}
@@ -42,7 +42,7 @@ young at sender receiver h =
     record { sender = omega arith; receiver = omega arith }
 
 -- s reads a packet of its peer
-pub read_as_meant : EndLaws → (s peer : State) (x : Emitted) (i : IsSoundSpelling peer s x) → Stands s peer → is_past x.at (length peer.taken) (length s.taken) ≡ false
+pub read_as_meant : EndLaws → (s peer : State) (x : Emitted) (i : IsSoundSpelling peer s x) → StandsBesidePeer s peer → is_past x.at (length peer.taken) (length s.taken) ≡ false
     → numbers_in s i.says.packet ≡ as_meant i.says.meant
 read_as_meant laws s peer x i k alive =
     let y = young x.at (length peer.taken) (length s.taken) alive in
@@ -109,11 +109,11 @@ brought s peer b k x c i =
     let out : WentOut peer m.sequence (item_in c.packet) = record { is = c.sound.carries data_packet; sent = c.sound.went_out data_packet } in
     subst (λ (y : Item). WentOut peer k y) item (subst (λ (j : ℕ). WentOut peer j (item_in c.packet)) number out)
 
-come : (s peer : State) (b : List ℕ) (k : ℕ) (x : Item) → Comes s peer b → Stands s peer → HasCome s b k x → WentOut peer k x
+come : (s peer : State) (b : List ℕ) (k : ℕ) (x : Item) → Comes s peer b → StandsBesidePeer s peer → HasCome s b k x → WentOut peer k x
 come s peer b k x c keeps (inl i) = brought s peer b k x c i
 come s peer b k x c keeps (inr e) = keeps.early k x e
 
-heard : (s peer : State) (b : List ℕ) (n : ℕ) → Comes s peer b → Stands s peer → (n ≡ s.acknowledged) ⊎ Acknowledges s b n → n ≤ length peer.taken
+heard : (s peer : State) (b : List ℕ) (n : ℕ) → Comes s peer b → StandsBesidePeer s peer → (n ≡ s.acknowledged) ⊎ Acknowledges s b n → n ≤ length peer.taken
 heard s peer b n c keeps (inl h) = omega (arith, h, keeps.acknowledged)
 heard s peer b n c keeps (inr i) =
     let m : Meant = c.meant in
@@ -122,7 +122,7 @@ heard s peer b n c keeps (inr i) =
     same_number m.acknowledge n (sym (ap (λ (p : SppPacketModel). (numbers_in s p).acknowledge) same ∙ ap (λ (f : FieldNumbers). f.acknowledge) c.numbers) ∙ i.number) in
     omega (arith, number, c.sound.acknowledges)
 
-received_goes : EndLaws → (s peer : State) (b : List ℕ) → Comes s peer b → Stands s peer → IsState (after_receive s b) → Stands (after_receive s b) peer
+received_goes : EndLaws → (s peer : State) (b : List ℕ) → Comes s peer b → StandsBesidePeer s peer → IsState (after_receive s b) → StandsBesidePeer (after_receive s b) peer
 received_goes laws s peer b c k fits =
     let t : State = after_receive s b in
     let takes = laws.comes_in.taken s b in
@@ -137,7 +137,7 @@ received_goes laws s peer b c k fits =
       reached = omega (arith, k.reached, (laws.grows.receive s b).sent);
     }
 
-replies_with : EndLaws → (s peer : State) (b : List ℕ) (o : Option (List ℕ)) → (receive_answer s b).reply ≡ o → Stands (after_receive s b) peer → Sends s (after_receive s b) peer (option_to_list o)
+replies_with : EndLaws → (s peer : State) (b : List ℕ) (o : Option (List ℕ)) → (receive_answer s b).reply ≡ o → StandsBesidePeer (after_receive s b) peer → Sends s (after_receive s b) peer (option_to_list o)
 replies_with laws s peer b None h k = record { grows = laws.grows.receive s b; stands = k; packets = []; spells = refl; proper = All-nil (IsProper (moment (after_receive s b) peer) (after_receive s b)) }
 replies_with laws s peer b (Some r) h k =
     let t : State = after_receive s b in
@@ -151,5 +151,5 @@ replies_with laws s peer b (Some r) h k =
     }
 
 -- bytes of the peer come to an end
-pub receive_sends : EndLaws → (s peer : State) (b : List ℕ) → Comes s peer b → IsState (after_receive s b) → Stands s peer → Sends s (after_receive s b) peer (option_to_list (receive_answer s b).reply)
+pub receive_sends : EndLaws → (s peer : State) (b : List ℕ) → Comes s peer b → IsState (after_receive s b) → StandsBesidePeer s peer → Sends s (after_receive s b) peer (option_to_list (receive_answer s b).reply)
 receive_sends laws s peer b c fits k = replies_with laws s peer b (receive_answer s b).reply refl (received_goes laws s peer b c k fits)

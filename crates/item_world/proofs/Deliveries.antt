@@ -13,11 +13,11 @@ use Rattle.item_world.proofs.Kept.{flushed, delivers_lands}
 use Rattle.item_world.proofs.Later.{run_later}
 use Rattle.item_world.proofs.Onward.{Kept, Pair, flip, stands, IsNew, ticked, took, lands_now, arrived, Asked, asked, Knows, Goes, goes, longer, alike, lands_there, flushed_pair, Told, told_out, knows_flushed}
 use Rattle.item_world.specs.EndLaws.{EndLaws}
-use Rattle.item_world.specs.Events.{arrival, stepped, delivers, run}
-use Rattle.item_world.specs.Invariant.{Stands, Holds}
+use Rattle.item_world.specs.Events.{arrival, stepped, delivers, world_after}
+use Rattle.item_world.specs.Invariant.{StandsBesidePeer, Holds}
 use Rattle.item_world.specs.Progress.{Linked, IsFurther}
 use Rattle.item_world.specs.Side.{other}
-use Rattle.item_world.specs.World.{World, end_of, moment, emitted, flushes, ticks}
+use Rattle.item_world.specs.World.{World, end_at, moment, emitted, flushes, ticks}
 use Rattle.item_world.specs.declared.emitted.Emitted.{Emitted}
 use Rattle.item_world.specs.declared.event.Event.{Event}
 use Rattle.item_world.specs.declared.event.Event.TheVariants.{Deliver, Tick, Take}
@@ -44,7 +44,7 @@ still_there w v side k x e h = ap (λ (u : World). slice_get u.bag k) e ∙ fron
 
 -- ---- an end asks, and is told
 
-told_by : Kept → (w : World) (side : Side) (t o : State) (k : ℕ) → Pair w side t (after_flush o) → Stands o t
+told_by : Kept → (w : World) (side : Side) (t o : State) (k : ℕ) → Pair w side t (after_flush o) → StandsBesidePeer o t
     → slice_get w.bag k ≡ Some (emitted (other side) (moment o t) (spp_packet_spelling (system_packet o reply_control)))
     → Knows (delivers w k) side (after_flush (after_receive t (spp_packet_spelling (system_packet o reply_control)))) (after_flush o)
 told_by kept w side t o k x before h =
@@ -73,7 +73,7 @@ asked_by k w side s p x y left =
     let w2 : World = delivers w1 (length w.bag) in
     let e = delivers_now w1 side t p (length w.bag) a.bytes y a.new in
     let first = delivered k w1 side t p (length w.bag) a.bytes y a.new in
-    let before : Stands o t = stands v (other side) o t (flip v side t o a.pair) in
+    let before : StandsBesidePeer o t = stands v (other side) o t (flip v side t o a.pair) in
     record {
       a = a;
       first = first;
@@ -87,7 +87,7 @@ pub record AdvancesBy (w : World) (side : Side) (handed : ℕ) : Type 0 where
   pub steps : List Event
   pub plain : All (IsFurther (length w.bag)) steps
   pub few : length steps ≤ 6
-  pub more : handed < (end_of (run w steps) (other side)).handed
+  pub more : handed < (end_at (world_after w steps) (other side)).handed
 
 one_by : (n : ℕ) (e : Event) → IsFurther n e → All (IsFurther n) (e ∷ [])
 one_by n e h = All-cons (IsFurther n) e [] h (All-nil (IsFurther n))
@@ -129,7 +129,7 @@ by_item k w side s p x none left a false h =
     let accepted : length u.accepted ≡ length s.accepted =
     ap length (alike laws u0).accepted ∙ (ap length (laws.stays.receive t bytes).accepted ∙ ap length (laws.stays.tick s).accepted) in
     let knows : Knows w3 side u o = a.second in
-    let there : Stands o u = stands w3 (other side) o u (flip w3 side u o knows.pair) in
+    let there : StandsBesidePeer o u = stands w3 (other side) o u (flip w3 side u o knows.pair) in
     let all : o.handed ≡ length o.taken = omega (arith, ltb-false o.handed (length o.taken) h, there.fits.bounds.handed_taken) in
     let g : Goes w3 side u o = goes k w3 side u o knows all (omega (arith, all, handed, left, accepted)) in
     let e0 : State = after_receive o g.bytes in
@@ -164,17 +164,17 @@ by_waiting k w side s p true h x left = record {
   more = omega (arith, took k.laws w side s p x (ltb-true p.handed (length p.taken) h));
 }
 by_waiting k w side s p false h x left =
-    let there : Stands p s = stands w (other side) p s (flip w side s p x) in
-    let before : Stands s p = stands w side s p x in
+    let there : StandsBesidePeer p s = stands w (other side) p s (flip w side s p x) in
+    let before : StandsBesidePeer s p = stands w side s p x in
     let none : p.handed ≡ length p.taken = omega (arith, ltb-false p.handed (length p.taken) h, there.fits.bounds.handed_taken) in
     let a : AskedBy w side s p = asked_by k w side s p x (ticked k w side s p x) (omega (arith, before.acknowledged, none, left)) in
     by_item k w side s p x none left a (nat_lt (after_flush (after_receive p a.a.bytes)).handed (length (after_flush (after_receive p a.a.bytes)).taken)) refl
 
 pub advances_by : Kept → (w : World) (side : Side) → Holds w → Linked w
-    → (end_of w (other side)).handed < length (end_of w side).accepted → AdvancesBy w side (end_of w (other side)).handed
+    → (end_at w (other side)).handed < length (end_at w side).accepted → AdvancesBy w side (end_at w (other side)).handed
 advances_by k w side h l left =
-    let s : State = end_of w side in
-    let p : State = end_of w (other side) in
+    let s : State = end_at w side in
+    let p : State = end_at w (other side) in
     by_waiting k w side s p (nat_lt p.handed (length p.taken)) refl (record { here = refl; there = refl; holds = h; linked = l }) left
 
 -- ---- all is acknowledged
@@ -183,7 +183,7 @@ pub record SettlesBy (w : World) (side : Side) (n : ℕ) : Type 0 where
   pub steps : List Event
   pub plain : All (IsFurther (length w.bag)) steps
   pub few : length steps ≤ 3
-  pub all : n ≤ (end_of (run w steps) side).acknowledged
+  pub all : n ≤ (end_at (world_after w steps) side).acknowledged
 
 asks_by : Kept → (w : World) (side : Side) (s p : State) → Pair w side s p → length s.accepted ≤ p.handed
     → s.acknowledged < length s.accepted → SettlesBy w side (length s.accepted)
@@ -197,7 +197,7 @@ asks_by k w side s p x all left =
     let w3 : World = delivers w2 (length w1.bag) in
     let u : State = after_flush (after_receive (after_tick s) (spp_packet_spelling (system_packet o0 reply_control))) in
     let knows : Knows w3 side u o = a.second in
-    let there : Stands o u = stands w3 (other side) o u (flip w3 side u o knows.pair) in
+    let there : StandsBesidePeer o u = stands w3 (other side) o u (flip w3 side u o knows.pair) in
     let handed : o.handed ≡ p.handed = (alike laws o0).handed ∙ (laws.stays.receive p a.a.bytes).handed in
     let one : length w.bag ≤ length w1.bag = longer w w1 (run_later laws w (Tick side ∷ [])) in
     let P : Event → Type 0 = IsFurther (length w.bag) in
@@ -211,20 +211,20 @@ asks_by k w side s p x all left =
     }
 
 settled_by : Kept → (w : World) (side : Side) (b : Bool)
-    → nat_lt (end_of w side).acknowledged (length (end_of w side).accepted) ≡ b → Holds w → Linked w
-    → length (end_of w side).accepted ≤ (end_of w (other side)).handed
-    → SettlesBy w side (length (end_of w side).accepted)
+    → nat_lt (end_at w side).acknowledged (length (end_at w side).accepted) ≡ b → Holds w → Linked w
+    → length (end_at w side).accepted ≤ (end_at w (other side)).handed
+    → SettlesBy w side (length (end_at w side).accepted)
 settled_by k w side true e h l all =
-    let s : State = end_of w side in
-    asks_by k w side s (end_of w (other side)) (record { here = refl; there = refl; holds = h; linked = l }) all (ltb-true s.acknowledged (length s.accepted) e)
+    let s : State = end_at w side in
+    asks_by k w side s (end_at w (other side)) (record { here = refl; there = refl; holds = h; linked = l }) all (ltb-true s.acknowledged (length s.accepted) e)
 settled_by k w side false e h l all = record {
   steps = [];
   plain = All-nil (IsFurther (length w.bag));
   few = omega arith;
-  all = ltb-false (end_of w side).acknowledged (length (end_of w side).accepted) e;
+  all = ltb-false (end_at w side).acknowledged (length (end_at w side).accepted) e;
 }
 
 pub settles_by : Kept → (w : World) (side : Side) → Holds w → Linked w
-    → length (end_of w side).accepted ≤ (end_of w (other side)).handed
-    → SettlesBy w side (length (end_of w side).accepted)
-settles_by k w side = settled_by k w side (nat_lt (end_of w side).acknowledged (length (end_of w side).accepted)) refl
+    → length (end_at w side).accepted ≤ (end_at w (other side)).handed
+    → SettlesBy w side (length (end_at w side).accepted)
+settles_by k w side = settled_by k w side (nat_lt (end_at w side).acknowledged (length (end_at w side).accepted)) refl

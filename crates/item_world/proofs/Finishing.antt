@@ -18,13 +18,13 @@ use Rattle.item_world.proofs.Later.{run_later}
 use Rattle.item_world.proofs.Onward.{Kept, longer}
 use Rattle.item_world.proofs.Sides.{each_end, same_marked, has_landed}
 use Rattle.item_world.specs.EndLaws.{EndLaws}
-use Rattle.item_world.specs.Events.{Step, IsStep, stepped, all_stepped, IsEvent, steps_of, happens, run}
+use Rattle.item_world.specs.Events.{SmallStep, IsStep, stepped, all_stepped, IsEvent, steps_of, happens, world_after}
 use Rattle.item_world.specs.Later.{Later}
 use Rattle.item_world.specs.Invariant.{Holds}
-use Rattle.item_world.specs.Landing.{answered, landing}
+use Rattle.item_world.specs.Landing.{with_arrival, landing}
 use Rattle.item_world.specs.Progress.{IsDone, pending, Linked, IsFurther, FinishesByEvents}
 use Rattle.item_world.specs.Side.{other}
-use Rattle.item_world.specs.World.{World, start, end_of, moved, marked, sent_at, handed_at, flushes}
+use Rattle.item_world.specs.World.{World, start, end_at, moved, marked_delivered, sent_at, handed_at, flushes}
 use Rattle.item_world.specs.declared.emitted.Emitted.{Emitted}
 use Rattle.item_world.specs.declared.setup.Setup.{Setup}
 use Rattle.item_world.specs.declared.side.Side.{Side}
@@ -49,11 +49,11 @@ pub works_then : (s t u : State) → Works s t → Works t u → Works s u
 works_then s t u a b = record { accepted = b.accepted ∙ a.accepted; handed = omega (arith, a.handed, b.handed); acknowledged = omega (arith, a.acknowledged, b.acknowledged) }
 
 abbrev pub Ongoing : World → World → Type 0
-Ongoing w v = (side : Side) → Works (end_of w side) (end_of v side)
+Ongoing w v = (side : Side) → Works (end_at w side) (end_at v side)
 
-pub moved_works : (w : World) (side : Side) (s : State) (bs : List (List ℕ)) → Works (end_of w side) s
+pub moved_works : (w : World) (side : Side) (s : State) (bs : List (List ℕ)) → Works (end_at w side) s
     → Ongoing w (moved w side s bs)
-moved_works w side s bs h t = each_end w side s bs (λ u y. Works (end_of w u) y) h t (works_itself (end_of w t))
+moved_works w side s bs h t = each_end w side s bs (λ u y. Works (end_at w u) y) h t (works_itself (end_at w t))
 
 pub handing_works : (s : State) (o : Option Item) → Works s (handing o s)
 handing_works s None = works_itself s
@@ -66,37 +66,37 @@ pub land_works : EndLaws → (w : World) (k : ℕ) (l : Side × World) → landi
 land_works laws w k l e =
     let i = has_landed w k l e in
     let x : Emitted = i.packet in
-    let v : World = marked w k x in
-    let s : State = end_of v (other x.side) in
+    let v : World = marked_delivered w k x in
+    let s : State = end_at v (other x.side) in
     let stays = laws.stays.receive s x.bytes in
-    let more : Ongoing v (answered w k x) = moved_works v (other x.side) (after_receive s x.bytes) (option_to_list (receive_answer s x.bytes).reply) (record { accepted = stays.accepted; handed = omega (arith, stays.handed); acknowledged = (laws.grows.receive s x.bytes).acknowledged }) in
-    subst (λ (m : Side × World). Ongoing w m.1) i.leads (λ t. works_then (end_of w t) (end_of v t) (end_of (answered w k x) t) (same_works (end_of w t) (end_of v t) (same_marked w k x t)) (more t))
+    let more : Ongoing v (with_arrival w k x) = moved_works v (other x.side) (after_receive s x.bytes) (option_to_list (receive_answer s x.bytes).reply) (record { accepted = stays.accepted; handed = omega (arith, stays.handed); acknowledged = (laws.grows.receive s x.bytes).acknowledged }) in
+    subst (λ (m : Side × World). Ongoing w m.1) i.leads (λ t. works_then (end_at w t) (end_at v t) (end_at (with_arrival w k x) t) (same_works (end_at w t) (end_at v t) (same_marked w k x t)) (more t))
 
 flush_works : EndLaws → (s : State) → Works s (after_flush s)
 flush_works laws s = record { accepted = (laws.stays.flush s).accepted; handed = omega (arith, (laws.stays.flush s).handed); acknowledged = omega (arith, (laws.hears.flush s).acknowledged) }
 
 arrival_works : EndLaws → (w : World) (k : ℕ) (o : Option (Side × World)) → landing w k ≡ o → Ongoing w (flushed w o)
-arrival_works laws w k None e t = works_itself (end_of w t)
+arrival_works laws w k None e t = works_itself (end_at w t)
 arrival_works laws w k (Some l) e t =
     let v : World = l.1 in
-    works_then (end_of w t) (end_of v t) (end_of (flushes v l.0) t) (land_works laws w k l e t)
-    (moved_works v l.0 (after_flush (end_of v l.0)) (flush_answer (end_of v l.0)) (flush_works laws (end_of v l.0)) t)
+    works_then (end_at w t) (end_at v t) (end_at (flushes v l.0) t) (land_works laws w k l e t)
+    (moved_works v l.0 (after_flush (end_at v l.0)) (flush_answer (end_at v l.0)) (flush_works laws (end_at v l.0)) t)
 
 step_works : EndLaws → (n : ℕ) (w : World) (e : Event) → IsFurther n e → Ongoing w (happens w e)
 step_works laws n w (Deliver k) h = subst (λ (v : World). Ongoing w v) (sym (delivers_lands w k)) (arrival_works laws w k (landing w k) refl)
 step_works laws n w Rest h = absurd h
 step_works laws n w (Tick side) h =
-    let stays = laws.stays.tick (end_of w side) in
-    moved_works w side (after_tick (end_of w side)) (tick_answer (end_of w side))
-    (record { accepted = stays.accepted; handed = omega (arith, stays.handed); acknowledged = omega (arith, (laws.hears.tick (end_of w side)).acknowledged) })
+    let stays = laws.stays.tick (end_at w side) in
+    moved_works w side (after_tick (end_at w side)) (tick_answer (end_at w side))
+    (record { accepted = stays.accepted; handed = omega (arith, stays.handed); acknowledged = omega (arith, (laws.hears.tick (end_at w side)).acknowledged) })
 step_works laws n w (Foreign side bytes) h = absurd h
 step_works laws n w (Send side x) h = absurd h
-step_works laws n w (Take side) h = moved_works w side (after_take (end_of w side)) [] (handing_works (end_of w side) (take_answer (end_of w side)))
+step_works laws n w (Take side) h = moved_works w side (after_take (end_at w side)) [] (handing_works (end_at w side) (take_answer (end_at w side)))
 
-all_work : EndLaws → (n : ℕ) (w : World) (ss : List Event) → All (IsFurther n) ss → Ongoing w (run w ss)
-all_work laws n w [] h t = works_itself (end_of w t)
+all_work : EndLaws → (n : ℕ) (w : World) (ss : List Event) → All (IsFurther n) ss → Ongoing w (world_after w ss)
+all_work laws n w [] h t = works_itself (end_at w t)
 all_work laws n w (s ∷ ss) h t =
-    works_then (end_of w t) (end_of (happens w s) t) (end_of (run (happens w s) ss) t) (step_works laws n w s (All-head (IsFurther n) s ss h) t)
+    works_then (end_at w t) (end_at (happens w s) t) (end_at (world_after (happens w s) ss) t) (step_works laws n w s (All-head (IsFurther n) s ss h) t)
     (all_work laws n (happens w s) ss (All-tail (IsFurther n) s ss h) t)
 
 plain_steps : (n : ℕ) (e : Event) → IsFurther n e → IsEvent e
@@ -120,18 +120,18 @@ pub record Both (w : World) : Type 0 where
   pub holds : Holds w
   pub linked : Linked w
 
-pub both_after : Kept → (w : World) (ss : List Step) → All IsStep ss → Both w → Both (all_stepped w ss)
+pub both_after : Kept → (w : World) (ss : List SmallStep) → All IsStep ss → Both w → Both (all_stepped w ss)
 both_after k w [] fits b = b
 both_after k w (s ∷ ss) fits b =
     let step = All-head IsStep s ss fits in
     both_after k (stepped w s) ss (All-tail IsStep s ss fits) (record { holds = k.order.each w s step b.holds; linked = k.links w s step b.holds b.linked })
 
-pub events_after : Kept → (w : World) (es : List Event) → All IsEvent es → Both w → Both (run w es)
+pub events_after : Kept → (w : World) (es : List Event) → All IsEvent es → Both w → Both (world_after w es)
 events_after k w [] fits b = b
 events_after k w (e ∷ es) fits b =
     events_after k (happens w e) es (All-tail IsEvent e es fits) (both_after k w (steps_of w e) (steps_fit w e (All-head IsEvent e es fits)) b)
 
-both_plain : Kept → (n : ℕ) (w : World) (ss : List Event) → All (IsFurther n) ss → Both w → Both (run w ss)
+both_plain : Kept → (n : ℕ) (w : World) (ss : List Event) → All (IsFurther n) ss → Both w → Both (world_after w ss)
 both_plain k n w ss h b = events_after k w ss (All-weaker (IsFurther n) IsEvent (plain_steps n) ss h) b
 
 -- ---- events one after another
@@ -141,7 +141,7 @@ record Leads (u v : World) (n : ℕ) : Type 0 where
   steps : List Event
   plain : All (IsFurther (length u.bag)) steps
   few : length steps ≤ n
-  is : run u steps ≡ v
+  is : world_after u steps ≡ v
 
 leads_then : Kept → (u v w : World) (m n : ℕ) → Leads u v m → Leads v w n → Leads u w (m + n)
 leads_then k u v w m n a b =
@@ -151,7 +151,7 @@ leads_then k u v w m n a b =
       plain = All-append (IsFurther (length u.bag)) a.steps b.steps a.plain
           (All-weaker (IsFurther (length v.bag)) (IsFurther (length u.bag)) (λ s. further_before (length u.bag) (length v.bag) s more) b.steps b.plain);
       few = omega (arith, length-append a.steps b.steps, a.few, b.few);
-      is = fold-append happens u a.steps b.steps ∙ (ap (λ (x : World). run x b.steps) a.is ∙ b.is);
+      is = fold-append happens u a.steps b.steps ∙ (ap (λ (x : World). world_after x b.steps) a.is ∙ b.is);
     }
 
 leads_both : Kept → (u v : World) (n : ℕ) → Leads u v n → Both u → Both v
@@ -166,30 +166,30 @@ leads_works laws u v n l = subst (λ (x : World). Ongoing u x) l.is (all_work la
 record Reaches (w : World) (side : Side) (d : ℕ) : Type 0 where
   then : World
   leads : Leads w then (6 * d)
-  all : length (end_of then side).accepted ≤ (end_of then (other side)).handed
+  all : length (end_at then side).accepted ≤ (end_at then (other side)).handed
 
 reaches : Kept → (d : ℕ) (w : World) (side : Side) (b : Bool)
-    → nat_lt (end_of w (other side)).handed (length (end_of w side).accepted) ≡ b → Both w
-    → length (end_of w side).accepted ≤ (end_of w (other side)).handed + d → Reaches w side d
+    → nat_lt (end_at w (other side)).handed (length (end_at w side).accepted) ≡ b → Both w
+    → length (end_at w side).accepted ≤ (end_at w (other side)).handed + d → Reaches w side d
 reaches k d w side false e h le = record {
   then = w;
   leads = record { steps = []; plain = All-nil (IsFurther (length w.bag)); few = omega arith; is = refl };
-  all = ltb-false (end_of w (other side)).handed (length (end_of w side).accepted) e;
+  all = ltb-false (end_at w (other side)).handed (length (end_at w side).accepted) e;
 }
-reaches k zero w side true e h le = absurd (omega (arith, le, ltb-true (end_of w (other side)).handed (length (end_of w side).accepted) e))
+reaches k zero w side true e h le = absurd (omega (arith, le, ltb-true (end_at w (other side)).handed (length (end_at w side).accepted) e))
 reaches k (suc d) w side true e h le =
-    let a : AdvancesBy w side (end_of w (other side)).handed = advances_by k w side h.holds h.linked (ltb-true (end_of w (other side)).handed (length (end_of w side).accepted) e) in
-    let v : World = run w a.steps in
+    let a : AdvancesBy w side (end_at w (other side)).handed = advances_by k w side h.holds h.linked (ltb-true (end_at w (other side)).handed (length (end_at w side).accepted) e) in
+    let v : World = world_after w a.steps in
     let l : Leads w v 6 = record { steps = a.steps; plain = a.plain; few = a.few; is = refl } in
     let works : Ongoing w v = leads_works k.laws w v 6 l in
-    let left : length (end_of v side).accepted ≤ (end_of v (other side)).handed + d = omega (arith, ap length (works side).accepted, a.more, le) in
-    let r : Reaches v side d = reaches k d v side (nat_lt (end_of v (other side)).handed (length (end_of v side).accepted)) refl (leads_both k w v 6 l h) left in
+    let left : length (end_at v side).accepted ≤ (end_at v (other side)).handed + d = omega (arith, ap length (works side).accepted, a.more, le) in
+    let r : Reaches v side d = reaches k d v side (nat_lt (end_at v (other side)).handed (length (end_at v side).accepted)) refl (leads_both k w v 6 l h) left in
     let count : 6 + 6 * d ≡ 6 * suc d = omega arith in
     record { then = r.then; leads = subst (λ (n : ℕ). Leads w r.then n) count (leads_then k w v r.then 6 (6 * d) l r.leads); all = r.all }
 
 reaches_all : Kept → (w : World) (side : Side) (d : ℕ)
-    → length (end_of w side).accepted ≤ (end_of w (other side)).handed + d → Both w → Reaches w side d
-reaches_all k w side d le h = reaches k d w side (nat_lt (end_of w (other side)).handed (length (end_of w side).accepted)) refl h le
+    → length (end_at w side).accepted ≤ (end_at w (other side)).handed + d → Both w → Reaches w side d
+reaches_all k w side d le h = reaches k d w side (nat_lt (end_at w (other side)).handed (length (end_at w side).accepted)) refl h le
 
 -- ---- items go both ways
 
@@ -205,7 +205,7 @@ all_handed : (s p : State) → s.handed ≤ length s.taken → Begins (take s.ha
     → length p.accepted ≤ s.handed → take s.handed s.taken ≡ p.accepted
 all_handed s p within b le = same_list (take s.handed s.taken) p.accepted b (omega (arith, length-take s.handed s.taken))
 
-done_at : Kept → (v : World) → Holds v → (side : Side) → length (end_of v side).accepted ≤ (end_of v (other side)).handed
+done_at : Kept → (v : World) → Holds v → (side : Side) → length (end_at v side).accepted ≤ (end_at v (other side)).handed
     → handed_at v (other side) ≡ sent_at v side
 done_at k v h A le = all_handed v.b v.a (h.ends B).fits.bounds.handed_taken (k.order.order v B h) le
 done_at k v h B le = all_handed v.a v.b (h.ends A).fits.bounds.handed_taken (k.order.order v A h) le
@@ -218,18 +218,18 @@ not_full s fits all less =
 
 -- all is done once each way is handed up and acknowledged
 pub all_done : Kept → (w v : World) → Both v → Ongoing w v
-    → ((side : Side) → length (end_of w side).accepted ≤ (end_of v (other side)).handed)
-    → ((side : Side) → length (end_of w side).accepted ≤ (end_of v side).acknowledged)
+    → ((side : Side) → length (end_at w side).accepted ≤ (end_at v (other side)).handed)
+    → ((side : Side) → length (end_at w side).accepted ≤ (end_at v side).acknowledged)
     → IsDone w v
 all_done k w v both works handed acknowledged =
-    let count : (side : Side) → length (end_of v side).accepted ≡ length (end_of w side).accepted = λ side. ap length (works side).accepted in
-    let all : (side : Side) → (end_of v side).acknowledged ≡ length (end_of v side).accepted = λ side.
+    let count : (side : Side) → length (end_at v side).accepted ≡ length (end_at w side).accepted = λ side. ap length (works side).accepted in
+    let all : (side : Side) → (end_at v side).acknowledged ≡ length (end_at v side).accepted = λ side.
     let b = (both.holds.ends side).fits.bounds in omega (arith, acknowledged side, count side, b.acknowledged_sent, b.sent_accepted) in
     record {
       accepted = λ side. (works side).accepted;
       handed = λ side. done_at k v both.holds side (omega (arith, count side, handed side)) ∙ (works side).accepted;
       acknowledged = λ side. all side ∙ count side;
-      free = λ side less. not_full (end_of v side) (both.holds.ends side).fits (all side) (omega (arith, count side, less));
+      free = λ side less. not_full (end_at v side) (both.holds.ends side).fits (all side) (omega (arith, count side, less));
     }
 
 pub few_enough : (m n c : ℕ) → c ≤ 0 + 6 * m + 6 * n + 3 + 3 → c ≤ 6 * (m + n + 1)
@@ -247,13 +247,13 @@ record Handed (w v : World) (side : Side) (n : ℕ) : Type 0 where
   then : World
   leads : Leads w then n
   since : Ongoing v then
-  all : length (end_of w side).accepted ≤ (end_of then (other side)).handed
+  all : length (end_at w side).accepted ≤ (end_at then (other side)).handed
 
 hands_over : Kept → (w v : World) (side : Side) (c d : ℕ) → Both w → Leads w v c
-    → length (end_of w side).accepted ≤ (end_of v (other side)).handed + d → Handed w v side (c + 6 * d)
+    → length (end_at w side).accepted ≤ (end_at v (other side)).handed + d → Handed w v side (c + 6 * d)
 hands_over k w v side c d h l le =
     let now : Both v = leads_both k w v c l h in
-    let before : length (end_of v side).accepted ≡ length (end_of w side).accepted = ap length (leads_works k.laws w v c l side).accepted in
+    let before : length (end_at v side).accepted ≡ length (end_at w side).accepted = ap length (leads_works k.laws w v c l side).accepted in
     let r : Reaches v side d = reaches_all k v side d (omega (arith, before, le)) now in
     let since : Ongoing v r.then = leads_works k.laws v r.then (6 * d) r.leads in
     record {
@@ -267,47 +267,47 @@ record Acknowledged (w v : World) (side : Side) (n : ℕ) : Type 0 where
   then : World
   leads : Leads w then n
   since : Ongoing v then
-  all : length (end_of w side).accepted ≤ (end_of then side).acknowledged
+  all : length (end_at w side).accepted ≤ (end_at then side).acknowledged
 
 learns_all : Kept → (w v : World) (side : Side) (c : ℕ) → Both w → Leads w v c
-    → length (end_of w side).accepted ≤ (end_of v (other side)).handed → Acknowledged w v side (c + 3)
+    → length (end_at w side).accepted ≤ (end_at v (other side)).handed → Acknowledged w v side (c + 3)
 learns_all k w v side c h l le =
     let now : Both v = leads_both k w v c l h in
-    let before : length (end_of v side).accepted ≡ length (end_of w side).accepted = ap length (leads_works k.laws w v c l side).accepted in
-    let r : SettlesBy v side (length (end_of v side).accepted) = settles_by k v side now.holds now.linked (omega (arith, before, le)) in
-    let u : World = run v r.steps in
+    let before : length (end_at v side).accepted ≡ length (end_at w side).accepted = ap length (leads_works k.laws w v c l side).accepted in
+    let r : SettlesBy v side (length (end_at v side).accepted) = settles_by k v side now.holds now.linked (omega (arith, before, le)) in
+    let u : World = world_after v r.steps in
     let on : Leads v u 3 = record { steps = r.steps; plain = r.plain; few = r.few; is = refl } in
     record { then = u; leads = leads_then k w v u c 3 l on; since = leads_works k.laws v u 3 on; all = omega (arith, before, r.all) }
 
-by_sides : Kept → (w v : World) (n : ℕ) → Both w → Leads w v n → length (end_of w A).accepted ≤ (end_of v B).handed
-    → length (end_of w B).accepted ≤ (end_of v A).handed → length (end_of w A).accepted ≤ (end_of v A).acknowledged
-    → length (end_of w B).accepted ≤ (end_of v B).acknowledged → IsDone w v
+by_sides : Kept → (w v : World) (n : ℕ) → Both w → Leads w v n → length (end_at w A).accepted ≤ (end_at v B).handed
+    → length (end_at w B).accepted ≤ (end_at v A).handed → length (end_at w A).accepted ≤ (end_at v A).acknowledged
+    → length (end_at w B).accepted ≤ (end_at v B).acknowledged → IsDone w v
 by_sides k w v n h l to_b to_a at_a at_b =
     all_done k w v (leads_both k w v n l h) (leads_works k.laws w v n l)
-    (λ side. elim side as (λ t. length (end_of w t).accepted ≤ (end_of v (other t)).handed) [ A ↦ to_b | B ↦ to_a ])
-    (λ side. elim side as (λ t. length (end_of w t).accepted ≤ (end_of v t).acknowledged) [ A ↦ at_a | B ↦ at_b ])
+    (λ side. elim side as (λ t. length (end_at w t).accepted ≤ (end_at v (other t)).handed) [ A ↦ to_b | B ↦ to_a ])
+    (λ side. elim side as (λ t. length (end_at w t).accepted ≤ (end_at v t).acknowledged) [ A ↦ at_a | B ↦ at_b ])
 
 -- the last of four moves
 last_done : Kept → (w v2 : World) (m n : ℕ) → Both w → Leads w v2 (0 + 6 * m + 6 * n)
-    → length (end_of w A).accepted ≤ (end_of v2 B).handed → length (end_of w B).accepted ≤ (end_of v2 A).handed
+    → length (end_at w A).accepted ≤ (end_at v2 B).handed → length (end_at w B).accepted ≤ (end_at v2 A).handed
     → (c : Acknowledged w v2 A (0 + 6 * m + 6 * n + 3)) (d : Acknowledged w c.then B (0 + 6 * m + 6 * n + 3 + 3))
     → IsDone w d.then
 last_done k w v2 m n h l to_b to_a c d =
     by_sides k w d.then (0 + 6 * m + 6 * n + 3 + 3) h d.leads
-    (le_then (length (end_of w A).accepted) (end_of c.then B).handed (end_of d.then B).handed (le_then (length (end_of w A).accepted) (end_of v2 B).handed (end_of c.then B).handed to_b (c.since B).handed) (d.since B).handed)
-    (le_then (length (end_of w B).accepted) (end_of c.then A).handed (end_of d.then A).handed (le_then (length (end_of w B).accepted) (end_of v2 A).handed (end_of c.then A).handed to_a (c.since A).handed) (d.since A).handed)
-    (le_then (length (end_of w A).accepted) (end_of c.then A).acknowledged (end_of d.then A).acknowledged c.all (d.since A).acknowledged)
+    (le_then (length (end_at w A).accepted) (end_at c.then B).handed (end_at d.then B).handed (le_then (length (end_at w A).accepted) (end_at v2 B).handed (end_at c.then B).handed to_b (c.since B).handed) (d.since B).handed)
+    (le_then (length (end_at w B).accepted) (end_at c.then A).handed (end_at d.then A).handed (le_then (length (end_at w B).accepted) (end_at v2 A).handed (end_at c.then A).handed to_a (c.since A).handed) (d.since A).handed)
+    (le_then (length (end_at w A).accepted) (end_at c.then A).acknowledged (end_at d.then A).acknowledged c.all (d.since A).acknowledged)
     d.all
 
 -- each end asks until it knows
 asks_both : Kept → (w v : World) (m n : ℕ) → Both w → Leads w v (0 + 6 * m + 6 * n)
-    → length (end_of w A).accepted ≤ (end_of v B).handed → length (end_of w B).accepted ≤ (end_of v A).handed
+    → length (end_at w A).accepted ≤ (end_at v B).handed → length (end_at w B).accepted ≤ (end_at v A).handed
     → m ≡ pending w A → n ≡ pending w B
     → FinishesByEvents w
 asks_both k w v m n h l to_b to_a is_m is_n =
     let c : Acknowledged w v A (0 + 6 * m + 6 * n + 3) = learns_all k w v A (0 + 6 * m + 6 * n) h l to_b in
     let d : Acknowledged w c.then B (0 + 6 * m + 6 * n + 3 + 3) =
-    learns_all k w c.then B (0 + 6 * m + 6 * n + 3) h c.leads (le_then (length (end_of w B).accepted) (end_of v A).handed (end_of c.then A).handed to_a (c.since A).handed) in
+    learns_all k w c.then B (0 + 6 * m + 6 * n + 3) h c.leads (le_then (length (end_at w B).accepted) (end_at v A).handed (end_at c.then A).handed to_a (c.since A).handed) in
     record {
       more = d.leads.steps;
       further = d.leads.plain;
@@ -321,15 +321,15 @@ pub finishes_by : Kept → (w : World) → Holds w → Linked w → FinishesByEv
 finishes_by k w holds linked =
     let h : Both w = record { holds = holds; linked = linked } in
     let none : Leads w w 0 = record { steps = []; plain = All-nil (IsFurther (length w.bag)); few = omega arith; is = refl } in
-    let a : Handed w w A (0 + 6 * pending w A) = hands_over k w w A 0 (pending w A) h none (still_left (length (end_of w A).accepted) (end_of w B).handed (end_of w B).handed (le_refl (end_of w B).handed)) in
+    let a : Handed w w A (0 + 6 * pending w A) = hands_over k w w A 0 (pending w A) h none (still_left (length (end_at w A).accepted) (end_at w B).handed (end_at w B).handed (le_refl (end_at w B).handed)) in
     let b : Handed w a.then B (0 + 6 * pending w A + 6 * pending w B) =
-    hands_over k w a.then B (0 + 6 * pending w A) (pending w B) h a.leads (still_left (length (end_of w B).accepted) (end_of w A).handed (end_of a.then A).handed (a.since A).handed) in
+    hands_over k w a.then B (0 + 6 * pending w A) (pending w B) h a.leads (still_left (length (end_at w B).accepted) (end_at w A).handed (end_at a.then A).handed (a.since A).handed) in
     asks_both k w b.then (pending w A) (pending w B) h b.leads
-    (le_then (length (end_of w A).accepted) (end_of a.then B).handed (end_of b.then B).handed a.all (b.since B).handed) b.all refl refl
+    (le_then (length (end_at w A).accepted) (end_at a.then B).handed (end_at b.then B).handed a.all (b.since B).handed) b.all refl refl
 
 -- whatever was before
 pub always_finishes_by : Kept → (setup : Setup) (events : List Event) → Holds (start setup) → Linked (start setup)
-    → All IsEvent events → FinishesByEvents (run (start setup) events)
+    → All IsEvent events → FinishesByEvents (world_after (start setup) events)
 always_finishes_by k setup events h l fits =
-    let b : Both (run (start setup) events) = events_after k (start setup) events fits (record { holds = h; linked = l }) in
-    finishes_by k (run (start setup) events) b.holds b.linked
+    let b : Both (world_after (start setup) events) = events_after k (start setup) events fits (record { holds = h; linked = l }) in
+    finishes_by k (world_after (start setup) events) b.holds b.linked

@@ -20,11 +20,11 @@ use Rattle.item_world.proofs.Sides.{same_end, same_marked, other_other, each_sid
 use Rattle.item_world.specs.EndLaws.{EndLaws}
 use Rattle.item_world.specs.Events.{arrival, noise, sending, taking, flushing, ticking, resending, telling}
 use Rattle.item_world.specs.Invariant.{Holds}
-use Rattle.item_world.specs.Landing.{answered, landing, reached}
+use Rattle.item_world.specs.Landing.{with_arrival, landing, world_reached}
 use Rattle.item_world.specs.Laws.{EachStepKeepsTheOrder}
 use Rattle.item_world.specs.Progress.{IsFrom, Linked}
 use Rattle.item_world.specs.Side.{other}
-use Rattle.item_world.specs.World.{World, end_of, start, moment, emitted, moved, marked}
+use Rattle.item_world.specs.World.{World, end_at, start, moment, emitted, moved, marked_delivered}
 use Rattle.item_world.specs.declared.emitted.Emitted.{Emitted}
 use Rattle.item_world.specs.declared.setup.Setup.{Setup}
 use Rattle.item_world.specs.declared.side.Side.{Side}
@@ -49,16 +49,16 @@ peer_on e f d n l = record {
 }
 
 -- an end moves: it keeps its names, is linked to its peer, and sends packets that tell its names
-moved_links : (w : World) (side : Side) (t : State) (bs : List (List ℕ)) → SameNames (end_of w side).ends t.ends
-    → IsLinked t.ends (end_of w (other side)).ends → All (IsFrom (end_of w side).ends) bs → Linked w
+moved_links : (w : World) (side : Side) (t : State) (bs : List (List ℕ)) → SameNames (end_at w side).ends t.ends
+    → IsLinked t.ends (end_at w (other side)).ends → All (IsFrom (end_at w side).ends) bs → Linked w
     → Linked (moved w side t bs)
 moved_links w side t bs n l sent k =
     let v : World = moved w side t bs in
-    let s : State = end_of w side in
-    let at : List ℕ → Emitted = emitted side (moment t (end_of w (other side))) in
-    let P : World → Emitted → Type 0 = λ u x. IsFrom (end_of u x.side).ends x.bytes in
+    let s : State = end_at w side in
+    let at : List ℕ → Emitted = emitted side (moment t (end_at w (other side))) in
+    let P : World → Emitted → Type 0 = λ u x. IsFrom (end_at u x.side).ends x.bytes in
     record {
-      ends = λ u. each_side w side t bs (λ x y. IsLinked x.ends y.ends) (λ h. l) (λ h. peer_on s.ends t.ends (end_of w (other side)).ends n h) u (k.ends u);
+      ends = λ u. each_side w side t bs (λ x y. IsLinked x.ends y.ends) (λ h. l) (λ h. peer_on s.ends t.ends (end_at w (other side)).ends n h) u (k.ends u);
       bag = All-append (P v) w.bag (map at bs)
           (All-weaker (P w) (P v) (λ x i. each_side w side t bs (λ y z. IsFrom y.ends x.bytes) (from_on s.ends t.ends x.bytes n) (λ h. h) x.side i) w.bag k.bag)
           (All-map (P v) at bs
@@ -66,12 +66,12 @@ moved_links w side t bs n l sent k =
     }
 
 -- an end that learns nothing
-stays_links : (w : World) (side : Side) (t : State) (bs : List (List ℕ)) → t.ends ≡ (end_of w side).ends
-    → All (IsFrom (end_of w side).ends) bs → Linked w → Linked (moved w side t bs)
+stays_links : (w : World) (side : Side) (t : State) (bs : List (List ℕ)) → t.ends ≡ (end_at w side).ends
+    → All (IsFrom (end_at w side).ends) bs → Linked w → Linked (moved w side t bs)
 stays_links w side t bs e sent k =
-    let s : State = end_of w side in
+    let s : State = end_at w side in
     moved_links w side t bs (record { own = ap (λ (x : Ends). x.own) e; id = ap (λ (x : Ends). x.id) e; role = ap (λ (x : Ends). x.role) e })
-    (subst (λ (x : Ends). IsLinked x (end_of w (other side)).ends) (sym e) (k.ends side)) sent k
+    (subst (λ (x : Ends). IsLinked x (end_at w (other side)).ends) (sym e) (k.ends side)) sent k
 
 -- ---- what an end sends
 
@@ -144,31 +144,31 @@ reply_from laws s b (Some r) e fits n =
     let back : SameNames t.ends s.ends = record { own = sym n.own; id = sym n.id; role = sym n.role } in
     All-cons (IsFrom s.ends) r [] (subst (IsFrom s.ends) (sym is) (from_on t.ends s.ends (spp_packet_spelling q) back from)) (All-nil (IsFrom s.ends))
 
-marked_links : (w : World) (k : ℕ) (x : Emitted) → slice_get w.bag k ≡ Some x → Linked w → Linked (marked w k x)
+marked_links : (w : World) (k : ℕ) (x : Emitted) → slice_get w.bag k ≡ Some x → Linked w → Linked (marked_delivered w k x)
 marked_links w k x is l =
-    let v : World = marked w k x in
-    let P : World → Emitted → Type 0 = λ u y. IsFrom (end_of u y.side).ends y.bytes in
+    let v : World = marked_delivered w k x in
+    let P : World → Emitted → Type 0 = λ u y. IsFrom (end_at u y.side).ends y.bytes in
     let there : P w x = all_get (P w) w.bag k x l.bag is in
     record {
-      ends = λ side. elim side as (λ t. IsLinked (end_of v t).ends (end_of v (other t)).ends) [ A ↦ l.ends A | B ↦ l.ends B ];
+      ends = λ side. elim side as (λ t. IsLinked (end_at v t).ends (end_at v (other t)).ends) [ A ↦ l.ends A | B ↦ l.ends B ];
       bag = All-weaker (P w) (P v) (λ y h. subst (λ (t : State). IsFrom t.ends y.bytes) (sym (same_marked w k x y.side)) h) v.bag (All-set (P w) w.bag k (record x { delivered = true }) there l.bag);
     }
 
 -- the packet's sender is the other side's peer
-from_peer : (w : World) (side : Side) (b : List ℕ) → IsFrom (end_of w side).ends b
-    → IsFrom (end_of w (other (other side))).ends b
-from_peer w side b h = subst (λ (u : Side). IsFrom (end_of w u).ends b) (sym (other_other side)) h
+from_peer : (w : World) (side : Side) (b : List ℕ) → IsFrom (end_at w side).ends b
+    → IsFrom (end_at w (other (other side))).ends b
+from_peer w side b h = subst (λ (u : Side). IsFrom (end_at w u).ends b) (sym (other_other side)) h
 
 answered_links : EndLaws → (w : World) (k : ℕ) (x : Emitted) → slice_get w.bag k ≡ Some x
-    → IsState (end_of (answered w k x) (other x.side)) → Linked w → Linked (answered w k x)
+    → IsState (end_at (with_arrival w k x) (other x.side)) → Linked w → Linked (with_arrival w k x)
 answered_links laws w k x is fits l =
-    let v : World = marked w k x in
+    let v : World = marked_delivered w k x in
     let side : Side = other x.side in
     let m : Linked v = marked_links w k x is l in
-    let s : State = end_of v side in
+    let s : State = end_at v side in
     let t : State = after_receive s x.bytes in
-    let d : Ends = (end_of v (other side)).ends in
-    let P : Emitted → Type 0 = λ y. IsFrom (end_of w y.side).ends y.bytes in
+    let d : Ends = (end_at v (other side)).ends in
+    let P : Emitted → Type 0 = λ y. IsFrom (end_at w y.side).ends y.bytes in
     let there : P x = all_get P w.bag k x l.bag is in
     let from : IsFrom d x.bytes = from_peer v x.side x.bytes (subst (λ (y : State). IsFrom y.ends x.bytes) (sym (same_marked w k x x.side)) there) in
     let e : Hears s.ends t.ends d = hears laws s d x.bytes from (m.ends side) in
@@ -177,12 +177,12 @@ answered_links laws w k x is fits l =
     moved_links v side t (option_to_list o) e.names e.links (reply_from laws s x.bytes o refl good e.names) m
 
 reached_links : EndLaws → EachStepKeepsTheOrder → (w : World) (k : ℕ) (o : Option (Side × World)) → landing w k ≡ o
-    → Holds w → Linked w → Linked (reached w o)
+    → Holds w → Linked w → Linked (world_reached w o)
 reached_links laws order w k None e h l = l
 reached_links laws order w k (Some r) e h l =
     let i = has_landed w k r e in
     let now : Holds r.1 = order.land w k r h e in
-    let v : World = answered w k i.packet in
+    let v : World = with_arrival w k i.packet in
     let there : Holds v = subst (λ (m : Side × World). Holds m.1) (sym i.leads) now in
     subst (λ (m : Side × World). Linked m.1) i.leads (answered_links laws w k i.packet i.is (there.ends (other i.packet.side)).fits l)
 
@@ -192,37 +192,37 @@ pub keeps_links : EndLaws → EachStepKeepsTheOrder → KeepsLinks
 keeps_links laws order w (arrival k) fits h l = reached_links laws order w k (landing w k) refl h l
 keeps_links laws order w (noise side bytes) fits h l = subst Linked (sym (noise_changes_nothing laws w side bytes)) l
 keeps_links laws order w (sending side x) fits h l =
-    let s : State = end_of w side in
+    let s : State = end_at w side in
     stays_links w side (after_send s x) [] (send_ends laws s x (is_ok (send_answer s x)) refl) (All-nil (IsFrom s.ends)) l
 keeps_links laws order w (taking side) fits h l =
-    let s : State = end_of w side in
+    let s : State = end_at w side in
     stays_links w side (after_take s) [] (take_ends laws s (take_answer s) refl) (All-nil (IsFrom s.ends)) l
 keeps_links laws order w (flushing side) fits h l =
-    let s : State = end_of w side in
+    let s : State = end_at w side in
     let good : IsState s = (h.ends side).fits in
     stays_links w side (after_flush s) (flush_answer s) (ap (λ (t : State). t.ends) (laws.alone.flush s))
     (own_from laws s (after_flush s) (flush_packets s) (laws.packets.flush s good) (laws.goes_out.flush s good)) l
 keeps_links laws order w (ticking side) fits h l =
-    let s : State = end_of w side in
+    let s : State = end_at w side in
     let good : IsState s = (h.ends side).fits in
     stays_links w side (after_tick s) (tick_answer s) (ap (λ (t : State). t.ends) (laws.alone.tick s))
     (own_from laws s (after_tick s) (tick_packets s) (laws.packets.tick s good) (laws.goes_out.tick s)) l
 keeps_links laws order w (resending side) fits h l =
-    let s : State = end_of w side in
+    let s : State = end_at w side in
     let good : IsState s = (h.ends side).fits in
     stays_links w side (after_resend s) (option_to_list (resend_answer s)) (ap (λ (t : State). t.ends) (laws.alone.resend s))
     (subst (λ (o : Option (List ℕ)). All (IsFrom s.ends) (option_to_list o)) (sym (laws.goes_out.resend_bytes s))
     (maybe_from laws s (after_resend s) (resend_packet s) (λ p e. laws.packets.resend s p good e) (λ p e. laws.goes_out.resend s p e))) l
 keeps_links laws order w (telling side asks) fits h l =
-    let s : State = end_of w side in
+    let s : State = end_at w side in
     let good : IsState s = (h.ends side).fits in
     stays_links w side s (option_to_list (told_answer s asks)) refl (maybe_from laws s s (told_packet s asks) (λ p e. laws.packets.told s asks p good e) (λ p e. laws.goes_out.told s asks p e)) l
 
 pub starts_linked : (setup : Setup) → Linked (start setup)
 starts_linked setup = record {
-  ends = λ side. elim side as (λ t. IsLinked (end_of (start setup) t).ends (end_of (start setup) (other t)).ends) [
+  ends = λ side. elim side as (λ t. IsLinked (end_at (start setup) t).ends (end_at (start setup) (other t)).ends) [
     | A ↦ record { peer = refl; peer_id = inl refl; one = inr refl }
     | B ↦ record { peer = refl; peer_id = inr refl; one = inl refl }
   ];
-  bag = All-nil (λ (x : Emitted). IsFrom (end_of (start setup) x.side).ends x.bytes);
+  bag = All-nil (λ (x : Emitted). IsFrom (end_at (start setup) x.side).ends x.bytes);
 }

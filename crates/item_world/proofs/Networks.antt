@@ -12,7 +12,7 @@ use Rattle.item_world.proofs.Later.{settled_later, moved_later, marked_later}
 use Rattle.item_world.proofs.Sides.{each_end, same_end, same_marked, comes_as}
 use Rattle.item_world.specs.Network.{count_of, with_count, moment_of, is_settled, AreRested, unsettled, IsNetwork, IsEnd}
 use Rattle.item_world.specs.Side.{other}
-use Rattle.item_world.specs.World.{World, end_of, moment, emitted, with_packets, moved, marked, receives}
+use Rattle.item_world.specs.World.{World, end_at, moment, emitted, with_packets, moved, marked_delivered, receives}
 use Rattle.item_world.specs.declared.counts.Counts.{Counts}
 use Rattle.item_world.specs.declared.emitted.Emitted.{Emitted}
 use Rattle.item_world.specs.declared.moment.Moment.{Moment}
@@ -25,10 +25,10 @@ use Rattle.item_world.specs.declared.side.Side.TheVariants.{A, B}
 abbrev IsSettled : World → Emitted → Type 0
 IsSettled w x = is_settled w x ≡ true
 
-rested_moved : (n : ℕ) (w : World) (side : Side) (s : State) (bs : List (List ℕ)) → length (end_of w side).taken ≤ length s.taken → AreRested n w → AreRested n (moved w side s bs)
+rested_moved : (n : ℕ) (w : World) (side : Side) (s : State) (bs : List (List ℕ)) → length (end_at w side).taken ≤ length s.taken → AreRested n w → AreRested n (moved w side s bs)
 rested_moved n w side s bs l h =
     let v : World = moved w side s bs in
-    let new : List Emitted = map (emitted side (moment s (end_of w (other side)))) bs in
+    let new : List Emitted = map (emitted side (moment s (end_at w (other side)))) bs in
     record {
       within = omega (arith, h.within, length-append w.bag new);
       settled = subst (All (IsSettled v)) (sym (take-append-le n w.bag new h.within))
@@ -41,10 +41,10 @@ take-set_any (suc n) [] k y = refl
 take-set_any (suc n) (x ∷ xs) zero y = refl
 take-set_any (suc n) (x ∷ xs) (suc k) y = ap (λ (l : List Emitted). x ∷ l) (take-set_any n xs k y)
 
-rested_marked : (n : ℕ) (w : World) (k : ℕ) (x : Emitted) → slice_get w.bag k ≡ Some x → AreRested n w → AreRested n (marked w k x)
+rested_marked : (n : ℕ) (w : World) (k : ℕ) (x : Emitted) → slice_get w.bag k ≡ Some x → AreRested n w → AreRested n (marked_delivered w k x)
 rested_marked n w k x is h =
     let y : Emitted = record x { delivered = true } in
-    let v : World = marked w k x in
+    let v : World = marked_delivered w k x in
     let before : All (IsSettled v) (take n w.bag) = All-weaker (IsSettled w) (IsSettled v) (λ z. settled_later w v z (marked_later w k x is)) (take n w.bag) h.settled in
     record {
       within = omega (arith, h.within, length-set w.bag k y);
@@ -72,7 +72,7 @@ counted_other c B n = refl
 
 -- the counts are those of the ends
 abbrev AreCounts : Counts → World → Type 0
-AreCounts c w = (side : Side) → count_of c side ≡ length (end_of w side).taken
+AreCounts c w = (side : Side) → count_of c side ≡ length (end_at w side).taken
 
 counted : (c : Counts) (w : World) (side : Side) (s : State) (bs : List (List ℕ)) (n : ℕ) → n ≡ length s.taken → AreCounts c w → AreCounts (with_count c side n) (moved w side s bs)
 counted c w A s bs n is h A = is
@@ -81,21 +81,21 @@ counted c w B s bs n is h A = h A
 counted c w B s bs n is h B = is
 
 -- an end moves that takes nothing
-counted_on : (c : Counts) (w : World) (side : Side) (s : State) (bs : List (List ℕ)) → length s.taken ≡ length (end_of w side).taken → AreCounts c w → AreCounts c (moved w side s bs)
+counted_on : (c : Counts) (w : World) (side : Side) (s : State) (bs : List (List ℕ)) → length s.taken ≡ length (end_at w side).taken → AreCounts c w → AreCounts c (moved w side s bs)
 counted_on c w side s bs is h = λ t. each_end w side s bs (λ u v. count_of c u ≡ length v.taken) (h side ∙ sym is) t (h t)
 
 -- ---- packets join
 
-moments_are : (c : Counts) (w : World) (side : Side) (s : State) → count_of c side ≡ length s.taken → count_of c (other side) ≡ length (end_of w (other side)).taken → moment_of c side ≡ moment s (end_of w (other side))
+moments_are : (c : Counts) (w : World) (side : Side) (s : State) → count_of c side ≡ length s.taken → count_of c (other side) ≡ length (end_at w (other side)).taken → moment_of c side ≡ moment s (end_at w (other side))
 moments_are c w side s here there =
     let at : ℕ → ℕ → Moment = λ m n. record { sender = m; receiver = n } in
     ap (λ (m : ℕ). at m (count_of c (other side))) here ∙ ap (at (length s.taken)) there
 
-pub emits : (n m : Network) (w : World) (side : Side) (s : State) (at : Moment) (bs : List (List ℕ)) → IsNetwork n w → length s.taken ≡ length (end_of w side).taken → at ≡ moment_of n.taken side
+pub emits : (n m : Network) (w : World) (side : Side) (s : State) (at : Moment) (bs : List (List ℕ)) → IsNetwork n w → length s.taken ≡ length (end_at w side).taken → at ≡ moment_of n.taken side
     → m.packets ≡ with_packets n.packets side at bs → m.taken ≡ n.taken → m.rested ≡ n.rested → IsNetwork m (moved w side s bs)
 emits n m w side s at bs h is at_is joins taken rested =
     let v : World = moved w side s bs in
-    let now : at ≡ moment s (end_of w (other side)) = at_is ∙ moments_are n.taken w side s (h.taken side ∙ sym is) (h.taken (other side)) in
+    let now : at ≡ moment s (end_at w (other side)) = at_is ∙ moments_are n.taken w side s (h.taken side ∙ sym is) (h.taken (other side)) in
     record {
       bag = joins ∙ (ap (λ (l : List Emitted). with_packets l side at bs) h.bag ∙ ap (λ (a : Moment). with_packets w.bag side a bs) now);
       taken = subst (λ (c : Counts). AreCounts c v) (sym taken) (counted_on n.taken w side s bs is h.taken);
@@ -103,7 +103,7 @@ emits n m w side s at bs h is at_is joins taken rested =
     }
 
 -- a move that sends and takes nothing
-pub quiet : (n : Network) (w : World) (side : Side) (s : State) → IsNetwork n w → length s.taken ≡ length (end_of w side).taken → IsNetwork n (moved w side s [])
+pub quiet : (n : Network) (w : World) (side : Side) (s : State) → IsNetwork n w → length s.taken ≡ length (end_at w side).taken → IsNetwork n (moved w side s [])
 quiet n w side s h is = record {
   bag = h.bag ∙ sym (append-nil w.bag);
   taken = counted_on n.taken w side s [] is h.taken;
@@ -112,15 +112,15 @@ quiet n w side s h is = record {
 
 -- ---- a packet is delivered
 
-pub delivers_it : (n m : Network) (w : World) (side : Side) (k : ℕ) (x : Emitted) (s : State) (took : ℕ) (at : Moment) (counts : Counts) (bs : List (List ℕ)) → IsNetwork n w → slice_get w.bag k ≡ Some x → length (end_of w side).taken + took ≡ length s.taken
+pub delivers_it : (n m : Network) (w : World) (side : Side) (k : ℕ) (x : Emitted) (s : State) (took : ℕ) (at : Moment) (counts : Counts) (bs : List (List ℕ)) → IsNetwork n w → slice_get w.bag k ≡ Some x → length (end_at w side).taken + took ≡ length s.taken
     → counts ≡ with_count n.taken side (length s.taken) → at ≡ moment_of counts side
-    → m.packets ≡ with_packets (slice_set w.bag k (record x { delivered = true })) side at bs → m.taken ≡ counts → m.rested ≡ n.rested → IsNetwork m (moved (marked w k x) side s bs)
+    → m.packets ≡ with_packets (slice_set w.bag k (record x { delivered = true })) side at bs → m.taken ≡ counts → m.rested ≡ n.rested → IsNetwork m (moved (marked_delivered w k x) side s bs)
 delivers_it n m w side k x s took at counts bs h is more counts_are at_is joins taken rested =
-    let u : World = marked w k x in
+    let u : World = marked_delivered w k x in
     let v : World = moved u side s bs in
     let c : Counts = with_count n.taken side (length s.taken) in
     let before : AreCounts n.taken u = λ t. h.taken t ∙ ap (λ (q : State). length q.taken) (sym (same_marked w k x t)) in
-    let now : at ≡ moment s (end_of u (other side)) =
+    let now : at ≡ moment s (end_at u (other side)) =
     at_is ∙ (ap (λ (d : Counts). moment_of d side) counts_are
     ∙ moments_are c u side s (counted_same n.taken side (length s.taken)) (counted_other n.taken side (length s.taken) ∙ before (other side))) in
     record {
@@ -189,15 +189,15 @@ end_moved w side t bs cs e n stands is net = record {
 }
 
 -- an end that takes nothing sends these packets, and the network has them
-pub end_sends : (w : World) (side : Side) (t : State) (bs cs : List (List ℕ)) (e : Held) (n m : Network) → t.taken ≡ (end_of w side).taken → StandsFor e t → cs ≡ bs → IsNetwork n w
-    → ((v : World) (s : State) → IsNetwork n v → length s.taken ≡ length (end_of v side).taken → IsNetwork m (moved v side s cs)) → IsEnd e m (moved w side t bs) side
+pub end_sends : (w : World) (side : Side) (t : State) (bs cs : List (List ℕ)) (e : Held) (n m : Network) → t.taken ≡ (end_at w side).taken → StandsFor e t → cs ≡ bs → IsNetwork n w
+    → ((v : World) (s : State) → IsNetwork n v → length s.taken ≡ length (end_at v side).taken → IsNetwork m (moved v side s cs)) → IsEnd e m (moved w side t bs) side
 end_sends w side t bs cs e n m same stands is net emits = end_moved w side t bs cs e m stands is (emits w t net (ap length same))
 
 -- packet k, which is x, came to an end, and the network has it
-pub end_reached_by : (w : World) (k : ℕ) (side : Side) (x : Emitted) (e : Held) (n : Network) (reply : Option (List ℕ)) → StandsFor e (after_receive (end_of w side) x.bytes) → reply ≡ (receive_answer (end_of w side) x.bytes).reply
-    → IsNetwork n (moved (marked w k x) side (after_receive (end_of w side) x.bytes) (option_to_list reply)) → IsEnd e n (receives (marked w k x) side x.bytes) side
+pub end_reached_by : (w : World) (k : ℕ) (side : Side) (x : Emitted) (e : Held) (n : Network) (reply : Option (List ℕ)) → StandsFor e (after_receive (end_at w side) x.bytes) → reply ≡ (receive_answer (end_at w side) x.bytes).reply
+    → IsNetwork n (moved (marked_delivered w k x) side (after_receive (end_at w side) x.bytes) (option_to_list reply)) → IsEnd e n (receives (marked_delivered w k x) side x.bytes) side
 end_reached_by w k side x e n reply stands is net =
-    let s : State = end_of w side in
+    let s : State = end_at w side in
     let b : List ℕ = x.bytes in
     subst (λ (u : World). IsEnd e n u side) (comes_as w k side x)
-    (end_moved (marked w k x) side (after_receive s b) (option_to_list (receive_answer s b).reply) (option_to_list reply) e n stands (ap option_to_list is) net)
+    (end_moved (marked_delivered w k x) side (after_receive s b) (option_to_list (receive_answer s b).reply) (option_to_list reply) e n stands (ap option_to_list is) net)

@@ -20,14 +20,14 @@ use Rattle.item_world.proofs.Fronts.{element, all_get, front_get}
 use Rattle.item_world.proofs.Moves.{IsProper, IsProperAs, as_proper, system_proper_as, item_proper_as, own_proper}
 use Rattle.item_world.proofs.Sides.{same_end, same_other, same_marked, other_other}
 use Rattle.item_world.specs.EndLaws.{EndLaws}
-use Rattle.item_world.specs.Events.{Step, IsStep, arrival, ticking, stepped, flushing}
+use Rattle.item_world.specs.Events.{SmallStep, IsStep, arrival, ticking, stepped, flushing}
 use Rattle.item_world.specs.Later.{Later, as_sent}
-use Rattle.item_world.specs.Invariant.{IsSoundSpelling, Stands, Holds}
-use Rattle.item_world.specs.Landing.{answered, landed, reached, landing}
+use Rattle.item_world.specs.Invariant.{IsSoundSpelling, StandsBesidePeer, Holds}
+use Rattle.item_world.specs.Landing.{with_arrival, landed, world_reached, landing}
 use Rattle.item_world.specs.Laws.{EachStepKeepsTheOrder}
 use Rattle.item_world.specs.Progress.{Linked}
 use Rattle.item_world.specs.Side.{other}
-use Rattle.item_world.specs.World.{World, end_of, moment, emitted, moved, marked, lifetime, is_past, ticks, takes, flushes}
+use Rattle.item_world.specs.World.{World, end_at, moment, emitted, moved, marked_delivered, lifetime, is_past, ticks, takes, flushes}
 use Rattle.item_world.specs.declared.emitted.Emitted.{Emitted}
 use Rattle.item_world.specs.declared.moment.Moment.{Moment}
 use Rattle.item_world.specs.declared.side.Side.{Side}
@@ -36,7 +36,7 @@ use Rattle.item_world.specs.declared.side.Side.TheVariants.{A, B}
 -- ---- two ends of a world
 
 abbrev pub KeepsLinks : Type 0
-KeepsLinks = (w : World) (s : Step) → IsStep s → Holds w → Linked w → Linked (stepped w s)
+KeepsLinks = (w : World) (s : SmallStep) → IsStep s → Holds w → Linked w → Linked (stepped w s)
 
 -- the laws that all here stands on
 pub record Kept : Type 0 where
@@ -46,19 +46,19 @@ pub record Kept : Type 0 where
 
 -- the end at a side, and its peer
 pub record Pair (w : World) (side : Side) (s p : State) : Type 0 where
-  pub here : end_of w side ≡ s
-  pub there : end_of w (other side) ≡ p
+  pub here : end_at w side ≡ s
+  pub there : end_at w (other side) ≡ p
   pub holds : Holds w
   pub linked : Linked w
 
 pub flip : (w : World) (side : Side) (s p : State) → Pair w side s p → Pair w (other side) p s
-flip w side s p x = record { here = x.there; there = ap (end_of w) (other_other side) ∙ x.here; holds = x.holds; linked = x.linked }
+flip w side s p x = record { here = x.there; there = ap (end_at w) (other_other side) ∙ x.here; holds = x.holds; linked = x.linked }
 
-pub stands : (w : World) (side : Side) (s p : State) → Pair w side s p → Stands s p
-stands w side s p x = subst (λ (y : State). Stands s y) x.there (subst (λ (y : State). Stands y (end_of w (other side))) x.here (x.holds.ends side))
+pub stands : (w : World) (side : Side) (s p : State) → Pair w side s p → StandsBesidePeer s p
+stands w side s p x = subst (λ (y : State). StandsBesidePeer s y) x.there (subst (λ (y : State). StandsBesidePeer y (end_at w (other side))) x.here (x.holds.ends side))
 
 pub links : (w : World) (side : Side) (s p : State) → Pair w side s p → IsLinked s.ends p.ends
-links w side s p x = subst (λ (y : State). IsLinked s.ends y.ends) x.there (subst (λ (y : State). IsLinked y.ends (end_of w (other side)).ends) x.here (x.linked.ends side))
+links w side s p x = subst (λ (y : State). IsLinked s.ends y.ends) x.there (subst (λ (y : State). IsLinked y.ends (end_at w (other side)).ends) x.here (x.linked.ends side))
 
 -- of the packets that join a network the first lies behind all that were there
 first_new : (bag : List Emitted) (f : List ℕ → Emitted) (bs : List (List ℕ)) (b : List ℕ) → slice_get bs 0 ≡ Some b
@@ -71,8 +71,8 @@ first_new (x ∷ bag) f bs b h = first_new bag f bs b h
 
 pub ticked : Kept → (w : World) (side : Side) (s p : State) → Pair w side s p → Pair (ticks w side) side (after_tick s) p
 ticked k w side s p x = record {
-  here = same_end w side (after_tick (end_of w side)) (tick_answer (end_of w side)) ∙ ap after_tick x.here;
-  there = same_other w side (after_tick (end_of w side)) (tick_answer (end_of w side)) ∙ x.there;
+  here = same_end w side (after_tick (end_at w side)) (tick_answer (end_at w side)) ∙ ap after_tick x.here;
+  there = same_other w side (after_tick (end_at w side)) (tick_answer (end_at w side)) ∙ x.there;
   holds = k.order.each w (ticking side) tt x.holds;
   linked = k.links w (ticking side) tt x.holds x.linked;
 }
@@ -83,8 +83,8 @@ pub ticked_packet : Kept → (w : World) (side : Side) (s p : State) (q : SppPac
 ticked_packet k w side s p q x h =
     let b : List ℕ = spp_packet_spelling q in
     let first : slice_get (tick_answer s) 0 ≡ Some b = k.laws.goes_out.resend_bytes s ∙ ap spelled h in
-    first_new w.bag (emitted side (moment (after_tick (end_of w side)) (end_of w (other side)))) (tick_answer (end_of w side)) b (ap (λ (y : State). slice_get (tick_answer y) 0) x.here ∙ first)
-    ∙ (ap (λ (y : State). Some (emitted side (moment (after_tick y) (end_of w (other side))) b)) x.here
+    first_new w.bag (emitted side (moment (after_tick (end_at w side)) (end_at w (other side)))) (tick_answer (end_at w side)) b (ap (λ (y : State). slice_get (tick_answer y) 0) x.here ∙ first)
+    ∙ (ap (λ (y : State). Some (emitted side (moment (after_tick y) (end_at w (other side))) b)) x.here
     ∙ ap (λ (y : State). Some (emitted side (moment (after_tick s) y) b)) x.there)
 
 -- ---- a packet comes that was just sent
@@ -103,21 +103,21 @@ pub record IsNew (w : World) (side : Side) (s p : State) (k : ℕ) (bytes : List
 
 living : (w : World) (side : Side) (s p : State) (at : Moment) → Pair w side s p
     → is_past at (length s.taken) (length p.taken) ≡ false
-    → is_past at (length (end_of w side).taken) (length (end_of w (other side)).taken) ≡ false
+    → is_past at (length (end_at w side).taken) (length (end_at w (other side)).taken) ≡ false
 living w side s p at x alive =
-    ap (λ (t : State). is_past at (length t.taken) (length (end_of w (other side)).taken)) x.here
+    ap (λ (t : State). is_past at (length t.taken) (length (end_at w (other side)).taken)) x.here
     ∙ (ap (λ (t : State). is_past at (length s.taken) (length t.taken)) x.there ∙ alive)
 
 pub lands_now : (w : World) (side : Side) (s p : State) (k : ℕ) (bytes : List ℕ) → Pair w side s p
-    → (i : IsNew w side s p k bytes) → stepped w (arrival k) ≡ answered w k (emitted side i.at bytes)
+    → (i : IsNew w side s p k bytes) → stepped w (arrival k) ≡ with_arrival w k (emitted side i.at bytes)
 lands_now w side s p k bytes x i =
     let y : Emitted = emitted side i.at bytes in
     let alive = living w side s p i.at x i.alive in
-    ap (λ (o : Option Emitted). reached w (landed w k o)) i.is
-    ∙ ap (λ (b : Bool). reached w (if b then None else Some (other side, answered w k y))) alive
+    ap (λ (o : Option Emitted). world_reached w (landed w k o)) i.is
+    ∙ ap (λ (b : Bool). world_reached w (if b then None else Some (other side, with_arrival w k y))) alive
 
 pub peer_moves : (w : World) (side : Side) (s : State) (bs : List (List ℕ))
-    → end_of (moved w (other side) s bs) side ≡ end_of w side
+    → end_at (moved w (other side) s bs) side ≡ end_at w side
 peer_moves w A s bs = refl
 peer_moves w B s bs = refl
 
@@ -126,12 +126,12 @@ pub arrived : Kept → (w : World) (side : Side) (s p : State) (k : ℕ) (bytes 
 arrived kept w side s p k bytes x i =
     let y : Emitted = emitted side i.at bytes in
     let e = lands_now w side s p k bytes x i in
-    let t : State = end_of (marked w k y) (other side) in
+    let t : State = end_at (marked_delivered w k y) (other side) in
     let bs : List (List ℕ) = option_to_list (receive_answer t bytes).reply in
     record {
-      here = ap (λ (u : World). end_of u side) e ∙ (peer_moves (marked w k y) side (after_receive t bytes) bs ∙ (same_marked w k y side ∙ x.here));
-      there = ap (λ (u : World). end_of u (other side)) e
-          ∙ (same_end (marked w k y) (other side) (after_receive t bytes) bs ∙ ap (λ (t : State). after_receive t bytes) (same_marked w k y (other side) ∙ x.there));
+      here = ap (λ (u : World). end_at u side) e ∙ (peer_moves (marked_delivered w k y) side (after_receive t bytes) bs ∙ (same_marked w k y side ∙ x.here));
+      there = ap (λ (u : World). end_at u (other side)) e
+          ∙ (same_end (marked_delivered w k y) (other side) (after_receive t bytes) bs ∙ ap (λ (t : State). after_receive t bytes) (same_marked w k y (other side) ∙ x.there));
       holds = kept.order.each w (arrival k) tt x.holds;
       linked = kept.links w (arrival k) tt x.holds x.linked;
     }
@@ -141,23 +141,23 @@ pub replied : (w : World) (side : Side) (s p : State) (k : ℕ) (bytes r : List 
     → slice_get (stepped w (arrival k)).bag (length w.bag) ≡ Some (emitted (other side) (moment (after_receive p bytes) s) r)
 replied w side s p k bytes r x i h =
     let y : Emitted = emitted side i.at bytes in
-    let v : World = marked w k y in
-    let there : end_of v (other side) ≡ p = same_marked w k y (other side) ∙ x.there in
-    let here : end_of v (other (other side)) ≡ s = ap (end_of v) (other_other side) ∙ (same_marked w k y side ∙ x.here) in
-    let bs : List (List ℕ) = option_to_list (receive_answer (end_of v (other side)) bytes).reply in
+    let v : World = marked_delivered w k y in
+    let there : end_at v (other side) ≡ p = same_marked w k y (other side) ∙ x.there in
+    let here : end_at v (other (other side)) ≡ s = ap (end_at v) (other_other side) ∙ (same_marked w k y side ∙ x.here) in
+    let bs : List (List ℕ) = option_to_list (receive_answer (end_at v (other side)) bytes).reply in
     let first : slice_get bs 0 ≡ Some r =
     ap (λ (t : State). slice_get (option_to_list (receive_answer t bytes).reply) 0) there ∙ ap (λ (o : Option (List ℕ)). slice_get (option_to_list o) 0) h in
     let count : length v.bag ≡ length w.bag = length-set w.bag k _ in
-    let f : List ℕ → Emitted = emitted (other side) (moment (after_receive (end_of v (other side)) bytes) (end_of v (other (other side)))) in
+    let f : List ℕ → Emitted = emitted (other side) (moment (after_receive (end_at v (other side)) bytes) (end_at v (other (other side)))) in
     ap (λ (u : World). slice_get u.bag (length w.bag)) (lands_now w side s p k bytes x i)
     ∙ (ap (λ (n : ℕ). slice_get (v.bag ++ map f bs) n) (sym count)
     ∙ (first_new v.bag f bs r first
-    ∙ (ap (λ (t : State). Some (emitted (other side) (moment (after_receive t bytes) (end_of v (other (other side)))) r)) there
+    ∙ (ap (λ (t : State). Some (emitted (other side) (moment (after_receive t bytes) (end_at v (other (other side)))) r)) there
     ∙ ap (λ (t : State). Some (emitted (other side) (moment (after_receive p bytes) t) r)) here)))
 
 -- ---- what an end sends is heard by its peer
 
-pub proper_heard : EndLaws → (t p : State) (q : SppPacketModel) (m : Meant) → Stands t p → Stands p t
+pub proper_heard : EndLaws → (t p : State) (q : SppPacketModel) (m : Meant) → StandsBesidePeer t p → StandsBesidePeer p t
     → IsProperAs (moment t p) t q m → is_ours_at p.ends q ≡ true → IsHeard p (spp_packet_spelling q) q m
 proper_heard laws t p q m to back i ours =
     let x : Emitted = emitted A (moment t p) (spp_packet_spelling q) in
@@ -195,9 +195,9 @@ asked k w side s p x left =
     let v : World = ticks w side in
     let y : Pair v side t p = ticked k w side s p x in
     let own : IsOwnPacket s t q = all_get (IsOwnPacket s t) (tick_packets s) 0 q (laws.goes_out.tick s) a.first in
-    let before : Stands s p = stands w side s p x in
-    let now : Stands t p = stands v side t p y in
-    let back : Stands p t = stands v (other side) p t (flip v side t p y) in
+    let before : StandsBesidePeer s p = stands w side s p x in
+    let now : StandsBesidePeer t p = stands v side t p y in
+    let back : StandsBesidePeer p t = stands v (other side) p t (flip v side t p y) in
     let proper : IsProper (moment t p) t q = own_proper laws s t p q before now (laws.grows.tick s before.fits) (laws.hears.tick s).taken own in
     let ours : is_ours_at p.ends q ≡ true =
     laws.peers.ours s.ends p.ends q before.fits.ends back.fits.ends (links w side s p x) (links w (other side) p s (flip w side s p x)) (laws.peers.own s t q own) in
@@ -233,8 +233,8 @@ pub goes : Kept → (w : World) (side : Side) (s p : State) → Knows w side s p
 goes k w side s p knows none left =
     let laws : EndLaws = k.laws in
     let x : Pair w side s p = knows.pair in
-    let before : Stands s p = stands w side s p x in
-    let here : Stands p s = stands w (other side) p s (flip w side s p x) in
+    let before : StandsBesidePeer s p = stands w side s p x in
+    let here : StandsBesidePeer p s = stands w (other side) p s (flip w side s p x) in
     let n : ℕ = s.acknowledged in
     let next : n ≡ length p.taken = omega (arith, knows.acknowledged, before.acknowledged) in
     let room : length p.taken ≤ window_top p = omega (arith, none, here.fits.ends.window_least, before.fits.bounds.accepted_most, left) in
@@ -246,8 +246,8 @@ goes k w side s p knows none left =
     let t : State = after_tick s in
     let v : World = ticks w side in
     let y : Pair v side t p = ticked k w side s p x in
-    let now : Stands t p = stands v side t p y in
-    let back : Stands p t = stands v (other side) p t (flip v side t p y) in
+    let now : StandsBesidePeer t p = stands v side t p y in
+    let back : StandsBesidePeer p t = stands v (other side) p t (flip v side t p y) in
     let out : t.sent ≡ send_limit s = laws.asks.sent s knows.ready may in
     let proper : IsProperAs (moment t p) t q (own_meant s n) = item_proper_as laws s t p n item before now (laws.grows.tick s before.fits) (laws.hears.tick s).taken there.1 (omega arith) (omega (arith, out, may)) in
     let ours : is_ours_at p.ends q ≡ true =
@@ -269,9 +269,9 @@ handing_one laws p lt = let e = element p.taken p.handed lt in ap (λ (t : State
 
 -- the peer hands up the item that waits
 pub took : EndLaws → (w : World) (side : Side) (s p : State) → Pair w side s p → p.handed < length p.taken
-    → (end_of (takes w (other side)) (other side)).handed ≡ p.handed + 1
+    → (end_at (takes w (other side)) (other side)).handed ≡ p.handed + 1
 took laws w side s p x lt =
-    ap (λ (t : State). t.handed) (same_end w (other side) (after_take (end_of w (other side))) [] ∙ ap after_take x.there) ∙ handing_one laws p lt
+    ap (λ (t : State). t.handed) (same_end w (other side) (after_take (end_at w (other side))) [] ∙ ap after_take x.there) ∙ handing_one laws p lt
 
 pub longer : (u v : World) → Later u v → length u.bag ≤ length v.bag
 longer u v l = omega (arith, begins_length (map as_sent u.bag) (map as_sent v.bag) l.bag, length-map u.bag as_sent, length-map v.bag as_sent)
@@ -303,16 +303,16 @@ alike laws s =
 -- ---- where an end flushes
 
 pub lands_there : (w : World) (side : Side) (s p : State) (k : ℕ) (bytes : List ℕ) → Pair w side s p
-    → (i : IsNew w side s p k bytes) → landing w k ≡ Some (other side, answered w k (emitted side i.at bytes))
+    → (i : IsNew w side s p k bytes) → landing w k ≡ Some (other side, with_arrival w k (emitted side i.at bytes))
 lands_there w side s p k bytes x i =
     let y : Emitted = emitted side i.at bytes in
     ap (landed w k) i.is
-    ∙ ap (λ (b : Bool). if b then None else Some (other side, answered w k y)) (living w side s p i.at x i.alive)
+    ∙ ap (λ (b : Bool). if b then None else Some (other side, with_arrival w k y)) (living w side s p i.at x i.alive)
 
 pub flushed_pair : Kept → (w : World) (side : Side) (s p : State) → Pair w side s p
     → Pair (flushes w (other side)) side s (after_flush p)
 flushed_pair k w side s p x =
-    let t : State = end_of w (other side) in
+    let t : State = end_at w (other side) in
     record {
       here = peer_moves w side (after_flush t) (flush_answer t) ∙ x.here;
       there = same_end w (other side) (after_flush t) (flush_answer t) ∙ ap after_flush x.there;
@@ -323,7 +323,7 @@ flushed_pair k w side s p x =
 pub flushed_here : Kept → (w : World) (side : Side) (s p : State) → Pair w side s p
     → Pair (flushes w side) side (after_flush s) p
 flushed_here k w side s p x =
-    let t : State = end_of w side in
+    let t : State = end_at w side in
     record {
       here = same_end w side (after_flush t) (flush_answer t) ∙ ap after_flush x.here;
       there = same_other w side (after_flush t) (flush_answer t) ∙ x.there;
@@ -349,7 +349,7 @@ pub record Told (w : World) (side : Side) (t o : State) (k : ℕ) : Type 0 where
   pub lands : landing w k ≡ Some (side, stepped w (arrival k))
   pub knows : Knows (stepped w (arrival k)) side (after_receive t (spp_packet_spelling (system_packet o reply_control))) (after_flush o)
 
-pub told_out : Kept → (w : World) (side : Side) (t o : State) (k : ℕ) → Pair w side t (after_flush o) → Stands o t
+pub told_out : Kept → (w : World) (side : Side) (t o : State) (k : ℕ) → Pair w side t (after_flush o) → StandsBesidePeer o t
     → slice_get w.bag k ≡ Some (emitted (other side) (moment o t) (spp_packet_spelling (system_packet o reply_control)))
     → Told w side t o k
 told_out kept w side t o k x before h =
@@ -359,8 +359,8 @@ told_out kept w side t o k x before h =
     let q : SppPacketModel = system_packet o reply_control in
     let bytes : List ℕ = spp_packet_spelling q in
     let y : Pair w (other side) p t = flip w side t p x in
-    let to : Stands p t = stands w (other side) p t y in
-    let back : Stands t p = stands w side t p x in
+    let to : StandsBesidePeer p t = stands w (other side) p t y in
+    let back : StandsBesidePeer t p = stands w side t p x in
     let proper : IsProperAs (moment p t) p q (own_meant o o.sent) = system_proper_as laws o p t reply_control before (omega (arith, l.top)) l.taken (lit< tt) refl in
     let ours : is_ours_at t.ends q ≡ true =
     laws.peers.ours p.ends t.ends q to.fits.ends back.fits.ends (links w (other side) p t y) (links w side t p x)

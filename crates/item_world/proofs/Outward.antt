@@ -12,19 +12,19 @@ use Rattle.item_world.proofs.Fronts.{front_get}
 use Rattle.item_world.proofs.Later.{all_later}
 use Rattle.item_world.proofs.Onward.{Kept, Pair, flip, stands, IsNew, arrived, replied, ticked, Asked, asked, Knows, Goes, goes, longer, alike, flushed_pair, flushed_here, new_out, lands_as, Told, told_out, knows_flushed}
 use Rattle.item_world.specs.EndLaws.{EndLaws}
-use Rattle.item_world.specs.Events.{Step, arrival, flushing, ticking}
-use Rattle.item_world.specs.Invariant.{Stands, Holds}
+use Rattle.item_world.specs.Events.{SmallStep, arrival, flushing, ticking}
+use Rattle.item_world.specs.Invariant.{StandsBesidePeer, Holds}
 use Rattle.item_world.specs.Progress.{IsWire, Stirs, Linked, ticked_out, came_first, answered_out, came_back, knows_out, came_next, StirsOut}
 use Rattle.item_world.specs.Side.{other}
-use Rattle.item_world.specs.World.{World, end_of, ticks}
+use Rattle.item_world.specs.World.{World, end_at, ticks}
 use Rattle.item_world.specs.declared.side.Side.{Side}
 
 pub stirs_out : Kept → (w : World) (side : Side) → Holds w → Linked w
-    → (end_of w side).acknowledged < length (end_of w side).accepted → StirsOut w side
+    → (end_at w side).acknowledged < length (end_at w side).accepted → StirsOut w side
 stirs_out k w side holds linked left =
     let laws : EndLaws = k.laws in
-    let s : State = end_of w side in
-    let p : State = end_of w (other side) in
+    let s : State = end_at w side in
+    let p : State = end_at w (other side) in
     let x : Pair w side s p = record { here = refl; there = refl; holds = holds; linked = linked } in
     let a : Asked w side s p = asked k w side s p x left in
     let t0 : State = after_tick s in
@@ -36,7 +36,7 @@ stirs_out k w side holds linked left =
     let v2 : World = came_first w side in
     let z : Pair v2 side t o = arrived k w1 side t p (length w.bag) a.bytes y new in
     let reply = replied w1 side t p (length w.bag) a.bytes (spp_packet_spelling (system_packet o reply_control)) y new a.answer in
-    let before : Stands o t = stands v2 (other side) o t (flip v2 side t o z) in
+    let before : StandsBesidePeer o t = stands v2 (other side) o t (flip v2 side t o z) in
     let w2 : World = answered_out w side in
     let b : Told w2 side t o (length w1.bag) = told_out k w2 side t o (length w1.bag) (flushed_pair k v2 side t o z) before (front_get v2.bag _ (length w1.bag) _ reply) in
     let u0 : State = after_receive t (spp_packet_spelling (system_packet o reply_control)) in
@@ -47,8 +47,8 @@ stirs_out k w side holds linked left =
     let knows : Knows w3 side u e = knows_flushed k v3 side u0 e b.knows in
     let count : length u0.accepted ≡ length s.accepted =
     ap length (laws.stays.receive t (spp_packet_spelling (system_packet o reply_control))).accepted ∙ (ap length (alike laws t0).accepted ∙ ap length (laws.stays.tick s).accepted) in
-    let taken : length (end_of v2 (other side)).taken ≡ length e.taken = ap (λ (r : State). length r.taken) z.there ∙ sym (ap length (alike laws o).taken) in
-    let handed : (end_of v2 (other side)).handed ≡ e.handed = ap (λ (r : State). r.handed) z.there ∙ sym (alike laws o).handed in
+    let taken : length (end_at v2 (other side)).taken ≡ length e.taken = ap (λ (r : State). length r.taken) z.there ∙ sym (ap length (alike laws o).taken) in
+    let handed : (end_at v2 (other side)).handed ≡ e.handed = ap (λ (r : State). r.handed) z.there ∙ sym (alike laws o).handed in
     record {
       first = lands_as w1 side t p (length w.bag) a.bytes y new;
       second = b.lands;
@@ -72,12 +72,12 @@ stirs_out k w side holds linked left =
 -- the ticks and the three packets as small steps, by whether an item waits once the first packet came, and whether one
 -- is still to come then
 stirs_when : EndLaws → (w : World) (side : Side) (b c : Bool) → StirsOut w side
-    → nat_lt (end_of (came_first w side) (other side)).handed (length (end_of (came_first w side) (other side)).taken) ≡ b
-    → nat_lt (length (end_of (came_first w side) (other side)).taken) (length (end_of w side).accepted) ≡ c
+    → nat_lt (end_at (came_first w side) (other side)).handed (length (end_at (came_first w side) (other side)).taken) ≡ b
+    → nat_lt (length (end_at (came_first w side) (other side)).taken) (length (end_at w side).accepted) ≡ c
     → Holds (came_first w side) → Stirs w side
 stirs_when laws w side true c out waits left holds =
-    let P : Step → Type 0 = IsWire (length w.bag) in
-    let p : State = end_of (came_first w side) (other side) in
+    let P : SmallStep → Type 0 = IsWire (length w.bag) in
+    let p : State = end_at (came_first w side) (other side) in
     record {
       more = ticking side ∷ flushing side ∷ arrival (length w.bag) ∷ [];
       wire = All-cons P (ticking side) (flushing side ∷ arrival (length w.bag) ∷ []) tt
@@ -85,45 +85,45 @@ stirs_when laws w side true c out waits left holds =
       comes = inl (ltb-true p.handed (length p.taken) waits);
     }
 stirs_when laws w side false c out waits left holds =
-    let P : Step → Type 0 = IsWire (length w.bag) in
-    let p : State = end_of (came_first w side) (other side) in
-    let first : List Step = ticking side ∷ flushing side ∷ arrival (length w.bag) ∷ flushing (other side) ∷ [] in
+    let P : SmallStep → Type 0 = IsWire (length w.bag) in
+    let p : State = end_at (came_first w side) (other side) in
+    let first : List SmallStep = ticking side ∷ flushing side ∷ arrival (length w.bag) ∷ flushing (other side) ∷ [] in
     let one : length w.bag ≤ length (ticked_out w side).bag = longer w (ticked_out w side) (all_later laws w (ticking side ∷ flushing side ∷ [])) in
-    let second : List Step = arrival (length (ticked_out w side).bag) ∷ [] in
+    let second : List SmallStep = arrival (length (ticked_out w side).bag) ∷ [] in
     let first_wire : All P first =
     All-cons P (ticking side) (flushing side ∷ arrival (length w.bag) ∷ flushing (other side) ∷ []) tt
     (All-cons P (flushing side) (arrival (length w.bag) ∷ flushing (other side) ∷ []) tt
     (All-cons P (arrival (length w.bag)) (flushing (other side) ∷ []) (omega arith) (All-cons P (flushing (other side)) [] tt (All-nil P)))) in
     let second_wire : All P second = All-cons P (arrival (length (ticked_out w side).bag)) [] one (All-nil P) in
-    elim c as (λ d. nat_lt (length p.taken) (length (end_of w side).accepted) ≡ d → Stirs w side) [
+    elim c as (λ d. nat_lt (length p.taken) (length (end_at w side).accepted) ≡ d → Stirs w side) [
       | false ↦ λ e. record {
         more = first ++ second;
         wire = All-append P first second first_wire second_wire;
-        comes = inr (out.settled (ltb-false (length p.taken) (length (end_of w side).accepted) e));
+        comes = inr (out.settled (ltb-false (length p.taken) (length (end_at w side).accepted) e));
       }
       | true ↦ λ e.
           let none : p.handed ≡ length p.taken =
           omega (arith, ltb-false p.handed (length p.taken) waits, (holds.ends (other side)).fits.bounds.handed_taken) in
           let k : World = knows_out w side in
           let three : length w.bag ≤ length k.bag = longer w k (all_later laws w (first ++ second ++ flushing side ∷ [])) in
-          let third : List Step = flushing side ∷ ticking side ∷ flushing side ∷ arrival (length k.bag) ∷ [] in
+          let third : List SmallStep = flushing side ∷ ticking side ∷ flushing side ∷ arrival (length k.bag) ∷ [] in
           record {
             more = first ++ second ++ third;
             wire = All-append P first (second ++ third) first_wire (All-append P second third second_wire
                 (All-cons P (flushing side) (ticking side ∷ flushing side ∷ arrival (length k.bag) ∷ []) tt
                 (All-cons P (ticking side) (flushing side ∷ arrival (length k.bag) ∷ []) tt
                 (All-cons P (flushing side) (arrival (length k.bag) ∷ []) tt (All-cons P (arrival (length k.bag)) [] three (All-nil P))))));
-            comes = inl (out.third none (ltb-true (length p.taken) (length (end_of w side).accepted) e)).1;
+            comes = inl (out.third none (ltb-true (length p.taken) (length (end_at w side).accepted) e)).1;
           }
     ] left
 
 stirs_by : Kept → (w : World) (side : Side) (b : Bool)
-    → nat_lt (end_of w side).acknowledged (length (end_of w side).accepted) ≡ b
+    → nat_lt (end_at w side).acknowledged (length (end_at w side).accepted) ≡ b
     → Holds w → Linked w → Stirs w side
 stirs_by k w side true e holds linked =
-    let s : State = end_of w side in
+    let s : State = end_at w side in
     let v : World = came_first w side in
-    let p : State = end_of v (other side) in
+    let p : State = end_at v (other side) in
     let before : Holds (ticks w side) = k.order.each w (ticking side) tt holds in
     let out : Holds (ticked_out w side) = k.order.each (ticks w side) (flushing side) tt before in
     stirs_when k.laws w side (nat_lt p.handed (length p.taken)) (nat_lt (length p.taken) (length s.accepted))
@@ -132,9 +132,9 @@ stirs_by k w side true e holds linked =
 stirs_by k w side false e holds linked = record {
   more = [];
   wire = All-nil (IsWire (length w.bag));
-  comes = inr (ltb-false (end_of w side).acknowledged (length (end_of w side).accepted) e);
+  comes = inr (ltb-false (end_at w side).acknowledged (length (end_at w side).accepted) e);
 }
 
 -- some steps of the wire, without a take
 pub stirs : Kept → (w : World) (side : Side) → Holds w → Linked w → Stirs w side
-stirs k w side = stirs_by k w side (nat_lt (end_of w side).acknowledged (length (end_of w side).accepted)) refl
+stirs k w side = stirs_by k w side (nat_lt (end_at w side).acknowledged (length (end_at w side).accepted)) refl

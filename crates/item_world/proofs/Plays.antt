@@ -24,58 +24,58 @@ use Rattle.item_world.specs.declared.setup.Setup.{Setup}
 use Rattle.item_world.specs.declared.side.Side.{Side}
 use Rattle.item_world.specs.declared.side.Side.TheVariants.{A, B}
 use Rattle.item_world.specs.EndLaws.{EndLaws}
-use Rattle.item_world.specs.Events.{happens, delivers, run, IsEvent, undelivered}
+use Rattle.item_world.specs.Events.{happens, delivers, world_after, IsEvent, undelivered}
 use Rattle.xns_spp.specs.Growth.{Begins}
 use Rattle.item_world.specs.Later.{Continues, Later, StaysAway, does_land}
-use Rattle.item_world.specs.Landing.{landing, end_reached, answered, landed}
+use Rattle.item_world.specs.Landing.{landing, end_reached, with_arrival, landed}
 use Rattle.item_world.specs.Laws.{ItemsComeInOrder}
 use Rattle.item_world.specs.Network.{IsNetwork, IsEnd, unsettled}
 use Rattle.item_world.specs.Play.{at_side, with_side, IsParticipant, IsPlaying, IsPlayed}
 use Rattle.item_world.specs.Setup.{IsSetup, IsGood}
 use Rattle.item_world.specs.Side.{other}
 use Rattle.item_world.specs.Trace.{item_trace}
-use Rattle.item_world.specs.World.{World, start, end_of, moved, marked, sender_and_bytes, packets_of, has_passed}
+use Rattle.item_world.specs.World.{World, start, end_at, moved, marked_delivered, sender_and_bytes, sent_packets, has_passed}
 use Rattle.std.specs.List.{filter}
 use Rattle.item_world.specs.declared.emitted.Emitted.{Emitted}
 
 -- an end acts, and the other one stays
-pub acts : (pair : Pair) (n : Network) (w v : World) (side : Side) (q : Participant) → ((t : Side) → IsParticipant (at_side pair t) (end_of w t)) → end_of v (other side) ≡ end_of w (other side)
-    → IsParticipant q (end_of v side) → IsNetwork n v → IsPlaying (record { ends = with_side pair side q; network = n }) v
-acts pair n w v A q h same here net = record { ends = λ t. elim t as (λ t. IsParticipant (at_side (with_side pair A q) t) (end_of v t)) [ A ↦ here | B ↦ subst (λ (s : State). IsParticipant pair.b s) (sym same) (h B) ]; network = net }
-acts pair n w v B q h same here net = record { ends = λ t. elim t as (λ t. IsParticipant (at_side (with_side pair B q) t) (end_of v t)) [ A ↦ subst (λ (s : State). IsParticipant pair.a s) (sym same) (h A) | B ↦ here ]; network = net }
+pub acts : (pair : Pair) (n : Network) (w v : World) (side : Side) (q : Participant) → ((t : Side) → IsParticipant (at_side pair t) (end_at w t)) → end_at v (other side) ≡ end_at w (other side)
+    → IsParticipant q (end_at v side) → IsNetwork n v → IsPlaying (record { ends = with_side pair side q; network = n }) v
+acts pair n w v A q h same here net = record { ends = λ t. elim t as (λ t. IsParticipant (at_side (with_side pair A q) t) (end_at v t)) [ A ↦ here | B ↦ subst (λ (s : State). IsParticipant pair.b s) (sym same) (h B) ]; network = net }
+acts pair n w v B q h same here net = record { ends = λ t. elim t as (λ t. IsParticipant (at_side (with_side pair B q) t) (end_at v t)) [ A ↦ subst (λ (s : State). IsParticipant pair.a s) (sym same) (h A) | B ↦ here ]; network = net }
 
 -- an endpoint acts, which accepts and hands up nothing
-pub acts_quietly : (pair : Pair) (n : Network) (w : World) (side : Side) (p : Participant) (e : Held) (t : State) (bs : List (List ℕ)) → ((u : Side) → IsParticipant (at_side pair u) (end_of w u)) → p ≡ at_side pair side → Continues (end_of w side) t
+pub acts_quietly : (pair : Pair) (n : Network) (w : World) (side : Side) (p : Participant) (e : Held) (t : State) (bs : List (List ℕ)) → ((u : Side) → IsParticipant (at_side pair u) (end_at w u)) → p ≡ at_side pair side → Continues (end_at w side) t
     → IsEnd e n (moved w side t bs) side → IsPlaying (record { ends = with_side pair side (record p { endpoint = e }); network = n }) (moved w side t bs)
 acts_quietly pair n w side p e t bs h is c end =
-    let before : IsParticipant p (end_of w side) = subst (λ (q : Participant). IsParticipant q (end_of w side)) (sym is) (h side) in
+    let before : IsParticipant p (end_at w side) = subst (λ (q : Participant). IsParticipant q (end_at w side)) (sym is) (h side) in
     let same = same_end w side t bs in
-    let after = went_on p (end_of w side) t e before c (subst (λ (s : State). StandsFor e s) same end.stands) in
+    let after = went_on p (end_at w side) t e before c (subst (λ (s : State). StandsFor e s) same end.stands) in
     acts pair n w (moved w side t bs) side (record p { endpoint = e }) h (same_other w side t bs) (subst (λ (s : State). IsParticipant (record p { endpoint = e }) s) (sym same) after) end.network
 
 -- an end of the play acts where its endpoint and the network do
-pub goes_quietly : (play : Play) (w : World) (side : Side) (p : Participant) (e : Held) (n : Network) (t : State) (bs : List (List ℕ)) → p ≡ at_side play.ends side → Continues (end_of w side) t
+pub goes_quietly : (play : Play) (w : World) (side : Side) (p : Participant) (e : Held) (n : Network) (t : State) (bs : List (List ℕ)) → p ≡ at_side play.ends side → Continues (end_at w side) t
     → (IsEnd p.endpoint play.network w side → IsEnd e n (moved w side t bs) side) → IsPlaying play w → IsPlaying (record { ends = with_side play.ends side (record p { endpoint = e }); network = n }) (moved w side t bs)
 goes_quietly play w side p e n t bs is c act h =
-    let here : IsParticipant p (end_of w side) = subst (λ (q : Participant). IsParticipant q (end_of w side)) (sym is) (h.ends side) in
+    let here : IsParticipant p (end_at w side) = subst (λ (q : Participant). IsParticipant q (end_at w side)) (sym is) (h.ends side) in
     acts_quietly play.ends n w side p e t bs h.ends is c (act (record { stands = here.stands; network = h.network }))
 
 -- an end accepts an item or hands one up, which sends and takes nothing
-pub acts_alone : (pair : Pair) (n : Network) (w : World) (side : Side) (q : Participant) (t : State) → ((u : Side) → IsParticipant (at_side pair u) (end_of w u)) → IsParticipant q t → IsNetwork n w → t.taken ≡ (end_of w side).taken
+pub acts_alone : (pair : Pair) (n : Network) (w : World) (side : Side) (q : Participant) (t : State) → ((u : Side) → IsParticipant (at_side pair u) (end_at w u)) → IsParticipant q t → IsNetwork n w → t.taken ≡ (end_at w side).taken
     → IsPlaying (record { ends = with_side pair side q; network = n }) (moved w side t [])
 acts_alone pair n w side q t h here net is =
     acts pair n w (moved w side t []) side q h (same_other w side t []) (subst (λ (s : State). IsParticipant q s) (sym (same_end w side t [])) here) (quiet n w side t net (ap length is))
 
 -- a packet came to an end
-pub lands_there : EndLaws → (pair : Pair) (n : Network) (w v : World) (k : ℕ) (side : Side) (p : Participant) (e : Held) → ((u : Side) → IsParticipant (at_side pair u) (end_of w u)) → p ≡ at_side pair side → landing w k ≡ Some (side, v)
+pub lands_there : EndLaws → (pair : Pair) (n : Network) (w v : World) (k : ℕ) (side : Side) (p : Participant) (e : Held) → ((u : Side) → IsParticipant (at_side pair u) (end_at w u)) → p ≡ at_side pair side → landing w k ≡ Some (side, v)
     → IsEnd e n v side → IsPlaying (record { ends = with_side pair side (record p { endpoint = e }); network = n }) v
 lands_there laws pair n w v k side p e h is lands end =
     let l = lands_as w k side v lands in
-    let u : World = marked w k l.packet in
-    let s : State = end_of w side in
+    let u : World = marked_delivered w k l.packet in
+    let s : State = end_at w side in
     let b : List ℕ = l.packet.bytes in
-    let unmarked : (t : Side) → IsParticipant (at_side pair t) (end_of u t) = λ t. subst (λ (q : State). IsParticipant (at_side pair t) q) (sym (same_marked w k l.packet t)) (h t) in
-    let on : Continues (end_of u side) (after_receive s b) = subst (λ (q : State). Continues q (after_receive s b)) (sym (same_marked w k l.packet side)) (receive_continues laws s b) in
+    let unmarked : (t : Side) → IsParticipant (at_side pair t) (end_at u t) = λ t. subst (λ (q : State). IsParticipant (at_side pair t) q) (sym (same_marked w k l.packet t)) (h t) in
+    let on : Continues (end_at u side) (after_receive s b) = subst (λ (q : State). Continues q (after_receive s b)) (sym (same_marked w k l.packet side)) (receive_continues laws s b) in
     subst (λ (x : World). IsPlaying (record { ends = with_side pair side (record p { endpoint = e }); network = n }) x) l.world
     (acts_quietly pair n u side p e (after_receive s b) (option_to_list (receive_answer s b).reply) unmarked is on (subst (λ (x : World). IsEnd e n x side) (sym l.world) end))
 
@@ -88,7 +88,7 @@ no_landing None h = refl
 no_landing (Some l) h = absurd (cc)
 
 -- an end whose endpoint stands for what it stood for
-pub stays_there : (play : Play) (w : World) (side : Side) (p : Participant) (e : Held) → IsPlaying play w → IsParticipant p (end_of w side) → StandsFor e (end_of w side)
+pub stays_there : (play : Play) (w : World) (side : Side) (p : Participant) (e : Held) → IsPlaying play w → IsParticipant p (end_at w side) → StandsFor e (end_at w side)
     → IsPlaying (record play { ends = with_side play.ends side (record p { endpoint = e }) }) w
 stays_there play w side p e h here stands =
     acts play.ends play.network w w side (record p { endpoint = e }) h.ends refl (record { stands = stands; sent = here.sent; handed = here.handed }) h.network
@@ -112,7 +112,7 @@ played_none p setup h = record { stands = h; fits = All-nil IsEvent }
 
 -- after one event more
 pub played_more : (q : Play) (setup : Setup) (events : List Event) (k : ℕ) (e : Event) → k < length events → e ≡ get_or events k e
-    → IsPlaying q (happens (run (start setup) (take k events)) e) → IsEvent e → All IsEvent (take k events) → IsPlayed q setup (take (k + 1) events)
+    → IsPlaying q (happens (world_after (start setup) (take k events)) e) → IsEvent e → All IsEvent (take k events) → IsPlayed q setup (take (k + 1) events)
 played_more q setup events k e l is goes fits before =
     let more : take (k + 1) events ≡ take k events ++ e ∷ [] = take_more events k e l ∙ ap (λ (d : Event). take k events ++ d ∷ []) (sym is) in
     subst (IsPlayed q setup) (sym more) (record {
@@ -130,7 +130,7 @@ trace_of p w bag h is =
     let t : ItemTrace = item_trace w in
     let a = h.ends A in
     let b = h.ends B in
-    let bags : bag ≡ packets_of w = is ∙ ap (map sender_and_bytes) h.network.bag in
+    let bags : bag ≡ sent_packets w = is ∙ ap (map sender_and_bytes) h.network.bag in
     rw (a.sent, b.sent, a.handed, b.handed, bags) refl
 
 begins_along : (xs xs' ys ys' : List Item) → xs ≡ xs' → ys ≡ ys' → Begins xs' ys' → Begins xs ys
@@ -168,7 +168,7 @@ one_more f i ns ks false false is on = ap (λ (l : List ℕ). i ∷ l) on ∙ sy
 left_out_from : (w : World) (i : ℕ) (xs : List Emitted) → StandAt w i xs → unsettled w i xs ≡ filter (does_land w) (undelivered i xs)
 left_out_from w i [] stand = refl
 left_out_from w i (x ∷ xs) stand =
-    let alive : does_land w i ≡ not (has_passed w x) = ap (λ (o : Option Emitted). is_some (landed w i o)) (stand_first w i x xs stand) ∙ lands_alive (has_passed w x) (other x.side, answered w i x) in
+    let alive : does_land w i ≡ not (has_passed w x) = ap (λ (o : Option Emitted). is_some (landed w i o)) (stand_first w i x xs stand) ∙ lands_alive (has_passed w x) (other x.side, with_arrival w i x) in
     one_more (does_land w) i (unsettled w (i + 1) xs) (undelivered (i + 1) xs) x.delivered (has_passed w x) alive (left_out_from w (i + 1) xs (stand_rest w i x xs stand))
 
 pub left_out : (w : World) → unsettled w 0 w.bag ≡ filter (does_land w) (undelivered 0 w.bag)
@@ -182,7 +182,7 @@ passed_if false l is = absurd (cc)
 
 stays_away : (w : World) (i : ℕ) (x : Emitted) → slice_get w.bag i ≡ Some x → StaysAway w i
 stays_away w i x here = λ none v later.
-    let past = passed_if (has_passed w x) (other x.side, answered w i x) (sym (ap (landed w i) here) ∙ none) in
+    let past = passed_if (has_passed w x) (other x.side, with_arrival w i x) (sym (ap (landed w i) here) ∙ none) in
     lands_nowhere w v i x later here past
 
 stay_away_from : (w : World) (i : ℕ) (xs : List Emitted) → StandAt w i xs → All (StaysAway w) (undelivered i xs)

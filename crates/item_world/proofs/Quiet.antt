@@ -20,13 +20,13 @@ use Rattle.std.specs.Option.{option_to_list}
 use Rattle.std.proofs.lemmas.List.Elements.{All-head, All-tail}
 use Rattle.item_world.proofs.Sides.{same_end, same_other, same_marked, each_end, has_landed, noise_changes_nothing}
 use Rattle.item_world.specs.Channel.{IsQuiet, Accepts, HandsUp, Move, quiet, accepts, hands_up, IsHistory}
-use Rattle.item_world.specs.Events.{Step, IsStep, IsOther, arrival, noise, sending, taking, flushing, ticking, resending, telling, stepped, all_stepped}
+use Rattle.item_world.specs.Events.{SmallStep, IsStep, IsOther, arrival, noise, sending, taking, flushing, ticking, resending, telling, stepped, all_stepped}
 use Rattle.item_world.specs.Invariant.{Holds}
-use Rattle.item_world.specs.Landing.{answered, landing, reached}
+use Rattle.item_world.specs.Landing.{with_arrival, landing, world_reached}
 use Rattle.item_world.specs.Laws.{EachStepKeepsTheOrder}
 use Rattle.item_world.specs.Setup.{IsSetup, IsGood}
 use Rattle.item_world.specs.Side.{other}
-use Rattle.item_world.specs.World.{World, start, end_of, moved, sends, takes, marked, sent_at, handed_at, channel_of}
+use Rattle.item_world.specs.World.{World, start, end_at, moved, sends, takes, marked_delivered, sent_at, handed_at, channel_of}
 use Rattle.item_world.specs.declared.emitted.Emitted.{Emitted}
 use Rattle.item_world.specs.declared.setup.Setup.{Setup}
 use Rattle.item_world.specs.declared.side.Side.{Side}
@@ -117,16 +117,16 @@ Quiet w v = IsQuiet (channel_of w) (channel_of v)
 quiet_then : (u v w : World) → Quiet u v → Quiet v w → Quiet u w
 quiet_then u v w p q = record { accepted = λ side. q.accepted side ∙ p.accepted side; handed = λ side. q.handed side ∙ p.handed side }
 
-moved_quiet : (w : World) (side : Side) (t : State) (bs : List (List ℕ)) → Continues (end_of w side) t → (end_of w side).handed ≤ length (end_of w side).taken → Quiet w (moved w side t bs)
+moved_quiet : (w : World) (side : Side) (t : State) (bs : List (List ℕ)) → Continues (end_at w side) t → (end_at w side).handed ≤ length (end_at w side).taken → Quiet w (moved w side t bs)
 moved_quiet w side t bs c h = record {
   accepted = λ u. each_end w side t bs (λ v s. s.accepted ≡ sent_at w v) c.accepted u refl;
-  handed = λ u. each_end w side t bs (λ v s. take s.handed s.taken ≡ handed_at w v) (handed_same (end_of w side) t c h) u refl;
+  handed = λ u. each_end w side t bs (λ v s. take s.handed s.taken ≡ handed_at w v) (handed_same (end_at w side) t c h) u refl;
 }
 
-held_quiet : (w : World) (side : Side) (t : State) (bs : List (List ℕ)) → Holds w → Continues (end_of w side) t → Quiet w (moved w side t bs)
+held_quiet : (w : World) (side : Side) (t : State) (bs : List (List ℕ)) → Holds w → Continues (end_at w side) t → Quiet w (moved w side t bs)
 held_quiet w side t bs h c = moved_quiet w side t bs c (h.ends side).fits.bounds.handed_taken
 
-marked_quiet : (w : World) (k : ℕ) (x : Emitted) → Quiet w (marked w k x)
+marked_quiet : (w : World) (k : ℕ) (x : Emitted) → Quiet w (marked_delivered w k x)
 marked_quiet w k x = record {
   accepted = λ side. ap (λ (s : State). s.accepted) (same_marked w k x side);
   handed = λ side. ap (λ (s : State). take s.handed s.taken) (same_marked w k x side);
@@ -137,36 +137,36 @@ land_quiet laws w k l h e =
     let i = has_landed w k l e in
     let x : Emitted = i.packet in
     let side : Side = other x.side in
-    let v : World = marked w k x in
-    let within : (end_of v side).handed ≤ length (end_of v side).taken = subst (λ (s : State). s.handed ≤ length s.taken) (sym (same_marked w k x side)) (h.ends side).fits.bounds.handed_taken in
-    let on = moved_quiet v side (after_receive (end_of v side) x.bytes) (option_to_list (receive_answer (end_of v side) x.bytes).reply) (receive_continues laws (end_of v side) x.bytes) within in
-    subst (λ (m : Side × World). Quiet w m.1) i.leads (quiet_then w v (answered w k x) (marked_quiet w k x) on)
+    let v : World = marked_delivered w k x in
+    let within : (end_at v side).handed ≤ length (end_at v side).taken = subst (λ (s : State). s.handed ≤ length s.taken) (sym (same_marked w k x side)) (h.ends side).fits.bounds.handed_taken in
+    let on = moved_quiet v side (after_receive (end_at v side) x.bytes) (option_to_list (receive_answer (end_at v side) x.bytes).reply) (receive_continues laws (end_at v side) x.bytes) within in
+    subst (λ (m : Side × World). Quiet w m.1) i.leads (quiet_then w v (with_arrival w k x) (marked_quiet w k x) on)
 
 -- ---- the channel at first, and as no step changes it
 
 quiet_itself : (w : World) → Quiet w w
 quiet_itself w = record { accepted = λ side. refl; handed = λ side. refl }
 
-reached_quiet : EndLaws → (w : World) (k : ℕ) (o : Option (Side × World)) → landing w k ≡ o → Holds w → Quiet w (reached w o)
+reached_quiet : EndLaws → (w : World) (k : ℕ) (o : Option (Side × World)) → landing w k ≡ o → Holds w → Quiet w (world_reached w o)
 reached_quiet laws w k None e h = quiet_itself w
 reached_quiet laws w k (Some l) e h = land_quiet laws w k l h e
 
-pub other_quiet : EndLaws → (w : World) (s : Step) → IsOther s → Holds w → Quiet w (stepped w s)
+pub other_quiet : EndLaws → (w : World) (s : SmallStep) → IsOther s → Holds w → Quiet w (stepped w s)
 other_quiet laws w (arrival k) i h = reached_quiet laws w k (landing w k) refl h
 other_quiet laws w (noise side bytes) i h = subst (λ (v : World). Quiet w v) (sym (noise_changes_nothing laws w side bytes)) (quiet_itself w)
 other_quiet laws w (sending side x) i h = absurd i
 other_quiet laws w (taking side) i h = absurd i
-other_quiet laws w (flushing side) i h = held_quiet w side _ (flush_answer (end_of w side)) h (flush_continues laws (end_of w side))
-other_quiet laws w (ticking side) i h = held_quiet w side _ (tick_answer (end_of w side)) h (tick_continues laws (end_of w side))
-other_quiet laws w (resending side) i h = held_quiet w side _ (option_to_list (resend_answer (end_of w side))) h (resend_continues laws (end_of w side))
-other_quiet laws w (telling side asks) i h = held_quiet w side _ (option_to_list (told_answer (end_of w side) asks)) h (continues_itself (end_of w side))
+other_quiet laws w (flushing side) i h = held_quiet w side _ (flush_answer (end_at w side)) h (flush_continues laws (end_at w side))
+other_quiet laws w (ticking side) i h = held_quiet w side _ (tick_answer (end_at w side)) h (tick_continues laws (end_at w side))
+other_quiet laws w (resending side) i h = held_quiet w side _ (option_to_list (resend_answer (end_at w side))) h (resend_continues laws (end_at w side))
+other_quiet laws w (telling side asks) i h = held_quiet w side _ (option_to_list (told_answer (end_at w side) asks)) h (continues_itself (end_at w side))
 
 -- ---- an item is accepted, and one is handed up
 
-pub send_accepts : EndLaws → (w : World) (side : Side) (x : Item) → is_ok (send_answer (end_of w side) x) ≡ true → Accepts (channel_of w) (channel_of (sends w side x)) side x
+pub send_accepts : EndLaws → (w : World) (side : Side) (x : Item) → is_ok (send_answer (end_at w side) x) ≡ true → Accepts (channel_of w) (channel_of (sends w side x)) side x
 send_accepts laws w side x h =
-    let t : State = after_send (end_of w side) x in
-    let is = laws.accepts.accepted (end_of w side) x h in
+    let t : State = after_send (end_at w side) x in
+    let is = laws.accepts.accepted (end_at w side) x h in
     record {
       here = ap (λ (s : State). s.accepted) (same_end w side t [] ∙ is);
       there = ap (λ (s : State). s.accepted) (same_other w side t []);
@@ -174,12 +174,12 @@ send_accepts laws w side x h =
     }
 
 -- what is handed up begins what the other accepted, before and after
-pub take_hands_up : EndLaws → EachStepKeepsTheOrder → (w : World) (side : Side) (x : Item) → Holds w → take_answer (end_of w side) ≡ Some x → HandsUp (channel_of w) (channel_of (takes w side)) side x
+pub take_hands_up : EndLaws → EachStepKeepsTheOrder → (w : World) (side : Side) (x : Item) → Holds w → take_answer (end_at w side) ≡ Some x → HandsUp (channel_of w) (channel_of (takes w side)) side x
 take_hands_up laws keeps w side x holds h =
-    let t : State = after_take (end_of w side) in
-    let is = laws.hands_up.some (end_of w side) x h in
+    let t : State = after_take (end_at w side) in
+    let is = laws.hands_up.some (end_at w side) x h in
     let accepted : (u : Side) → sent_at (takes w side) u ≡ sent_at w u = λ u. each_end w side t [] (λ v s. s.accepted ≡ sent_at w v) (ap (λ (s : State). s.accepted) is) u refl in
-    let here : handed_at (takes w side) side ≡ handed_at w side ++ x ∷ [] = ap (λ (s : State). take s.handed s.taken) (same_end w side t [] ∙ is) ∙ laws.hands_up.more (end_of w side) x h in
+    let here : handed_at (takes w side) side ≡ handed_at w side ++ x ∷ [] = ap (λ (s : State). take s.handed s.taken) (same_end w side t [] ∙ is) ∙ laws.hands_up.more (end_at w side) x h in
     let after : Begins (handed_at (takes w side) side) (sent_at (takes w side) (other side)) = keeps.order (takes w side) side (keeps.each w (taking side) tt holds) in
     record {
       next = last_of (handed_at w side) x (sent_at w (other side))
@@ -191,19 +191,19 @@ take_hands_up laws keeps w side x holds h =
 
 -- ---- each step is a move
 
-send_moves : EndLaws → (w : World) (side : Side) (x : Item) (b : Bool) → is_ok (send_answer (end_of w side) x) ≡ b → Holds w → Move (channel_of w) (channel_of (sends w side x))
+send_moves : EndLaws → (w : World) (side : Side) (x : Item) (b : Bool) → is_ok (send_answer (end_at w side) x) ≡ b → Holds w → Move (channel_of w) (channel_of (sends w side x))
 send_moves laws w side x true ok h = accepts side x (send_accepts laws w side x ok)
 send_moves laws w side x false refused h =
-    quiet (held_quiet w side _ [] h (subst (λ (t : State). Continues (end_of w side) t) (sym (laws.accepts.refused (end_of w side) x refused)) (continues_itself (end_of w side))))
+    quiet (held_quiet w side _ [] h (subst (λ (t : State). Continues (end_at w side) t) (sym (laws.accepts.refused (end_at w side) x refused)) (continues_itself (end_at w side))))
 
-take_moves : EndLaws → EachStepKeepsTheOrder → (w : World) (side : Side) (o : Option Item) → take_answer (end_of w side) ≡ o → Holds w → Move (channel_of w) (channel_of (takes w side))
+take_moves : EndLaws → EachStepKeepsTheOrder → (w : World) (side : Side) (o : Option Item) → take_answer (end_at w side) ≡ o → Holds w → Move (channel_of w) (channel_of (takes w side))
 take_moves laws keeps w side (Some x) is h = hands_up side x (take_hands_up laws keeps w side x h is)
 take_moves laws keeps w side None is h =
-    quiet (held_quiet w side _ [] h (subst (λ (t : State). Continues (end_of w side) t) (sym (laws.hands_up.none (end_of w side) is)) (continues_itself (end_of w side))))
+    quiet (held_quiet w side _ [] h (subst (λ (t : State). Continues (end_at w side) t) (sym (laws.hands_up.none (end_at w side) is)) (continues_itself (end_at w side))))
 
-pub step_moves : EndLaws → EachStepKeepsTheOrder → (w : World) (s : Step) → Holds w → Move (channel_of w) (channel_of (stepped w s))
-step_moves laws keeps w (sending side x) h = send_moves laws w side x (is_ok (send_answer (end_of w side) x)) refl h
-step_moves laws keeps w (taking side) h = take_moves laws keeps w side (take_answer (end_of w side)) refl h
+pub step_moves : EndLaws → EachStepKeepsTheOrder → (w : World) (s : SmallStep) → Holds w → Move (channel_of w) (channel_of (stepped w s))
+step_moves laws keeps w (sending side x) h = send_moves laws w side x (is_ok (send_answer (end_at w side) x)) refl h
+step_moves laws keeps w (taking side) h = take_moves laws keeps w side (take_answer (end_at w side)) refl h
 step_moves laws keeps w (arrival k) h = quiet (other_quiet laws w (arrival k) tt h)
 step_moves laws keeps w (noise side bytes) h = quiet (other_quiet laws w (noise side bytes) tt h)
 step_moves laws keeps w (flushing side) h = quiet (other_quiet laws w (flushing side) tt h)
@@ -213,13 +213,13 @@ step_moves laws keeps w (telling side asks) h = quiet (other_quiet laws w (telli
 
 -- ---- steps are a history
 
-moves_on : EndLaws → EachStepKeepsTheOrder → (w : World) (ss : List Step) (n : ℕ) → All IsStep ss → Holds w → Move (channel_of (all_stepped w (take n ss))) (channel_of (all_stepped w (take (suc n) ss)))
+moves_on : EndLaws → EachStepKeepsTheOrder → (w : World) (ss : List SmallStep) (n : ℕ) → All IsStep ss → Holds w → Move (channel_of (all_stepped w (take n ss))) (channel_of (all_stepped w (take (suc n) ss)))
 moves_on laws keeps w [] zero fits h = quiet (quiet_itself w)
 moves_on laws keeps w [] (suc n) fits h = quiet (quiet_itself w)
 moves_on laws keeps w (s ∷ ss) zero fits h = step_moves laws keeps w s h
 moves_on laws keeps w (s ∷ ss) (suc n) fits h = moves_on laws keeps (stepped w s) ss n (All-tail IsStep s ss fits) (keeps.each w s (All-head IsStep s ss fits) h)
 
-pub history : EndLaws → EachStepKeepsTheOrder → (setup : Setup) (steps : List Step) → IsSetup setup → IsGood setup → All IsStep steps → IsHistory (λ n. channel_of (all_stepped (start setup) (take n steps)))
+pub history : EndLaws → EachStepKeepsTheOrder → (setup : Setup) (steps : List SmallStep) → IsSetup setup → IsGood setup → All IsStep steps → IsHistory (λ n. channel_of (all_stepped (start setup) (take n steps)))
 history laws keeps setup steps fits good given = record {
   accepted = λ side. elim side as (λ t. sent_at (start setup) t ≡ []) [ A ↦ refl | B ↦ refl ];
   handed = λ side. elim side as (λ t. handed_at (start setup) t ≡ []) [ A ↦ refl | B ↦ refl ];

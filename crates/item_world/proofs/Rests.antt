@@ -24,9 +24,9 @@ use Rattle.item_world.specs.EndLaws.{EndLaws}
 use Rattle.item_world.specs.Events.{ticking, taking, delivery_steps, delivers, undelivered}
 use Rattle.item_world.specs.Later.{Later}
 use Rattle.item_world.specs.Invariant.{Holds}
-use Rattle.item_world.specs.Landing.{answered, landing}
+use Rattle.item_world.specs.Landing.{with_arrival, landing}
 use Rattle.item_world.specs.Side.{other}
-use Rattle.item_world.specs.World.{World, end_of, moved, marked, flushes, ticks, takes}
+use Rattle.item_world.specs.World.{World, end_at, moved, marked_delivered, flushes, ticks, takes}
 use Rattle.item_world.specs.declared.emitted.Emitted.{Emitted}
 use Rattle.item_world.specs.declared.event.Event.TheVariants.{Deliver}
 use Rattle.item_world.specs.declared.side.Side.{Side}
@@ -120,7 +120,7 @@ receive_goes laws s b =
 -- ---- a world of two such ends
 
 abbrev EndsGo : ℕ → World → World → Type 0
-EndsGo most w v = (side : Side) → EndGoes most (end_of w side) (end_of v side)
+EndsGo most w v = (side : Side) → EndGoes most (end_at w side) (end_at v side)
 
 pub record Ahead (most : ℕ) (w v : World) : Type 0 where
   pub both : Both v
@@ -128,18 +128,18 @@ pub record Ahead (most : ℕ) (w v : World) : Type 0 where
   pub ends : EndsGo most w v
 
 pub ahead_itself : (most : ℕ) (w : World) → Both w → Ahead most w w
-ahead_itself most w b = record { both = b; later = later_itself w; ends = λ side. goes_itself most (end_of w side) }
+ahead_itself most w b = record { both = b; later = later_itself w; ends = λ side. goes_itself most (end_at w side) }
 
 pub ahead_then : (m n : ℕ) (u v w : World) → Ahead m u v → Ahead n v w → Ahead (m + n) u w
 ahead_then m n u v w a b = record {
   both = b.both;
   later = later_then u v w a.later b.later;
-  ends = λ side. goes_then m n (end_of u side) (end_of v side) (end_of w side) (a.ends side) (b.ends side);
+  ends = λ side. goes_then m n (end_at u side) (end_at v side) (end_at w side) (a.ends side) (b.ends side);
 }
 
-moved_ends : (most : ℕ) (w : World) (side : Side) (s : State) (bs : List (List ℕ)) → EndGoes most (end_of w side) s
+moved_ends : (most : ℕ) (w : World) (side : Side) (s : State) (bs : List (List ℕ)) → EndGoes most (end_at w side) s
     → EndsGo most w (moved w side s bs)
-moved_ends most w side s bs h t = each_end w side s bs (λ u y. EndGoes most (end_of w u) y) h t (goes_itself most (end_of w t))
+moved_ends most w side s bs h t = each_end w side s bs (λ u y. EndGoes most (end_at w u) y) h t (goes_itself most (end_at w t))
 
 same_goes : (s t : State) → t ≡ s → EndGoes 0 s t
 same_goes s t e = subst (EndGoes 0 s) (sym e) (goes_itself 0 s)
@@ -148,20 +148,20 @@ land_ends : EndLaws → (w : World) (k : ℕ) (l : Side × World) → landing w 
 land_ends laws w k l e =
     let i = has_landed w k l e in
     let x : Emitted = i.packet in
-    let v : World = marked w k x in
-    let s : State = end_of v (other x.side) in
-    let more : EndsGo 0 v (answered w k x) =
+    let v : World = marked_delivered w k x in
+    let s : State = end_at v (other x.side) in
+    let more : EndsGo 0 v (with_arrival w k x) =
     moved_ends 0 v (other x.side) (after_receive s x.bytes) (option_to_list (receive_answer s x.bytes).reply) (receive_goes laws s x.bytes) in
     subst (λ (m : Side × World). EndsGo 0 w m.1) i.leads
-    (λ t. goes_then 0 0 (end_of w t) (end_of v t) (end_of (answered w k x) t) (same_goes (end_of w t) (end_of v t) (same_marked w k x t)) (more t))
+    (λ t. goes_then 0 0 (end_at w t) (end_at v t) (end_at (with_arrival w k x) t) (same_goes (end_at w t) (end_at v t) (same_marked w k x t)) (more t))
 
 deliver_ends : Kept → (w : World) (k : ℕ) (o : Option (Side × World)) → landing w k ≡ o → Both w → EndsGo 0 w (flushed w o)
-deliver_ends kept w k None e b t = goes_itself 0 (end_of w t)
+deliver_ends kept w k None e b t = goes_itself 0 (end_at w t)
 deliver_ends kept w k (Some l) e b t =
     let v : World = l.1 in
     let now : Holds v = kept.order.land w k l b.holds e in
-    let s : State = end_of v l.0 in
-    goes_then 0 0 (end_of w t) (end_of v t) (end_of (flushes v l.0) t) (land_ends kept.laws w k l e t)
+    let s : State = end_at v l.0 in
+    goes_then 0 0 (end_at w t) (end_at v t) (end_at (flushes v l.0) t) (land_ends kept.laws w k l e t)
     (moved_ends 0 v l.0 (after_flush s) (flush_answer s) (flush_goes kept.laws s (now.ends l.0).fits) t)
 
 pub deliver_ahead : Kept → (w : World) (k : ℕ) → Both w → Ahead 0 w (delivers w k)
@@ -179,7 +179,7 @@ fold_ahead kept w (k ∷ ks) b =
 
 pub tick_ahead : Kept → (w : World) (side : Side) → Both w → Ahead 0 w (ticks w side)
 tick_ahead kept w side b =
-    let s : State = end_of w side in
+    let s : State = end_at w side in
     record {
       both = record { holds = kept.order.each w (ticking side) tt b.holds; linked = kept.links w (ticking side) tt b.holds b.linked };
       later = all_later kept.laws w (ticking side ∷ []);
@@ -188,7 +188,7 @@ tick_ahead kept w side b =
 
 pub take_ahead : Kept → (w : World) (side : Side) → Both w → Ahead 1 w (takes w side)
 take_ahead kept w side b =
-    let s : State = end_of w side in
+    let s : State = end_at w side in
     record {
       both = record { holds = kept.order.each w (taking side) tt b.holds; linked = kept.links w (taking side) tt b.holds b.linked };
       later = all_later kept.laws w (taking side ∷ []);
@@ -210,8 +210,8 @@ lands_kept : (w : World) (k j : ℕ) (x : Emitted) (o : Option (Side × World)) 
 lands_kept w k j x None e lt h = h
 lands_kept w k j x (Some l) e lt h =
     let i = has_landed w k l e in
-    let marks : World = marked w k i.packet in
-    let there : slice_get (answered w k i.packet).bag j ≡ Some x = front_get marks.bag _ j x (get_set w.bag k j _ x lt h) in
+    let marks : World = marked_delivered w k i.packet in
+    let there : slice_get (with_arrival w k i.packet).bag j ≡ Some x = front_get marks.bag _ j x (get_set w.bag k j _ x lt h) in
     front_get l.1.bag _ j x (subst (λ (m : Side × World). slice_get m.1.bag j ≡ Some x) i.leads there)
 
 fold_kept : (w : World) (ks : List ℕ) (j : ℕ) (x : Emitted) → All (λ n. n < j) ks → slice_get w.bag j ≡ Some x

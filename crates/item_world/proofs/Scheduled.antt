@@ -15,11 +15,11 @@ use Rattle.item_world.proofs.Rests.{EndGoes, Ahead, ahead_itself, ahead_then, fo
 use Rattle.item_world.proofs.Rounds.{ticked_both, turn, round_is, both_pair, Ticks, tick_of, turn_ahead, waits_moves, Came, rest_comes, Offer, ask, IsTold, tell}
 use Rattle.item_world.proofs.Sides.{same_end, same_other}
 use Rattle.item_world.proofs.Ways.{way_on, TickSends, tick_sends_item}
-use Rattle.item_world.specs.Events.{IsEvent, delivers, undelivered, run}
-use Rattle.item_world.specs.Invariant.{Stands, Holds}
+use Rattle.item_world.specs.Events.{IsEvent, delivers, undelivered, world_after}
+use Rattle.item_world.specs.Invariant.{StandsBesidePeer, Holds}
 use Rattle.item_world.specs.Progress.{Linked, pending, IsDone, rounds, FinishesInRounds}
 use Rattle.item_world.specs.Side.{other}
-use Rattle.item_world.specs.World.{World, start, end_of, emitted, ticks}
+use Rattle.item_world.specs.World.{World, start, end_at, emitted, ticks}
 use Rattle.item_world.specs.declared.event.Event.{Event}
 use Rattle.item_world.specs.declared.setup.Setup.{Setup}
 use Rattle.item_world.specs.declared.side.Side.{Side}
@@ -35,37 +35,37 @@ takes_next k p bytes n true h le takes =
 takes_next k p bytes n false h le takes = omega (arith, le, takes (ltb-false n (length p.taken) h))
 
 -- the next item of a side is its first that is not acknowledged
-sends_next : Kept → (w : World) (side : Side) (n : ℕ) (b : Both w) (t : Ticks w side) → IsTold (end_of w side) n
-    → (end_of w (other side)).handed ≡ n
-    → n < length (end_of w side).accepted → length (end_of t.before (other side)).taken ≤ n
-    → n < length (end_of (rested (ticked_both w)) (other side)).taken
+sends_next : Kept → (w : World) (side : Side) (n : ℕ) (b : Both w) (t : Ticks w side) → IsTold (end_at w side) n
+    → (end_at w (other side)).handed ≡ n
+    → n < length (end_at w side).accepted → length (end_at t.before (other side)).taken ≤ n
+    → n < length (end_at (rested (ticked_both w)) (other side)).taken
 sends_next kept w side n b t told is left none =
     let w1 : World = t.before in
     let w2 : World = ticked_both w in
-    let s : State = end_of w1 side in
-    let p : State = end_of w1 (other side) in
+    let s : State = end_at w1 side in
+    let p : State = end_at w1 (other side) in
     let x : Pair w1 side s p = both_pair w1 side t.ahead.both in
     let now : IsTold s n = subst (λ (y : State). IsTold y n) (sym t.here) told in
     let left_here : n < length s.accepted = subst (λ (y : State). n < length y.accepted) (sym t.here) left in
-    let there_now : Stands s p = stands w1 side s p x in
+    let there_now : StandsBesidePeer s p = stands w1 side s p x in
     let next : s.acknowledged ≡ n = omega (arith, now.acknowledged, there_now.acknowledged, none) in
     let few = there_now.fits.bounds.accepted_most in
     let may : s.acknowledged < send_limit s = omega (arith, next, now.allowed (omega (arith, left_here, few)), left_here, few) in
     let a : TickSends w1 side s p = tick_sends_item kept w1 side s p x now.ready may (omega (arith, next, left_here)) in
     let k : ℕ = length w1.bag in
     let q : SppPacketModel = a.packet in
-    let here : EndGoes 0 (after_tick s) (end_of w2 side) =
-    subst (λ (y : State). EndGoes 0 y (end_of w2 side)) (same_end w1 side (after_tick s) (tick_answer s)) (t.after.ends side) in
-    let there : EndGoes 0 p (end_of w2 (other side)) =
-    subst (λ (y : State). EndGoes 0 y (end_of w2 (other side))) (same_other w1 side (after_tick s) (tick_answer s)) (t.after.ends (other side)) in
-    let way = way_on (ticks w1 side).bag w2.bag side (after_tick s) (end_of w2 side) p (end_of w2 (other side)) k q (own_meant s s.acknowledged) s.handed p.handed 0 here there a.way
+    let here : EndGoes 0 (after_tick s) (end_at w2 side) =
+    subst (λ (y : State). EndGoes 0 y (end_at w2 side)) (same_end w1 side (after_tick s) (tick_answer s)) (t.after.ends side) in
+    let there : EndGoes 0 p (end_at w2 (other side)) =
+    subst (λ (y : State). EndGoes 0 y (end_at w2 (other side))) (same_other w1 side (after_tick s) (tick_answer s)) (t.after.ends (other side)) in
+    let way = way_on (ticks w1 side).bag w2.bag side (after_tick s) (end_at w2 side) p (end_at w2 (other side)) k q (own_meant s s.acknowledged) s.handed p.handed 0 here there a.way
     (t.keeps k (emitted side a.way.at (spp_packet_spelling q)) a.way.is) in
     let both : Both w2 = t.after.both in
     let c : Came w2 side k q (own_meant s s.acknowledged) =
-    rest_comes kept w2 side (end_of w2 side) (end_of w2 (other side)) k q (own_meant s s.acknowledged) s.handed p.handed both (both_pair w2 side both) way
+    rest_comes kept w2 side (end_at w2 side) (end_at w2 (other side)) k q (own_meant s s.acknowledged) s.handed p.handed both (both_pair w2 side both) way
     (omega (arith, here.handed, (kept.laws.stays.tick s).handed)) (omega (arith, there.handed)) in
     let u : World = c.at in
-    let pu : State = end_of u (other side) in
+    let pu : State = end_at u (other side) in
     let bytes : List ℕ = spp_packet_spelling q in
     let o : State = after_receive pu bytes in
     let handed : n ≤ pu.handed =
@@ -75,15 +75,15 @@ sends_next kept w side n b t told is left none =
     c.come.counts.takes a.brings (omega (arith, next, le, handed, fits.bounds.handed_taken))
     (omega (arith, le, handed, fits.ends.window_least, left_here, few)) in
     let more : n < length o.taken = takes_next kept pu bytes n (nat_lt n (length pu.taken)) refl (omega (arith, handed, fits.bounds.handed_taken)) takes in
-    let same : length (end_of (delivers u k) (other side)).taken ≡ length o.taken =
+    let same : length (end_at (delivers u k) (other side)).taken ≡ length o.taken =
     ap (λ (y : State). length y.taken) c.come.pair.there ∙ ap (length {A = Item}) (kept.laws.hears.flush o).taken in
     let grew = (c.after.ends (other side)).grows.taken in
-    omega (arith, more, same, begins_length (end_of (delivers u k) (other side)).taken (end_of (rested w2) (other side)).taken grew)
+    omega (arith, more, same, begins_length (end_at (delivers u k) (other side)).taken (end_at (rested w2) (other side)).taken grew)
 
 waits_by : Kept → (w : World) (side : Side) (n : ℕ) (b : Both w) (t : Ticks w side) (c : Bool)
-    → nat_lt n (length (end_of t.before (other side)).taken) ≡ c
-    → IsTold (end_of w side) n → (end_of w (other side)).handed ≡ n → n < length (end_of w side).accepted
-    → n < length (end_of (rested (ticked_both w)) (other side)).taken
+    → nat_lt n (length (end_at t.before (other side)).taken) ≡ c
+    → IsTold (end_at w side) n → (end_at w (other side)).handed ≡ n → n < length (end_at w side).accepted
+    → n < length (end_at (rested (ticked_both w)) (other side)).taken
 waits_by kept w side n b t true h told is left =
     let w1 : World = t.before in
     let w2 : World = ticked_both w in
@@ -92,34 +92,34 @@ waits_by kept w side n b t true h told is left =
     let last : Ahead 0 w1 (rested w2) = ahead_then 0 0 w1 w2 (rested w2) on (fold_ahead kept w2 (undelivered 0 w2.bag) on.both) in
     omega (
       arith,
-      ltb-true n (length (end_of w1 (other side)).taken) h,
-      begins_length (end_of w1 (other side)).taken (end_of (rested w2) (other side)).taken (last.ends (other side)).grows.taken,
+      ltb-true n (length (end_at w1 (other side)).taken) h,
+      begins_length (end_at w1 (other side)).taken (end_at (rested w2) (other side)).taken (last.ends (other side)).grows.taken,
     )
 waits_by kept w side n b t false h told is left =
-    sends_next kept w side n b t told is left (ltb-false n (length (end_of t.before (other side)).taken) h)
+    sends_next kept w side n b t told is left (ltb-false n (length (end_at t.before (other side)).taken) h)
 
-next_moves : Kept → (w : World) (side : Side) (n : ℕ) → Both w → IsTold (end_of w side) n
-    → (end_of w (other side)).handed ≡ n
-    → n < length (end_of w side).accepted → n < (end_of (turn w) (other side)).handed
+next_moves : Kept → (w : World) (side : Side) (n : ℕ) → Both w → IsTold (end_at w side) n
+    → (end_at w (other side)).handed ≡ n
+    → n < length (end_at w side).accepted → n < (end_at (turn w) (other side)).handed
 next_moves kept w side n b told is left =
     let t : Ticks w side = tick_of kept w side b in
-    let waits = waits_by kept w side n b t (nat_lt n (length (end_of t.before (other side)).taken)) refl told is left in
+    let waits = waits_by kept w side n b t (nat_lt n (length (end_at t.before (other side)).taken)) refl told is left in
     omega (arith, is, waits_moves kept w side b (omega (arith, is, waits)))
 
 -- ---- three rounds
 
-three_after : Kept → (w : World) (side : Side) (n : ℕ) (b : Bool) → nat_lt n (end_of w (other side)).handed ≡ b → Both w
-    → IsTold (end_of w side) n
-    → n ≤ (end_of w (other side)).handed → n < length (end_of w side).accepted → n < (end_of (turn w) (other side)).handed
+three_after : Kept → (w : World) (side : Side) (n : ℕ) (b : Bool) → nat_lt n (end_at w (other side)).handed ≡ b → Both w
+    → IsTold (end_at w side) n
+    → n ≤ (end_at w (other side)).handed → n < length (end_at w side).accepted → n < (end_at (turn w) (other side)).handed
 three_after kept w side n true h b told le left =
-    omega (arith, ltb-true n (end_of w (other side)).handed h, ((turn_ahead kept w b).ends (other side)).grows.handed)
+    omega (arith, ltb-true n (end_at w (other side)).handed h, ((turn_ahead kept w b).ends (other side)).grows.handed)
 three_after kept w side n false h b told le left =
-    next_moves kept w side n b told (omega (arith, le, ltb-false n (end_of w (other side)).handed h)) left
+    next_moves kept w side n b told (omega (arith, le, ltb-false n (end_at w (other side)).handed h)) left
 
 three_by : Kept → (w : World) (side : Side) (b : Bool)
-    → nat_lt (end_of w (other side)).handed (length (end_of w (other side)).taken) ≡ b → Both w
-    → (end_of w (other side)).handed < length (end_of w side).accepted
-    → (end_of w (other side)).handed < (end_of (turn (turn (turn w))) (other side)).handed
+    → nat_lt (end_at w (other side)).handed (length (end_at w (other side)).taken) ≡ b → Both w
+    → (end_at w (other side)).handed < length (end_at w side).accepted
+    → (end_at w (other side)).handed < (end_at (turn (turn (turn w))) (other side)).handed
 three_by kept w side true h b left =
     let w1 : World = turn w in
     let w2 : World = turn w1 in
@@ -130,14 +130,14 @@ three_by kept w side true h b left =
     let both = tick_ahead kept (ticks w A) B ticked.both in
     let u : World = ticked_both w in
     let rest = fold_ahead kept u (undelivered 0 u.bag) both.both in
-    let p : State = end_of w (other side) in
-    let waits : p.handed < length (end_of (rested u) (other side)).taken =
+    let p : State = end_at w (other side) in
+    let waits : p.handed < length (end_at (rested u) (other side)).taken =
     omega (
       arith,
       ltb-true p.handed (length p.taken) h,
-      begins_length p.taken (end_of (ticks w A) (other side)).taken (ticked.ends (other side)).grows.taken,
-      begins_length (end_of (ticks w A) (other side)).taken (end_of u (other side)).taken (both.ends (other side)).grows.taken,
-      begins_length (end_of u (other side)).taken (end_of (rested u) (other side)).taken (rest.ends (other side)).grows.taken,
+      begins_length p.taken (end_at (ticks w A) (other side)).taken (ticked.ends (other side)).grows.taken,
+      begins_length (end_at (ticks w A) (other side)).taken (end_at u (other side)).taken (both.ends (other side)).grows.taken,
+      begins_length (end_at u (other side)).taken (end_at (rested u) (other side)).taken (rest.ends (other side)).grows.taken,
     ) in
     omega (arith, waits_moves kept w side b waits, (second.ends (other side)).grows.handed, (third.ends (other side)).grows.handed)
 three_by kept w side false h b left =
@@ -145,14 +145,14 @@ three_by kept w side false h b left =
     let w2 : World = turn w1 in
     let first = turn_ahead kept w b in
     let second = turn_ahead kept w1 first.both in
-    let p : State = end_of w (other side) in
-    let s : State = end_of w side in
+    let p : State = end_at w (other side) in
+    let s : State = end_at w side in
     let asks : s.acknowledged < length s.accepted =
     omega (arith, (b.holds.ends side).acknowledged, ltb-false p.handed (length p.taken) h, left) in
     let f : Offer w1 side p.handed s.handed = ask kept w side b asks p.handed s.handed refl refl in
-    let told : IsTold (end_of w2 side) p.handed =
+    let told : IsTold (end_at w2 side) p.handed =
     tell kept w1 side p.handed s.handed first.both f (omega (arith, (first.ends (other side)).handed)) (omega (arith, (first.ends side).handed)) in
-    three_after kept w2 side p.handed (nat_lt p.handed (end_of w2 (other side)).handed) refl second.both told
+    three_after kept w2 side p.handed (nat_lt p.handed (end_at w2 (other side)).handed) refl second.both told
     (omega (arith, (first.ends (other side)).grows.handed, (second.ends (other side)).grows.handed))
     (omega (arith, left, ap (length {A = Item}) (first.ends side).accepted, ap (length {A = Item}) (second.ends side).accepted))
 
@@ -189,18 +189,18 @@ three_turns kept w b =
 
 -- a side's items are all handed up, and acknowledged two rounds later
 record Reached (w v : World) (side : Side) : Type 0 where
-  handed : length (end_of w side).accepted ≤ (end_of v (other side)).handed
-  acknowledged : length (end_of w side).accepted ≤ (end_of v side).acknowledged
+  handed : length (end_at w side).accepted ≤ (end_at v (other side)).handed
+  acknowledged : length (end_at w side).accepted ≤ (end_at v side).acknowledged
 
 settle : Kept → (n : ℕ) (w : World) (side : Side) (b : Bool)
-    → nat_lt (end_of w side).acknowledged (length (end_of w side).accepted) ≡ b → Both w
-    → length (end_of w side).accepted ≤ (end_of w (other side)).handed → 2 ≤ n → Reached w (turns n w) side
+    → nat_lt (end_at w side).acknowledged (length (end_at w side).accepted) ≡ b → Both w
+    → length (end_at w side).accepted ≤ (end_at w (other side)).handed → 2 ≤ n → Reached w (turns n w) side
 unfolding turns
 settle kept zero w side c h b all le = absurd (omega (arith, le))
 settle kept (suc zero) w side c h b all le = absurd (omega (arith, le))
 settle kept (suc (suc n)) w side false h b all le =
     let g = (turns_ahead kept (suc (suc n)) w b).ahead in
-    let s : State = end_of w side in
+    let s : State = end_at w side in
     record {
       handed = omega (arith, all, (g.ends (other side)).grows.handed);
       acknowledged = omega (arith, ltb-false s.acknowledged (length s.accepted) h, (g.ends side).grows.acknowledged);
@@ -210,10 +210,10 @@ settle kept (suc (suc n)) w side true h b all le =
     let w2 : World = turn w1 in
     let first = turn_ahead kept w b in
     let second = turn_ahead kept w1 first.both in
-    let p : State = end_of w (other side) in
-    let s : State = end_of w side in
+    let p : State = end_at w (other side) in
+    let s : State = end_at w side in
     let f : Offer w1 side p.handed s.handed = ask kept w side b (ltb-true s.acknowledged (length s.accepted) h) p.handed s.handed refl refl in
-    let told : IsTold (end_of w2 side) p.handed =
+    let told : IsTold (end_at w2 side) p.handed =
     tell kept w1 side p.handed s.handed first.both f (omega (arith, (first.ends (other side)).handed)) (omega (arith, (first.ends side).handed)) in
     let g = (turns_ahead kept n w2 second.both).ahead in
     record {
@@ -222,24 +222,24 @@ settle kept (suc (suc n)) w side true h b all le =
     }
 
 reaches : Kept → (d n : ℕ) (w : World) (side : Side) (b : Bool)
-    → nat_lt (end_of w (other side)).handed (length (end_of w side).accepted) ≡ b → Both w
-    → length (end_of w side).accepted ≤ (end_of w (other side)).handed + d → 3 * d + 2 ≤ n → Reached w (turns n w) side
+    → nat_lt (end_at w (other side)).handed (length (end_at w side).accepted) ≡ b → Both w
+    → length (end_at w side).accepted ≤ (end_at w (other side)).handed + d → 3 * d + 2 ≤ n → Reached w (turns n w) side
 unfolding turns
 reaches kept d n w side false h b few le =
-    let s : State = end_of w side in
-    settle kept n w side (nat_lt s.acknowledged (length s.accepted)) refl b (ltb-false (end_of w (other side)).handed (length s.accepted) h) (omega (arith, le))
-reaches kept zero n w side true h b few le = absurd (omega (arith, few, ltb-true (end_of w (other side)).handed (length (end_of w side).accepted) h))
+    let s : State = end_at w side in
+    settle kept n w side (nat_lt s.acknowledged (length s.accepted)) refl b (ltb-false (end_at w (other side)).handed (length s.accepted) h) (omega (arith, le))
+reaches kept zero n w side true h b few le = absurd (omega (arith, few, ltb-true (end_at w (other side)).handed (length (end_at w side).accepted) h))
 reaches kept (suc d) zero w side true h b few le = absurd (omega (arith, le))
 reaches kept (suc d) (suc zero) w side true h b few le = absurd (omega (arith, le))
 reaches kept (suc d) (suc (suc zero)) w side true h b few le = absurd (omega (arith, le))
 reaches kept (suc d) (suc (suc (suc n))) w side true h b few le =
     let v : World = turn (turn (turn w)) in
     let on : Ahead 6 w v = three_turns kept w b in
-    let left = ltb-true (end_of w (other side)).handed (length (end_of w side).accepted) h in
-    let more = three_by kept w side (nat_lt (end_of w (other side)).handed (length (end_of w (other side)).taken)) refl b left in
-    let same : length (end_of v side).accepted ≡ length (end_of w side).accepted = ap (length {A = Item}) (on.ends side).accepted in
+    let left = ltb-true (end_at w (other side)).handed (length (end_at w side).accepted) h in
+    let more = three_by kept w side (nat_lt (end_at w (other side)).handed (length (end_at w (other side)).taken)) refl b left in
+    let same : length (end_at v side).accepted ≡ length (end_at w side).accepted = ap (length {A = Item}) (on.ends side).accepted in
     let r : Reached v (turns n v) side =
-    reaches kept d n v side (nat_lt (end_of v (other side)).handed (length (end_of v side).accepted)) refl on.both (omega (arith, few, more, same)) (omega (arith, le)) in
+    reaches kept d n v side (nat_lt (end_at v (other side)).handed (length (end_at v side).accepted)) refl on.both (omega (arith, few, more, same)) (omega (arith, le)) in
     record { handed = omega (arith, same, r.handed); acknowledged = omega (arith, same, r.acknowledged) }
 
 enough : (w : World) (n : ℕ) (side : Side) → 3 * (pending w A + pending w B + 1) ≤ n → 3 * pending w side + 2 ≤ n
@@ -251,7 +251,7 @@ in_turns kept w n b le =
     let v : World = turns n w in
     let g = (turns_ahead kept n w b).ahead in
     let r : (side : Side) → Reached w v side = λ side.
-    reaches kept (pending w side) n w side (nat_lt (end_of w (other side)).handed (length (end_of w side).accepted)) refl b (omega (arith)) (enough w n side le) in
+    reaches kept (pending w side) n w side (nat_lt (end_at w (other side)).handed (length (end_at w side).accepted)) refl b (omega (arith)) (enough w n side le) in
     let works : Ongoing w v = λ side. let e = g.ends side in record { accepted = e.accepted; handed = e.grows.handed; acknowledged = e.grows.acknowledged } in
     all_done kept w v g.both works (λ side. (r side).handed) (λ side. (r side).acknowledged)
 
@@ -261,7 +261,7 @@ finishes_in_rounds kept w holds linked n le = subst (IsDone w) (sym (rounds_are 
 -- whatever was before
 pub always_in_rounds : Kept → (setup : Setup) (events : List Event) → Holds (start setup) → Linked (start setup)
     → All IsEvent events
-    → FinishesInRounds (run (start setup) events)
+    → FinishesInRounds (world_after (start setup) events)
 always_in_rounds kept setup events h l fits =
-    let b : Both (run (start setup) events) = events_after kept (start setup) events fits (record { holds = h; linked = l }) in
-    finishes_in_rounds kept (run (start setup) events) b.holds b.linked
+    let b : Both (world_after (start setup) events) = events_after kept (start setup) events fits (record { holds = h; linked = l }) in
+    finishes_in_rounds kept (world_after (start setup) events) b.holds b.linked

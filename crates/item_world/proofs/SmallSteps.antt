@@ -4,7 +4,7 @@ use Rattle.std.specs.Prelude.{All}
 use Rattle.std.proofs.lemmas.List.Elements.{All-nil, All-append, All-head, All-tail, All-cons}
 use Rattle.std.proofs.lemmas.List.Sums.{fold-append}
 use Rattle.item_world.proofs.Onward.{Kept}
-use Rattle.item_world.specs.Events.{Step, IsStep, arrival, taking, flushing, ticking, stepped, all_stepped, steps_of, happens, run, arrival_steps}
+use Rattle.item_world.specs.Events.{SmallStep, IsStep, arrival, taking, flushing, ticking, stepped, all_stepped, steps_of, happens, world_after, arrival_steps}
 use Rattle.item_world.specs.Invariant.{Holds}
 use Rattle.item_world.specs.Landing.{landing}
 use Rattle.item_world.specs.Progress.{IsPlainStep, IsDone, pending, Finishes, Linked, IsFurther, FinishesByEvents}
@@ -17,21 +17,21 @@ use Rattle.item_world.specs.declared.event.Event.TheVariants.{Deliver, Rest, Tic
 use Rattle.item_world.proofs.Finishing.{Both, both_after, finishes_by}
 
 -- the small steps of events, each in the world that those before lead to
-steps_along : World → List Event → List Step
+steps_along : World → List Event → List SmallStep
 steps_along w [] = []
 steps_along w (e ∷ es) = steps_of w e ++ steps_along (happens w e) es
 
-along_run : (w : World) (es : List Event) → all_stepped w (steps_along w es) ≡ run w es
+along_run : (w : World) (es : List Event) → all_stepped w (steps_along w es) ≡ world_after w es
 unfolding steps_along
 along_run w [] = refl
 along_run w (e ∷ es) = fold-append stepped w (steps_of w e) (steps_along (happens w e) es) ∙ along_run (happens w e) es
 
 -- an event is of two small steps at most
-record IsPair (n : ℕ) (ss : List Step) : Type 0 where
+record IsPair (n : ℕ) (ss : List SmallStep) : Type 0 where
   plain : All (IsPlainStep n) ss
   few : length ss ≤ 2
 
-one_plain : (n : ℕ) (s : Step) → IsPlainStep n s → IsPair n (s ∷ [])
+one_plain : (n : ℕ) (s : SmallStep) → IsPlainStep n s → IsPair n (s ∷ [])
 one_plain n s h = record { plain = All-cons (IsPlainStep n) s [] h (All-nil (IsPlainStep n)); few = omega arith }
 
 delivery_plain : (n k : ℕ) (o : Option (Side × World)) → n ≤ k → IsPair n (arrival_steps k o)
@@ -49,7 +49,7 @@ event_plain n w (Foreign side bytes) h = absurd h
 event_plain n w (Send side x) h = absurd h
 event_plain n w (Take side) h = one_plain n (taking side) tt
 
-record AreFew (n : ℕ) (ss : List Step) (most : ℕ) : Type 0 where
+record AreFew (n : ℕ) (ss : List SmallStep) (most : ℕ) : Type 0 where
   plain : All (IsPlainStep n) ss
   few : length ss ≤ 2 * most
 
@@ -80,7 +80,7 @@ by_events_finishes w f =
 pub finishes : Kept → (w : World) → Holds w → Linked w → Finishes w
 finishes k w h l = by_events_finishes w (finishes_by k w h l)
 
-pub always_finishes : Kept → (setup : Setup) (steps : List Step) → Holds (start setup) → Linked (start setup)
+pub always_finishes : Kept → (setup : Setup) (steps : List SmallStep) → Holds (start setup) → Linked (start setup)
     → All IsStep steps
     → Finishes (all_stepped (start setup) steps)
 always_finishes k setup steps h l fits =

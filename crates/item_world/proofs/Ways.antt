@@ -24,7 +24,7 @@ use Rattle.item_world.proofs.Onward.{Kept, Pair, flip, stands, links, IsNew, tic
 use Rattle.item_world.proofs.Rests.{EndGoes, same_names, names_then, names_back, flush_goes}
 use Rattle.item_world.specs.EndLaws.{EndLaws}
 use Rattle.item_world.specs.Events.{arrival, stepped, delivers}
-use Rattle.item_world.specs.Invariant.{IsSoundSpelling, Stands}
+use Rattle.item_world.specs.Invariant.{IsSoundSpelling, StandsBesidePeer}
 use Rattle.item_world.specs.Side.{other}
 use Rattle.item_world.specs.World.{World, moment, emitted, lifetime, is_past, ticks}
 use Rattle.item_world.specs.declared.emitted.Emitted.{Emitted}
@@ -88,8 +88,8 @@ comes kept w side s p k q m least_s least_p x i young_s young_p =
     let laws : EndLaws = kept.laws in
     let bytes : List ℕ = spp_packet_spelling q in
     let alive = young_alive i.at (length s.taken) (length p.taken) least_s least_p i.sender_least i.receiver_least young_s young_p in
-    let to : Stands s p = stands w side s p x in
-    let back : Stands p s = stands w (other side) p s (flip w side s p x) in
+    let to : StandsBesidePeer s p = stands w side s p x in
+    let back : StandsBesidePeer p s = stands w (other side) p s (flip w side s p x) in
     let y : Emitted = emitted A i.at bytes in
     let j : IsSoundSpelling s p y = record {
       says = record { packet = q; meant = m; fits = i.proper.fits; spells = refl; reduced = i.proper.reduced; close = i.proper.close };
@@ -125,12 +125,12 @@ replies kept w side s p k q m x c asks =
     let r : SppPacketModel = system_packet o reply_control in
     let v : World = stepped w (arrival k) in
     let y : Pair v side s o = arrived kept w side s p k bytes x c.new in
-    let to : Stands o s = stands v (other side) o s (flip v side s o y) in
+    let to : StandsBesidePeer o s = stands v (other side) o s (flip v side s o y) in
     let out : EndGoes 0 o (after_flush o) = flush_goes laws o to.fits in
     let there = replied w side s p k bytes (spp_packet_spelling r) x c.new (c.counts.reply asks) in
     let proper : IsProperAs (moment o s) o r (own_meant o o.sent) = system_proper_as laws o o s reply_control to (omega arith) refl (lit< tt) refl in
-    let before : Stands s p = stands w side s p x in
-    let here : Stands p s = stands w (other side) p s (flip w side s p x) in
+    let before : StandsBesidePeer s p = stands w side s p x in
+    let here : StandsBesidePeer p s = stands w (other side) p s (flip w side s p x) in
     let grew = begins_length p.taken o.taken (laws.grows.receive p bytes).taken in
     let way : OnItsWay (delivers w k).bag (other side) (after_flush o) s (length w.bag) r (own_meant o o.sent) p.handed s.handed = record {
       at = moment o s;
@@ -167,8 +167,8 @@ tick_way : Kept → (w : World) (side : Side) (s p : State) (q : SppPacketModel)
     → OnItsWay (ticks w side).bag side (after_tick s) p (length w.bag) q m s.handed p.handed
 tick_way k w side s p q m x first named proper =
     let laws : EndLaws = k.laws in
-    let before : Stands s p = stands w side s p x in
-    let back : Stands p s = stands w (other side) p s (flip w side s p x) in
+    let before : StandsBesidePeer s p = stands w side s p x in
+    let back : StandsBesidePeer p s = stands w (other side) p s (flip w side s p x) in
     record {
       at = moment (after_tick s) p;
       is = ticked_packet k w side s p q x first;
@@ -193,7 +193,7 @@ tick_asks k w side s p x left =
     let t : State = after_tick s in
     let y : Pair (ticks w side) side t p = ticked k w side s p x in
     let own : IsOwnPacket s t q = all_get (IsOwnPacket s t) (tick_packets s) 0 q (laws.goes_out.tick s) a.first in
-    let before : Stands s p = stands w side s p x in
+    let before : StandsBesidePeer s p = stands w side s p x in
     let proper : IsProper (moment t p) t q =
     own_proper laws s t p q before (stands (ticks w side) side t p y) (laws.grows.tick s before.fits) (laws.hears.tick s).taken own in
     record {
@@ -219,7 +219,7 @@ tick_sends_item k w side s p x ready may left =
     let q : SppPacketModel = data_packet s n there.0 in
     let t : State = after_tick s in
     let y : Pair (ticks w side) side t p = ticked k w side s p x in
-    let before : Stands s p = stands w side s p x in
+    let before : StandsBesidePeer s p = stands w side s p x in
     let proper : IsProperAs (moment t p) t q (own_meant s n) =
     item_proper_as laws s t p n there.0 before (stands (ticks w side) side t p y) (laws.grows.tick s before.fits) (laws.hears.tick s).taken there.1
     (omega arith) (omega (arith, laws.asks.sent s ready may, may)) in

@@ -6,25 +6,25 @@ use Rattle.item_world.specs.declared.emitted.Emitted.{Emitted}
 use Rattle.item_world.specs.declared.event.Event.{Event}
 use Rattle.item_world.specs.declared.event.Event.TheVariants.{Deliver, Rest, Tick, Foreign, Send, Take}
 use Rattle.item_world.specs.declared.side.Side.{Side}
-use Rattle.item_world.specs.Landing.{landing, reached}
+use Rattle.item_world.specs.Landing.{landing, world_reached}
 use Rattle.item_world.specs.UserSteps.{resends, sends_system_packet}
 use Rattle.item_world.specs.World.{World, flushes, ticks, overhears, sends, takes}
 
 -- A small step: packet k comes to an end, which replies where a reply is owed; bytes from elsewhere come to an end; an
 -- end is given an item, hands one up, flushes, ticks, sends its first item again, or sends a system packet. No event of
 -- a play has the last two.
-pub data Step : Type 0 where
-  arrival : ℕ → Step
-  noise : Side → List ℕ → Step
-  sending : Side → Item → Step
-  taking : Side → Step
-  flushing : Side → Step
-  ticking : Side → Step
-  resending : Side → Step
-  telling : Side → (asks : Bool) → Step
+pub data SmallStep : Type 0 where
+  arrival : ℕ → SmallStep
+  noise : Side → List ℕ → SmallStep
+  sending : Side → Item → SmallStep
+  taking : Side → SmallStep
+  flushing : Side → SmallStep
+  ticking : Side → SmallStep
+  resending : Side → SmallStep
+  telling : Side → (asks : Bool) → SmallStep
 
-abbrev pub stepped : World → Step → World
-stepped w (arrival k) = reached w (landing w k)
+abbrev pub stepped : World → SmallStep → World
+stepped w (arrival k) = world_reached w (landing w k)
 stepped w (noise side bytes) = overhears w side bytes
 stepped w (sending side x) = sends w side x
 stepped w (taking side) = takes w side
@@ -34,35 +34,35 @@ stepped w (resending side) = resends w side
 stepped w (telling side asks) = sends_system_packet w side asks
 
 -- the numbers of a step's item are within their types' bounds
-abbrev pub IsStep : Step → Type 0
+abbrev pub IsStep : SmallStep → Type 0
 IsStep (sending side x) = IsItem x
 IsStep _ = Unit {0}
 
 -- a step by which no item is accepted or handed up
-abbrev pub IsOther : Step → Type 0
+abbrev pub IsOther : SmallStep → Type 0
 IsOther (sending side x) = ⊥
 IsOther (taking side) = ⊥
 IsOther _ = Unit {0}
 
-abbrev pub all_stepped : World → List Step → World
+abbrev pub all_stepped : World → List SmallStep → World
 all_stepped w steps = fold stepped w steps
 
 -- ---- the steps of an event
 
 -- packet k comes to an end, which replies where a reply is owed, and then flushes; nothing happens where packet k comes
 -- to no end
-abbrev pub arrival_steps : ℕ → Option (Side × World) → List Step
+abbrev pub arrival_steps : ℕ → Option (Side × World) → List SmallStep
 arrival_steps k None = []
 arrival_steps k (Some l) = arrival k ∷ flushing l.0 ∷ []
 
-abbrev pub delivery_steps : World → ℕ → List Step
+abbrev pub delivery_steps : World → ℕ → List SmallStep
 delivery_steps w k = arrival_steps k (landing w k)
 
 abbrev pub delivers : World → ℕ → World
 delivers w k = all_stepped w (delivery_steps w k)
 
 -- the steps by which packets are delivered in turn
-abbrev pub delivery_steps_of : World → List ℕ → List Step
+abbrev pub delivery_steps_of : World → List ℕ → List SmallStep
 delivery_steps_of w [] = []
 delivery_steps_of w (k ∷ ks) = delivery_steps w k ++ delivery_steps_of (delivers w k) ks
 
@@ -71,7 +71,7 @@ abbrev pub undelivered : ℕ → List Emitted → List ℕ
 undelivered i [] = []
 undelivered i (x ∷ xs) = if x.delivered then undelivered (i + 1) xs else i ∷ undelivered (i + 1) xs
 
-abbrev pub steps_of : World → Event → List Step
+abbrev pub steps_of : World → Event → List SmallStep
 steps_of w (Deliver k) = delivery_steps w k
 steps_of w Rest = delivery_steps_of w (undelivered 0 w.bag)
 steps_of w (Tick side) = ticking side ∷ []
@@ -82,8 +82,8 @@ steps_of w (Take side) = taking side ∷ []
 abbrev pub happens : World → Event → World
 happens w e = all_stepped w (steps_of w e)
 
-abbrev pub run : World → List Event → World
-run w events = fold happens w events
+abbrev pub world_after : World → List Event → World
+world_after w events = fold happens w events
 
 -- the numbers of an event's item are within their types' bounds
 abbrev pub IsEvent : Event → Type 0

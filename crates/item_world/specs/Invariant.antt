@@ -12,7 +12,7 @@ use Rattle.item_world.specs.declared.moment.Moment.{Moment}
 use Rattle.xns_spp.specs.declared.item.Item.{Item}
 use Rattle.item_world.specs.declared.side.Side.{Side}
 use Rattle.item_world.specs.Side.{other}
-use Rattle.item_world.specs.World.{World, end_of}
+use Rattle.item_world.specs.World.{World, end_at}
 
 -- two numbers are no further apart than a window or a backlog is long
 pub record IsClose (n m : ℕ) : Type 0 where
@@ -59,7 +59,7 @@ pub record WentOut (s : State) (k : ℕ) (x : Item) : Type 0 where
 -- An end s beside its peer. What s has taken begins what the peer accepted, and went out at the peer. Each early item
 -- of s is the item of its number at the peer, and went out there. Of the items of s, the peer has taken no fewer than
 -- are acknowledged at s, and no more than went out at s.
-pub record Stands (s peer : State) : Type 0 where
+pub record StandsBesidePeer (s peer : State) : Type 0 where
   pub fits : IsState s
   pub taken : Begins s.taken peer.accepted
   pub went_out : length s.taken ≤ peer.sent
@@ -68,5 +68,5 @@ pub record Stands (s peer : State) : Type 0 where
   pub reached : length peer.taken ≤ s.sent
 
 pub record Holds (w : World) : Type 0 where
-  pub ends : (side : Side) → Stands (end_of w side) (end_of w (other side))
-  pub bag : All (λ x. IsSoundSpelling (end_of w x.side) (end_of w (other x.side)) x) w.bag
+  pub ends : (side : Side) → StandsBesidePeer (end_at w side) (end_at w (other side))
+  pub bag : All (λ x. IsSoundSpelling (end_at w x.side) (end_at w (other x.side)) x) w.bag

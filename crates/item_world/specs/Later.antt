@@ -7,7 +7,7 @@ use Rattle.xns_spp.specs.State.{State}
 use Rattle.item_world.specs.declared.emitted.Emitted.{Emitted}
 use Rattle.item_world.specs.declared.side.Side.{Side}
 use Rattle.item_world.specs.Landing.{landing}
-use Rattle.item_world.specs.World.{World, end_of, moved, marked}
+use Rattle.item_world.specs.World.{World, end_at, moved, marked_delivered}
 
 -- s goes on as t with the same items accepted and handed up
 pub record Continues (s t : State) : Type 0 where
@@ -21,15 +21,15 @@ as_sent x = record x { delivered = false }
 
 -- w goes on as v: neither end has taken less, and the packets that were sent stay in the bag
 pub record Later (w v : World) : Type 0 where
-  pub taken : (side : Side) → length (end_of w side).taken ≤ length (end_of v side).taken
+  pub taken : (side : Side) → length (end_at w side).taken ≤ length (end_at v side).taken
   pub bag : Begins (map as_sent w.bag) (map as_sent v.bag)
 
 -- packet k of w comes to the end at this side, which replies where a reply is owed, and v is the world then
 pub record Lands (w : World) (k : ℕ) (side : Side) (v : World) : Type 0 where
   pub packet : Emitted
   pub is : slice_get w.bag k ≡ Some packet
-  pub world : moved (marked w k packet) side (after_receive (end_of w side) packet.bytes)
-      (option_to_list (receive_answer (end_of w side) packet.bytes).reply) ≡ v
+  pub world : moved (marked_delivered w k packet) side (after_receive (end_at w side) packet.bytes)
+      (option_to_list (receive_answer (end_at w side) packet.bytes).reply) ≡ v
 
 -- whether packet k lands
 abbrev pub does_land : World → ℕ → Bool

@@ -17,9 +17,9 @@ use Rattle.item_world.specs.Network.{IsNetwork, unsettled}
 use Rattle.item_world.specs.declared.network.Network.{Network}
 use Rattle.xns_spp.specs.Sending.{send_answer, take_answer, after_flush}
 use Rattle.xns_spp.specs.State.{State}
-use Rattle.item_world.specs.Events.{Step, IsStep, IsOther, IsEvent, stepped, steps_of, all_stepped, delivers, undelivered, happens, run}
+use Rattle.item_world.specs.Events.{SmallStep, IsStep, IsOther, IsEvent, stepped, steps_of, all_stepped, delivers, undelivered, happens, world_after}
 use Rattle.item_world.specs.Landing.{landing, end_reached}
-use Rattle.item_world.specs.World.{World, start, end_of, moved, has_passed, flushes, sends, takes, channel_of, packets_of, sent_at}
+use Rattle.item_world.specs.World.{World, start, end_at, moved, has_passed, flushes, sends, takes, channel_of, sent_packets, sent_at}
 use Rattle.item_world.specs.World.{handed_at}
 use Rattle.xns_spp.specs.Growth.{Begins}
 use Rattle.item_world.specs.Invariant.{Holds, IsSoundSpelling}
@@ -27,21 +27,21 @@ use Rattle.item_world.specs.Progress.{Linked, Stirs, StirsOut, Finishes, Finishe
 
 pub record EachStepKeepsTheOrder : Type 0 where
   pub start : (setup : Setup) → IsSetup setup → IsGood setup → Holds (start setup)
-  pub each : (w : World) (s : Step) → IsStep s → Holds w → Holds (stepped w s)
+  pub each : (w : World) (s : SmallStep) → IsStep s → Holds w → Holds (stepped w s)
   pub land : (w : World) (k : ℕ) (l : Side × World) → Holds w → landing w k ≡ Some l → Holds l.1
   pub order : (w : World) (side : Side) → Holds w → Begins (handed_at w side) (sent_at w (other side))
   pub read : (w : World) (x : Emitted) → Holds w → has_passed w x ≡ false
-      → (i : IsSoundSpelling (end_of w x.side) (end_of w (other x.side)) x) →
-      numbers_in (end_of w (other x.side)) i.says.packet ≡ as_meant i.says.meant
+      → (i : IsSoundSpelling (end_at w x.side) (end_at w (other x.side)) x) →
+      numbers_in (end_at w (other x.side)) i.says.packet ≡ as_meant i.says.meant
 
 pub record ItemsComeInOrder : Type 0 where
   pub begins : (setup : Setup) (events : List Event) (side : Side) → IsSetup setup → IsGood setup → All IsEvent events →
-      Begins (handed_at (run (start setup) events) side) (sent_at (run (start setup) events) (other side))
+      Begins (handed_at (world_after (start setup) events) side) (sent_at (world_after (start setup) events) (other side))
   pub holds : (setup : Setup) (events : List Event) → IsSetup setup → IsGood setup → All IsEvent events →
-      Holds (run (start setup) events)
+      Holds (world_after (start setup) events)
   pub within : (setup : Setup) (events : List Event) (event : Event) (n : ℕ) → IsSetup setup → IsGood setup → All IsEvent events
       → IsEvent event →
-      Holds (all_stepped (run (start setup) events) (take n (steps_of (run (start setup) events) event)))
+      Holds (all_stepped (world_after (start setup) events) (take n (steps_of (world_after (start setup) events) event)))
 
 abbrev pub ForeignBytesChangeNothing : Type 0
 ForeignBytesChangeNothing = (w : World) (side : Side) (bytes : List ℕ) → happens w (Foreign side bytes) ≡ w
@@ -50,7 +50,7 @@ abbrev pub ARestDeliversWhatNeverWas : Type 0
 ARestDeliversWhatNeverWas = (w : World) → happens w Rest ≡ fold delivers w (undelivered 0 w.bag)
 
 abbrev pub TheBagNeverShrinks : Type 0
-TheBagNeverShrinks = (w : World) (events : List Event) → Begins (packets_of w) (packets_of (run w events))
+TheBagNeverShrinks = (w : World) (events : List Event) → Begins (sent_packets w) (sent_packets (world_after w events))
 
 -- an end that flushes or receives accepts and hands up nothing, and the items that it has handed up stay
 pub record WhatWasHandedUpStays : Type 0 where
@@ -61,7 +61,7 @@ pub record WhatWasHandedUpStays : Type 0 where
 pub record AWorldOnlyGoesOn : Type 0 where
   pub itself : (w : World) → Later w w
   pub further : (u v w : World) → Later u v → Later v w → Later u w
-  pub moved : (w : World) (side : Side) (s : State) (bs : List (List ℕ)) → length (end_of w side).taken ≤ length s.taken
+  pub moved : (w : World) (side : Side) (s : State) (bs : List (List ℕ)) → length (end_at w side).taken ≤ length s.taken
       → Later w (moved w side s bs)
   pub flush : (w : World) (side : Side) → Later w (flushes w side)
   pub land : (w : World) (k : ℕ) (l : Side × World) → landing w k ≡ Some l → Later w l.1
@@ -69,7 +69,7 @@ pub record AWorldOnlyGoesOn : Type 0 where
 -- an end that sends and takes nothing leaves the network as it was
 abbrev pub AQuietEndLeavesTheNetwork : Type 0
 AQuietEndLeavesTheNetwork = (n : Network) (w : World) (side : Side) (s : State) → IsNetwork n w
-    → length s.taken ≡ length (end_of w side).taken → IsNetwork n (moved w side s [])
+    → length s.taken ≡ length (end_at w side).taken → IsNetwork n (moved w side s [])
 
 abbrev pub APacketThatLandsIsReceived : Type 0
 APacketThatLandsIsReceived = (w : World) (k : ℕ) (side : Side) (v : World) → landing w k ≡ Some (side, v) → Lands w k side v
@@ -81,14 +81,14 @@ pub record ARestLeavesOutWhatIsSettled : Type 0 where
 
 -- each small step is a move of the channel; only an end that is given an item accepts one, and only an end that hands an item up does so
 pub record EachStepIsAMove : Type 0 where
-  pub each : (w : World) (s : Step) → Holds w → Move (channel_of w) (channel_of (stepped w s))
-  pub history : (setup : Setup) (steps : List Step) → IsSetup setup → IsGood setup → All IsStep steps
+  pub each : (w : World) (s : SmallStep) → Holds w → Move (channel_of w) (channel_of (stepped w s))
+  pub history : (setup : Setup) (steps : List SmallStep) → IsSetup setup → IsGood setup → All IsStep steps
       → IsHistory (λ n. channel_of (all_stepped (start setup) (take n steps)))
-  pub quiet : (w : World) (s : Step) → IsOther s → Holds w → IsQuiet (channel_of w) (channel_of (stepped w s))
+  pub quiet : (w : World) (s : SmallStep) → IsOther s → Holds w → IsQuiet (channel_of w) (channel_of (stepped w s))
   pub land : (w : World) (k : ℕ) (l : Side × World) → Holds w → landing w k ≡ Some l → IsQuiet (channel_of w) (channel_of l.1)
-  pub send : (w : World) (side : Side) (x : Item) → is_ok (send_answer (end_of w side) x) ≡ true
+  pub send : (w : World) (side : Side) (x : Item) → is_ok (send_answer (end_at w side) x) ≡ true
       → Accepts (channel_of w) (channel_of (sends w side x)) side x
-  pub take : (w : World) (side : Side) (x : Item) → Holds w → take_answer (end_of w side) ≡ Some x
+  pub take : (w : World) (side : Side) (x : Item) → Holds w → take_answer (end_at w side) ≡ Some x
       → HandsUp (channel_of w) (channel_of (takes w side)) side x
 
 -- whatever the moves, what either side has handed up begins what the other accepted
@@ -97,9 +97,9 @@ MovesKeepTheOrder = (c : ℕ → Channel) → IsHistory c → (n : ℕ) (side : 
 
 -- the end that moves goes on as the state that is given, and the other one stays
 pub record AMoveIsOfOneEnd : Type 0 where
-  pub here : (w : World) (side : Side) (s : State) (bs : List (List ℕ)) → end_of (moved w side s bs) side ≡ s
-  pub there : (w : World) (side : Side) (s : State) (bs : List (List ℕ)) → end_of (moved w side s bs) (other side) ≡ end_of w (other side)
-  pub land : (w : World) (k : ℕ) (l : Side × World) → landing w k ≡ Some l → end_of l.1 (other l.0) ≡ end_of w (other l.0)
+  pub here : (w : World) (side : Side) (s : State) (bs : List (List ℕ)) → end_at (moved w side s bs) side ≡ s
+  pub there : (w : World) (side : Side) (s : State) (bs : List (List ℕ)) → end_at (moved w side s bs) (other side) ≡ end_at w (other side)
+  pub land : (w : World) (k : ℕ) (l : Side × World) → landing w k ≡ Some l → end_at l.1 (other l.0) ≡ end_at w (other l.0)
 
 -- where a packet comes to an end there is a landing, and where it comes to none there is none
 pub record ALandingHasAnEnd : Type 0 where
@@ -122,15 +122,15 @@ pub record NetworkLaws : Type 0 where
 -- which an item waits, or in which all is acknowledged.
 pub record NoWorldIsStuck : Type 0 where
   pub starts : (setup : Setup) → Linked (start setup)
-  pub each : (w : World) (s : Step) → IsStep s → Holds w → Linked w → Linked (stepped w s)
+  pub each : (w : World) (s : SmallStep) → IsStep s → Holds w → Linked w → Linked (stepped w s)
   pub stirs : (w : World) (side : Side) → Holds w → Linked w → Stirs w side
   pub stirs_out : (w : World) (side : Side) → Holds w → Linked w
-      → (end_of w side).acknowledged < length (end_of w side).accepted → StirsOut w side
+      → (end_at w side).acknowledged < length (end_at w side).accepted → StirsOut w side
   pub world : (w : World) → Holds w → Linked w → Finishes w
-  pub always : (setup : Setup) (steps : List Step) → IsSetup setup → IsGood setup → All IsStep steps
+  pub always : (setup : Setup) (steps : List SmallStep) → IsSetup setup → IsGood setup → All IsStep steps
       → Finishes (all_stepped (start setup) steps)
   pub by_events : (setup : Setup) (events : List Event) → IsSetup setup → IsGood setup → All IsEvent events
-      → FinishesByEvents (run (start setup) events)
+      → FinishesByEvents (world_after (start setup) events)
   -- a fixed schedule finishes too, over a network that from now on delivers what is sent: old packets that come too do no harm
   pub by_rounds : (setup : Setup) (events : List Event) → IsSetup setup → IsGood setup → All IsEvent events
-      → FinishesInRounds (run (start setup) events)
+      → FinishesInRounds (world_after (start setup) events)

@@ -8,7 +8,7 @@ use Rattle.item_world.specs.declared.network.Network.{Network}
 use Rattle.item_world.specs.declared.side.Side.{Side}
 use Rattle.item_world.specs.declared.side.Side.TheVariants.{A, B}
 use Rattle.item_world.specs.Side.{other}
-use Rattle.item_world.specs.World.{World, end_of, has_passed}
+use Rattle.item_world.specs.World.{World, end_at, has_passed}
 
 abbrev pub count_of : Counts → Side → ℕ
 count_of c A = c.a
@@ -39,10 +39,10 @@ unsettled w i (x ∷ xs) = if is_settled w x then unsettled w (i + 1) xs else i 
 -- a network stands for a world: it has the packets of the world, and counts what the ends of the world have taken
 pub record IsNetwork (n : Network) (w : World) : Type 0 where
   pub bag : n.packets ≡ w.bag
-  pub taken : (side : Side) → count_of n.taken side ≡ length (end_of w side).taken
+  pub taken : (side : Side) → count_of n.taken side ≡ length (end_at w side).taken
   pub rested : AreRested n.rested w
 
 -- an endpoint stands for the end at this side of the world, and the network for its packets
 pub record IsEnd (e : Held) (n : Network) (w : World) (side : Side) : Type 0 where
-  pub stands : StandsFor e (end_of w side)
+  pub stands : StandsFor e (end_at w side)
   pub network : IsNetwork n w

@@ -13,9 +13,9 @@ use Rattle.item_world.specs.declared.setup.Setup.{Setup}
 use Rattle.item_world.specs.declared.side.Side.{Side}
 use Rattle.item_world.specs.declared.side.Side.TheVariants.{A, B}
 use Rattle.item_world.specs.EndLaws.{EndLaws}
-use Rattle.item_world.specs.Events.{run, IsEvent}
+use Rattle.item_world.specs.Events.{world_after, IsEvent}
 use Rattle.item_world.specs.Network.{IsNetwork}
-use Rattle.item_world.specs.World.{World, start, end_of}
+use Rattle.item_world.specs.World.{World, start, end_at}
 
 abbrev pub at_side : Pair → Side → Participant
 at_side p A = p.a
@@ -41,7 +41,7 @@ Becomes p q f = EndLaws → (s : State) → IsParticipant p s → IsParticipant 
 
 -- a play stands for a world
 pub record IsPlaying (p : Play) (w : World) : Type 0 where
-  pub ends : (side : Side) → IsParticipant (at_side p.ends side) (end_of w side)
+  pub ends : (side : Side) → IsParticipant (at_side p.ends side) (end_at w side)
   pub network : IsNetwork p.network w
 
 -- under the laws of an end, a play that stood for w then stands for what f makes of w
@@ -50,5 +50,5 @@ StepsBy p q f = EndLaws → (w : World) → IsPlaying p w → IsPlaying q (f w)
 
 -- a play from this setup, after these events
 pub record IsPlayed (p : Play) (setup : Setup) (events : List Event) : Type 0 where
-  pub stands : IsPlaying p (run (start setup) events)
+  pub stands : IsPlaying p (world_after (start setup) events)
   pub fits : All IsEvent events

@@ -10,14 +10,14 @@ use Rattle.item_world.specs.declared.event.Event.{Event}
 use Rattle.item_world.specs.declared.event.Event.TheVariants.{Deliver, Rest, Tick, Take}
 use Rattle.item_world.specs.declared.side.Side.{Side}
 use Rattle.item_world.specs.declared.side.Side.TheVariants.{A, B}
-use Rattle.item_world.specs.Events.{Step, arrival, taking, flushing, ticking, stepped, all_stepped, run}
+use Rattle.item_world.specs.Events.{SmallStep, arrival, taking, flushing, ticking, stepped, all_stepped, world_after}
 use Rattle.item_world.specs.Landing.{landing}
 use Rattle.item_world.specs.Side.{other}
-use Rattle.item_world.specs.World.{World, end_of, ticks, flushes, sent_at, handed_at}
+use Rattle.item_world.specs.World.{World, end_at, ticks, flushes, sent_at, handed_at}
 
 -- A plain step: an end ticks, flushes, hands an item up, or receives one of the packets that are sent from number n on.
 -- No item is accepted, and no packet that was sent before is needed.
-abbrev pub IsPlainStep : ℕ → Step → Type 0
+abbrev pub IsPlainStep : ℕ → SmallStep → Type 0
 IsPlainStep n (arrival k) = n ≤ k
 IsPlainStep n (taking side) = Unit {0}
 IsPlainStep n (flushing side) = Unit {0}
@@ -29,23 +29,23 @@ IsPlainStep n _ = ⊥
 pub record IsDone (w v : World) : Type 0 where
   pub accepted : (side : Side) → sent_at v side ≡ sent_at w side
   pub handed : (side : Side) → handed_at v (other side) ≡ sent_at w side
-  pub acknowledged : (side : Side) → (end_of v side).acknowledged ≡ length (sent_at w side)
-  pub free : (side : Side) → length (sent_at w side) < most_items → is_full (end_of v side) ≡ false
+  pub acknowledged : (side : Side) → (end_at v side).acknowledged ≡ length (sent_at w side)
+  pub free : (side : Side) → length (sent_at w side) < most_items → is_full (end_at v side) ≡ false
 
 -- how many items of a side are not yet handed up at the other
 abbrev pub pending : World → Side → ℕ
-pending w side = length (sent_at w side) - (end_of w (other side)).handed
+pending w side = length (sent_at w side) - (end_at w (other side)).handed
 
 -- plain steps after which all is done, without any packet that was sent before: at most twelve for each item that is
 -- pending, and twelve more
 pub record Finishes (w : World) : Type 0 where
-  pub more : List Step
+  pub more : List SmallStep
   pub plain : All (IsPlainStep (length w.bag)) more
   pub few : length more ≤ 12 * (pending w A + pending w B + 1)
   pub done : IsDone w (all_stepped w more)
 
 -- an end ticks, flushes, or receives one of the packets that are sent from number n on
-abbrev pub IsWire : ℕ → Step → Type 0
+abbrev pub IsWire : ℕ → SmallStep → Type 0
 IsWire n (arrival k) = n ≤ k
 IsWire n (flushing side) = Unit {0}
 IsWire n (ticking side) = Unit {0}
@@ -53,10 +53,10 @@ IsWire n _ = ⊥
 
 -- after some ticks, flushes and arrivals an item waits at the other end, or all that this end accepted is acknowledged
 pub record Stirs (w : World) (side : Side) : Type 0 where
-  pub more : List Step
+  pub more : List SmallStep
   pub wire : All (IsWire (length w.bag)) more
-  pub comes : ((end_of (all_stepped w more) (other side)).handed < length (end_of (all_stepped w more) (other side)).taken)
-      ⊎ (length (end_of (all_stepped w more) side).accepted ≤ (end_of (all_stepped w more) side).acknowledged)
+  pub comes : ((end_at (all_stepped w more) (other side)).handed < length (end_at (all_stepped w more) (other side)).taken)
+      ⊎ (length (end_at (all_stepped w more) side).accepted ≤ (end_at (all_stepped w more) side).acknowledged)
 
 -- a plain event of a play: one of the packets that are sent from number n on is delivered, an end ticks, or hands an item up
 abbrev pub IsFurther : ℕ → Event → Type 0
@@ -71,7 +71,7 @@ pub record FinishesByEvents (w : World) : Type 0 where
   pub more : List Event
   pub further : All (IsFurther (length w.bag)) more
   pub few : length more ≤ 6 * (pending w A + pending w B + 1)
-  pub done : IsDone w (run w more)
+  pub done : IsDone w (world_after w more)
 
 -- ---- a fixed schedule, by which all is handed up
 
@@ -82,7 +82,7 @@ round = Tick A ∷ Tick B ∷ Rest ∷ Take A ∷ Take B ∷ []
 -- the world after n rounds
 unfoldable pub rounds : ℕ → World → World
 rounds zero w = w
-rounds (suc n) w = rounds n (run w round)
+rounds (suc n) w = rounds n (world_after w round)
 
 -- after three rounds for each pending item, and three more, all is done, and stays so
 abbrev pub FinishesInRounds : World → Type 0
@@ -116,12 +116,12 @@ came_next w side = stepped (ticked_out (knows_out w side) side) (arrival (length
 pub record StirsOut (w : World) (side : Side) : Type 0 where
   pub first : landing (ticked_out w side) (length w.bag) ≡ Some (other side, came_first w side)
   pub second : landing (answered_out w side) (length (ticked_out w side).bag) ≡ Some (side, came_back w side)
-  pub settled : length (end_of w side).accepted ≤ length (end_of (came_first w side) (other side)).taken
-      → length (end_of (came_back w side) side).accepted ≤ (end_of (came_back w side) side).acknowledged
-  pub third : (end_of (came_first w side) (other side)).handed ≡ length (end_of (came_first w side) (other side)).taken
-      → length (end_of (came_first w side) (other side)).taken < length (end_of w side).accepted
+  pub settled : length (end_at w side).accepted ≤ length (end_at (came_first w side) (other side)).taken
+      → length (end_at (came_back w side) side).accepted ≤ (end_at (came_back w side) side).acknowledged
+  pub third : (end_at (came_first w side) (other side)).handed ≡ length (end_at (came_first w side) (other side)).taken
+      → length (end_at (came_first w side) (other side)).taken < length (end_at w side).accepted
       → (landing (ticked_out (knows_out w side) side) (length (knows_out w side).bag) ≡ Some (other side, came_next w side))
-      × ((end_of (came_next w side) (other side)).handed < length (end_of (came_next w side) (other side)).taken)
+      × ((end_at (came_next w side) (other side)).handed < length (end_at (came_next w side) (other side)).taken)
 
 -- ---- what is known of the ends' addresses at every moment
 
@@ -130,5 +130,5 @@ abbrev pub IsFrom : Ends → List ℕ → Type 0
 IsFrom e bytes = (p : SppPacketModel) → spp_packet_of bytes ≡ Ok p → (p.source ≡ e.own) × (p.header.source_id ≡ e.id)
 
 pub record Linked (w : World) : Type 0 where
-  pub ends : (side : Side) → IsLinked (end_of w side).ends (end_of w (other side)).ends
-  pub bag : All (λ (x : Emitted). IsFrom (end_of w x.side).ends x.bytes) w.bag
+  pub ends : (side : Side) → IsLinked (end_at w side).ends (end_at w (other side)).ends
+  pub bag : All (λ (x : Emitted). IsFrom (end_at w x.side).ends x.bytes) w.bag

@@ -19,9 +19,9 @@ pub record World : Type 0 where
   pub b : State
   pub bag : List Emitted
 
-abbrev pub end_of : World → Side → State
-end_of w A = w.a
-end_of w B = w.b
+abbrev pub end_at : World → Side → State
+end_at w A = w.a
+end_at w B = w.b
 
 abbrev pub with_end : World → Side → State → World
 with_end w A s = record w { a = s }
@@ -51,11 +51,11 @@ with_packets bag side at packets = bag ++ map (emitted side at) packets
 
 -- an end goes on as s, and packets of these bytes are sent
 abbrev pub moved : World → Side → State → List (List ℕ) → World
-moved w side s packets = record (with_end w side s) { bag = with_packets w.bag side (moment s (end_of w (other side))) packets }
+moved w side s packets = record (with_end w side s) { bag = with_packets w.bag side (moment s (end_at w (other side))) packets }
 
 -- packet k, which is x, is marked as delivered
-abbrev pub marked : World → ℕ → Emitted → World
-marked w k x = record w { bag = slice_set w.bag k (record x { delivered = true }) }
+abbrev pub marked_delivered : World → ℕ → Emitted → World
+marked_delivered w k x = record w { bag = slice_set w.bag k (record x { delivered = true }) }
 
 -- how many items an end takes at most while a packet lives
 abbrev pub lifetime : ℕ
@@ -66,40 +66,40 @@ abbrev pub is_past : Moment → (sender receiver : ℕ) → Bool
 is_past at sender receiver = nat_lt lifetime (sender - at.sender) || nat_lt lifetime (receiver - at.receiver)
 
 abbrev pub has_passed : World → Emitted → Bool
-has_passed w x = is_past x.at (length (end_of w x.side).taken) (length (end_of w (other x.side)).taken)
+has_passed w x = is_past x.at (length (end_at w x.side).taken) (length (end_at w (other x.side)).taken)
 
 -- ---- what an end does
 
 abbrev pub flushes : World → Side → World
-flushes w side = moved w side (after_flush (end_of w side)) (flush_answer (end_of w side))
+flushes w side = moved w side (after_flush (end_at w side)) (flush_answer (end_at w side))
 
 abbrev pub ticks : World → Side → World
-ticks w side = moved w side (after_tick (end_of w side)) (tick_answer (end_of w side))
+ticks w side = moved w side (after_tick (end_at w side)) (tick_answer (end_at w side))
 
 -- bytes come to an end, which replies where a reply is owed
 abbrev pub receives : World → Side → List ℕ → World
-receives w side bytes = moved w side (after_receive (end_of w side) bytes) (option_to_list (receive_answer (end_of w side) bytes).reply)
+receives w side bytes = moved w side (after_receive (end_at w side) bytes) (option_to_list (receive_answer (end_at w side) bytes).reply)
 
 -- bytes from elsewhere come to an end; bytes that would pass for a packet of the connection are passed over
 abbrev pub overhears : World → Side → List ℕ → World
-overhears w side bytes = if is_ours (end_of w side) bytes then w else receives w side bytes
+overhears w side bytes = if is_ours (end_at w side) bytes then w else receives w side bytes
 
 -- an end is given an item to send; an item that the end refuses is dropped
 abbrev pub sends : World → Side → Item → World
-sends w side x = moved w side (after_send (end_of w side) x) []
+sends w side x = moved w side (after_send (end_at w side) x) []
 
 abbrev pub takes : World → Side → World
-takes w side = moved w side (after_take (end_of w side)) []
+takes w side = moved w side (after_take (end_at w side)) []
 
 -- ---- the items of a world
 
 -- the items that an end was given to send and accepted
 abbrev pub sent_at : World → Side → List Item
-sent_at w side = (end_of w side).accepted
+sent_at w side = (end_at w side).accepted
 
 -- the items that an end handed up
 abbrev pub handed_at : World → Side → List Item
-handed_at w side = take (end_of w side).handed (end_of w side).taken
+handed_at w side = take (end_at w side).handed (end_at w side).taken
 
 -- the channel of a world: what each end accepted, and what each end handed up
 abbrev pub channel_of : World → Channel
@@ -109,5 +109,5 @@ abbrev pub sender_and_bytes : Emitted → Side × List ℕ
 sender_and_bytes x = (x.side, x.bytes)
 
 -- every packet, with its sender
-abbrev pub packets_of : World → List (Side × List ℕ)
-packets_of w = map sender_and_bytes w.bag
+abbrev pub sent_packets : World → List (Side × List ℕ)
+sent_packets w = map sender_and_bytes w.bag

@@ -12,7 +12,7 @@ ghost use Rattle.item_world.specs.declared.emitted.Emitted.{Emitted};
 ghost use Rattle.item_world.specs.EndLaws.{EndLaws};
 ghost use Rattle.item_world.specs.Landing.{landing};
 ghost use Rattle.item_world.specs.Network.{IsEnd};
-ghost use Rattle.item_world.specs.World.{World, flushes, ticks, marked, receives};
+ghost use Rattle.item_world.specs.World.{World, flushes, ticks, marked_delivered, receives};
 
 use crate::network::Network;
 use crate::side::Side;
@@ -72,7 +72,7 @@ pub fn land(
     ensures endpoint { OnOk result ((s : State) (x : Emitted) → StandsFor endpoint.old s → slice_get network.old.packets number ≡ Some x →
         StandsFor endpoint.new (after_receive s x.bytes)) }
     ensures network { OnOk result (EndLaws → (w : World) (x : Emitted) → IsEnd endpoint.old network.old w side →
-        slice_get w.bag number ≡ Some x → IsEnd endpoint.new network.new (receives (marked w number x) side x.bytes) side) }
+        slice_get w.bag number ≡ Some x → IsEnd endpoint.new network.new (receives (marked_delivered w number x) side x.bytes) side) }
     ensures unchanged { OnErr result (network.new ≡ network.old) }
     ensures refused { OnErr result ((s : State) (x : Emitted) → StandsFor endpoint.old s → slice_get network.old.packets number ≡ Some x →
         StandsFor endpoint.new s ⊎ StandsFor endpoint.new (after_receive s x.bytes)) }

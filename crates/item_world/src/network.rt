@@ -9,7 +9,7 @@ ghost use Rattle.xns_spp.specs.State.{State};
 ghost use Rattle.item_world.specs.declared.emitted.Emitted.{Emitted};
 ghost use Rattle.item_world.specs.Landing.{landing, end_reached};
 ghost use Rattle.item_world.specs.Network.{count_of, with_count, moment_of, is_settled, AreRested, unsettled, IsNetwork};
-ghost use Rattle.item_world.specs.World.{World, end_of, with_packets, moved, marked, has_passed, sender_and_bytes};
+ghost use Rattle.item_world.specs.World.{World, end_at, with_packets, moved, marked_delivered, has_passed, sender_and_bytes};
 
 use crate::bag::Bag;
 use crate::counts::Counts;
@@ -84,7 +84,7 @@ impl Network {
     pub fn emit(&mut self, side: Side, packets: Vec<Bytes>) -> Result<(), AllocError>
         ensures unchanged { OnErr result (self.new ≡ self.old) }
         ensures memory { OnErr result (0 < length packets.items) }
-        ensures sends { OnOk result ((w : World) (s : State) → IsNetwork self.old w → length s.taken ≡ length (end_of w side).taken
+        ensures sends { OnOk result ((w : World) (s : State) → IsNetwork self.old w → length s.taken ≡ length (end_at w side).taken
             → IsNetwork self.new (moved w side s packets.items)) }
     {
         let at = self.taken.moment(side);
@@ -106,8 +106,8 @@ impl Network {
         ensures unchanged { OnErr result (self.new ≡ self.old) }
         ensures memory { OnErr result (IsSome reply) }
         ensures delivers { OnOk result ((w : World) (x : Emitted) (s : State) → IsNetwork self.old w → slice_get w.bag number ≡ Some x
-            → length s.taken ≤ most_items → length (end_of w side).taken + took ≡ length s.taken →
-            IsNetwork self.new (moved (marked w number x) side s (option_to_list reply))) }
+            → length s.taken ≤ most_items → length (end_at w side).taken + took ≡ length s.taken →
+            IsNetwork self.new (moved (marked_delivered w number x) side s (option_to_list reply))) }
     {
         let mut taken = self.taken;
         taken.add(side, took);

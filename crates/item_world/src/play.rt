@@ -2,7 +2,7 @@
 
 ghost use Rattle.std.specs.Prelude.{◌≡◌, ◌<◌, OnOk, IfOk, Some, fold};
 ghost use Rattle.item_world.specs.declared.event.Event.TheVariants.{Deliver, Rest, Tick, Foreign, Send, Take};
-ghost use Rattle.item_world.specs.Events.{delivers, happens, run, IsEvent};
+ghost use Rattle.item_world.specs.Events.{delivers, happens, world_after, IsEvent};
 ghost use Rattle.xns_spp.specs.Growth.{Begins};
 ghost use Rattle.item_world.specs.Play.{IsPlaying, StepsBy, IsPlayed};
 ghost use Rattle.item_world.specs.Progress.{FinishesByEvents};
@@ -167,10 +167,10 @@ fn played(alloc: Global, setup: &Setup, events: &[Event]) -> Result<Play, AllocE
 /// refused, and gives no trace.
 pub fn play_items(alloc: Global, setup: &Setup, events: &[Event]) -> Result<ItemTrace, AllocError>
     requires { IsGood setup.now }
-    ensures trace { IfOk result (λ t. t ≡ item_trace (run (start setup.now) events.now)) }
+    ensures trace { IfOk result (λ t. t ≡ item_trace (world_after (start setup.now) events.now)) }
     ensures to_b { IfOk result (λ t. Begins t.b_handed t.a_sent) }
     ensures to_a { IfOk result (λ t. Begins t.a_handed t.b_sent) }
-    ensures finishes { OnOk result (FinishesByEvents (run (start setup.now) events.now)) }
+    ensures finishes { OnOk result (FinishesByEvents (world_after (start setup.now) events.now)) }
 {
     setup.known();
     items_come_in_order();

@@ -28,7 +28,7 @@ pub struct Setup {
 impl Setup {
     ghost use Rattle.xns_spp.specs.Held.{StandsFor};
     ghost use Rattle.item_world.specs.Setup.{IsSetup, IsGood};
-    ghost use Rattle.item_world.specs.World.{start, end_of};
+    ghost use Rattle.item_world.specs.World.{start, end_at};
 
     /// Whether a connection can be made from this setup: both identifiers are known, window and backlog are from 1 to
     /// 64 items, and neither end is the broadcast host.
@@ -56,7 +56,7 @@ impl Setup {
     /// The end at this side, before anything has happened.
     pub fn end(&self, alloc: Global, side: Side) -> Result<Endpoint, AllocError>
         requires { IsGood self.now }
-        ensures { IfOk result (λ e. StandsFor e (end_of (start self.now) side)) }
+        ensures { IfOk result (λ e. StandsFor e (end_at (start self.now) side)) }
     {
         let Setup {
             a,

@@ -4,7 +4,7 @@ use Rattle.std.specs.List.{flat_map}
 use Rattle.courier_texts.specs.declared.named.Named.{Named}
 use Rattle.courier_texts.specs.Named.{NamedModel, component_models, variant_models}
 use Rattle.courier_programs.specs.Meanings.{ResolvedModel}
-use Rattle.program_tables.specs.Tables.{NodeModel, component_count, component_nodes, error_nodes, meaning_nodes, node, procedure_nodes, program_nodes, type_nodes, variant_count, variant_nodes}
+use Rattle.program_tables.specs.Tables.{NodeModel, component_count, component_nodes, error_nodes, meaning_nodes, table_node, procedure_nodes, program_nodes, type_nodes, variant_count, variant_nodes}
 use Rattle.program_tables.specs.declared.node.NodeKind.TheVariants as kinds
 
 pub components_counted : (xs : List (Vec ℕ Global × Named)) → component_count (component_models xs) ≡ length xs
@@ -29,19 +29,19 @@ on_err (Err e) p = p
 behind_node : (old mid new parts : List NodeModel) (first : NodeModel) → mid ≡ old ++ first ∷ [] → new ≡ mid ++ parts → new ≡ old ++ (first ∷ parts)
 behind_node old mid new parts first put rest = rest ∙ ap (λ ns. ns ++ parts) put ∙ append_assoc old (first ∷ []) parts
 
-pub record_there : (old mid new : List NodeModel) (name : List ℕ) (cs : List (Vec ℕ Global × Named)) → mid ≡ old ++ node kinds.Record 0 (length cs) name ∷ [] → new ≡ mid ++ component_nodes (component_models cs)
+pub record_there : (old mid new : List NodeModel) (name : List ℕ) (cs : List (Vec ℕ Global × Named)) → mid ≡ old ++ table_node kinds.Record 0 (length cs) name ∷ [] → new ≡ mid ++ component_nodes (component_models cs)
     → new ≡ old ++ type_nodes name (NamedModel.components (component_models cs))
 unfolding type_nodes
 record_there old mid new name cs put rest =
-    behind_node old mid new (component_nodes (component_models cs)) (node kinds.Record 0 (length cs) name) put rest
-    ∙ ap (λ n. old ++ (node kinds.Record 0 n name ∷ component_nodes (component_models cs))) (sym (components_counted cs))
+    behind_node old mid new (component_nodes (component_models cs)) (table_node kinds.Record 0 (length cs) name) put rest
+    ∙ ap (λ n. old ++ (table_node kinds.Record 0 n name ∷ component_nodes (component_models cs))) (sym (components_counted cs))
 
-pub choice_there : (old mid new : List NodeModel) (name : List ℕ) (vs : List (Vec ℕ Global × (ℕ × Named))) → mid ≡ old ++ node kinds.Choice 0 (length vs) name ∷ [] → new ≡ mid ++ variant_nodes (variant_models vs)
+pub choice_there : (old mid new : List NodeModel) (name : List ℕ) (vs : List (Vec ℕ Global × (ℕ × Named))) → mid ≡ old ++ table_node kinds.Choice 0 (length vs) name ∷ [] → new ≡ mid ++ variant_nodes (variant_models vs)
     → new ≡ old ++ type_nodes name (NamedModel.choice (variant_models vs))
 unfolding type_nodes
 choice_there old mid new name vs put rest =
-    behind_node old mid new (variant_nodes (variant_models vs)) (node kinds.Choice 0 (length vs) name) put rest
-    ∙ ap (λ n. old ++ (node kinds.Choice 0 n name ∷ variant_nodes (variant_models vs))) (sym (variants_counted vs))
+    behind_node old mid new (variant_nodes (variant_models vs)) (table_node kinds.Choice 0 (length vs) name) put rest
+    ∙ ap (λ n. old ++ (table_node kinds.Choice 0 n name ∷ variant_nodes (variant_models vs))) (sym (variants_counted vs))
 
 -- ---- a program that has a node
 

@@ -3,8 +3,8 @@
 ghost use Rattle.std.specs.Prelude.{◌≡◌, ◌≢◌, ◌++◌, ◌∷◌, ◌<◌, [], IfOk, OnErr, OnOk, length, map};
 ghost use Rattle.std.specs.List.{flat_map};
 ghost use Rattle.courier_texts.specs.Named.{NamedModel, component_models, members_seen, named_model, variant_models};
-ghost use Rattle.courier_programs.specs.Meanings.{error_model, fields_model, meaning_model, meanings_seen, procedure_model, resolved_model};
-ghost use Rattle.program_tables.specs.Tables.{component_nodes, error_nodes, meaning_nodes, member_node, node, nodes_seen, procedure_nodes};
+ghost use Rattle.courier_programs.specs.Meanings.{resolved_error, fields_model, meaning_model, meanings_seen, resolved_procedure, resolved_model};
+ghost use Rattle.program_tables.specs.Tables.{component_nodes, error_nodes, meaning_nodes, member_node, table_node, nodes_seen, procedure_nodes};
 ghost use Rattle.program_tables.specs.Tables.{program_nodes, record_nodes, type_nodes, variant_nodes};
 ghost use Rattle.program_tables.specs.declared.node.NodeKind.TheVariants as kinds;
 
@@ -22,7 +22,7 @@ fn append_node(
     parts: usize,
     name: &[u8],
 ) -> Result<(), AllocError>
-    ensures { OnOk result (nodes_seen out.new.items ≡ nodes_seen out.old.items ++ node kind number parts name.now ∷ []) }
+    ensures { OnOk result (nodes_seen out.new.items ≡ nodes_seen out.old.items ++ table_node kind number parts name.now ∷ []) }
 {
     let name = Vec::from_slice(alloc, name)?;
     out.push(Node {
@@ -82,7 +82,7 @@ fn append_candidate(
     part: &Named,
 ) -> Result<(), AllocError>
     ensures { OnOk result (nodes_seen out.new.items
-        ≡ nodes_seen out.old.items ++ (node kinds.Candidate designator 1 name.now ∷ type_nodes [] (named_model part.now))) }
+        ≡ nodes_seen out.old.items ++ (table_node kinds.Candidate designator 1 name.now ∷ type_nodes [] (named_model part.now))) }
 {
     append_node(
         alloc,
@@ -223,7 +223,7 @@ fn append_procedure(
     out: &mut Vec<Node>,
     procedure: &Procedure,
 ) -> Result<(), AllocError>
-    ensures { OnOk result (nodes_seen out.new.items ≡ nodes_seen out.old.items ++ procedure_nodes (procedure_model procedure.now)) }
+    ensures { OnOk result (nodes_seen out.new.items ≡ nodes_seen out.old.items ++ procedure_nodes (resolved_procedure procedure.now)) }
 {
     append_node(
         alloc,
@@ -243,8 +243,8 @@ fn append_procedures(
     procedures: &[Procedure],
 ) -> Result<(), AllocError>
     ensures nodes { OnOk result (nodes_seen out.new.items
-        ≡ nodes_seen out.old.items ++ flat_map procedure_nodes (map procedure_model procedures.now)) }
-    ensures memory { OnErr result (flat_map procedure_nodes (map procedure_model procedures.now) ≢ []) }
+        ≡ nodes_seen out.old.items ++ flat_map procedure_nodes (map resolved_procedure procedures.now)) }
+    ensures memory { OnErr result (flat_map procedure_nodes (map resolved_procedure procedures.now) ≢ []) }
 {
     for procedure in procedures {
         append_procedure(alloc, out, procedure)?;
@@ -253,7 +253,7 @@ fn append_procedures(
 }
 
 fn append_error(alloc: Global, out: &mut Vec<Node>, error: &RemoteError) -> Result<(), AllocError>
-    ensures { OnOk result (nodes_seen out.new.items ≡ nodes_seen out.old.items ++ error_nodes (error_model error.now)) }
+    ensures { OnOk result (nodes_seen out.new.items ≡ nodes_seen out.old.items ++ error_nodes (resolved_error error.now)) }
 {
     append_node(
         alloc,
@@ -271,8 +271,8 @@ fn append_errors(
     out: &mut Vec<Node>,
     errors: &[RemoteError],
 ) -> Result<(), AllocError>
-    ensures nodes { OnOk result (nodes_seen out.new.items ≡ nodes_seen out.old.items ++ flat_map error_nodes (map error_model errors.now)) }
-    ensures memory { OnErr result (flat_map error_nodes (map error_model errors.now) ≢ []) }
+    ensures nodes { OnOk result (nodes_seen out.new.items ≡ nodes_seen out.old.items ++ flat_map error_nodes (map resolved_error errors.now)) }
+    ensures memory { OnErr result (flat_map error_nodes (map resolved_error errors.now) ≢ []) }
 {
     for error in errors {
         append_error(alloc, out, error)?;

@@ -4,7 +4,7 @@ use Rattle.std.specs.Prelude.{IfSome, if◌then◌else◌, nat_le}
 use Rattle.std.specs.Option.{is_some}
 use Rattle.std.proofs.lemmas.Option.{slice_get-get_or, slice_get_within}
 use Rattle.xns_agenda.specs.Times.{HasEarliest, IsBy, IsEarliest, sooner}
-use Rattle.xns_agenda.specs.Agenda.{GivesWay, longest_closed, longest_silent, IsWake, IsWanted, asked_at, packet_waits, event_waits, is_due, number_in}
+use Rattle.xns_agenda.specs.Agenda.{GivesWay, longest_closed, longest_silent, IsWake, IsWantedAt, asked_at, packet_waits, event_waits, is_due, number_in}
 use Rattle.xns_agenda.specs.Turns.{HasNoTurn, Line, IsFirst, has_turn}
 use Rattle.xns_agenda.proofs.Putting.{within}
 use Rattle.xns_agenda.proofs.Tree.{left_by, right_by}
@@ -50,7 +50,7 @@ no_giver closed strangers (Stranger n t) nobody is = absurd (cc)
 no_giver closed strangers Nobody nobody is = nobody refl
 
 pub event_wanted : (packets events : Line) (dues : List (Option ℕ)) (short o : Option ℕ) → IfSome o (λ k. IsFirst events k) → is_some o ≡ true
-    → IsWanted packets events dues short 0
+    → IsWantedAt packets events dues short 0
 event_wanted packets events dues short (Some k) first some = event_waits k first.has
 event_wanted packets events dues short None first some = absurd (cc)
 
@@ -74,10 +74,10 @@ sooner_is (Some s) (Some u) t is = sooner_if (nat_le s u) s u t is
 
 of_either : (packets events : Line) (dues : List (Option ℕ)) (short a b : Option ℕ) (t : ℕ)
     → ((u : ℕ) → a ≡ Some u → (k : ℕ) × (has_turn packets k ≡ true)) → ((u : ℕ) → a ≡ Some u → u ≡ asked_at short)
-    → ((u : ℕ) → b ≡ Some u → (k : ℕ) × (slice_get dues k ≡ Some (Some u))) → (a ≡ Some t) ⊎ (b ≡ Some t) → IsWanted packets events dues short t
+    → ((u : ℕ) → b ≡ Some u → (k : ℕ) × (slice_get dues k ≡ Some (Some u))) → (a ≡ Some t) ⊎ (b ≡ Some t) → IsWantedAt packets events dues short t
 of_either packets events dues short a b t turn time due (inl is) =
     let who = turn t is in
-    subst (λ (n : ℕ). IsWanted packets events dues short n) (sym (time t is)) (packet_waits who.0 who.1)
+    subst (λ (n : ℕ). IsWantedAt packets events dues short n) (sym (time t is)) (packet_waits who.0 who.1)
 of_either packets events dues short a b t turn time due (inr is) = let who = due t is in is_due who.0 t who.1
 
 -- events there are none; packets are asked for at the first of these times, and the first of what is due is at the second
@@ -100,5 +100,5 @@ wakes_now packets events dues short o first some = record {
   event = λ k has. refl;
   due = record { least = λ k t is. at_zero (Some 0) t refl };
   wanted = λ t is. let zero_is : 0 ≡ t = cc in
-      subst (λ (n : ℕ). IsWanted packets events dues short n) zero_is (event_wanted packets events dues short o first some);
+      subst (λ (n : ℕ). IsWantedAt packets events dues short n) zero_is (event_wanted packets events dues short o first some);
 }

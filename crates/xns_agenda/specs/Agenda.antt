@@ -83,17 +83,17 @@ asked_at (Some time) = time
 
 -- something is to be done at this time: packets are asked for, and there may be one; or the time is at once, and there may be an
 -- event; or something is due
-pub data IsWanted (packets events : Line) (dues : List (Option ℕ)) (short : Option ℕ) : ℕ → Type 0 where
-  packet_waits : (k : ℕ) → has_turn packets k ≡ true → IsWanted packets events dues short (asked_at short)
-  event_waits : (k : ℕ) → has_turn events k ≡ true → IsWanted packets events dues short 0
-  is_due : (k t : ℕ) → slice_get dues k ≡ Some (Some t) → IsWanted packets events dues short t
+pub data IsWantedAt (packets events : Line) (dues : List (Option ℕ)) (short : Option ℕ) : ℕ → Type 0 where
+  packet_waits : (k : ℕ) → has_turn packets k ≡ true → IsWantedAt packets events dues short (asked_at short)
+  event_waits : (k : ℕ) → has_turn events k ≡ true → IsWantedAt packets events dues short 0
+  is_due : (k t : ℕ) → slice_get dues k ≡ Some (Some t) → IsWantedAt packets events dues short t
 
 -- the time is the first at which something is to be done; there is none where nothing is to be done
 pub record IsWake (packets events : Line) (dues : List (Option ℕ)) (short time : Option ℕ) : Type 0 where
   pub packet : (k : ℕ) → has_turn packets k ≡ true → IsBy time (asked_at short)
   pub event : (k : ℕ) → has_turn events k ≡ true → time ≡ Some 0
   pub due : HasEarliest dues time
-  pub wanted : (t : ℕ) → time ≡ Some t → IsWanted packets events dues short t
+  pub wanted : (t : ℕ) → time ≡ Some t → IsWantedAt packets events dues short t
 
 -- the connection that gives way to a new one: the one that lingers longest; where none lingers, the stranger that is silent longest
 pub data GivesWay (closed strangers : List (Option ℕ)) : ℕ → Type 0 where

@@ -14,7 +14,7 @@ abbrev pub longest_time : ℕ
 longest_time = 2 ^ 32 - 1
 
 -- each number is at most as large as the longest time makes it
-pub record IsBounded (s : Smoothed) : Type 0 where
+pub record IsWithinLongest (s : Smoothed) : Type 0 where
   pub time : s.time8 ≤ 8 * longest_time
   pub varies : s.varies4 ≤ 4 * longest_time
 
@@ -38,9 +38,9 @@ smoothed_by (Some s) time = smoothed_on s time
 abbrev pub estimate : Smoothed → (least : ℕ) → ℕ
 estimate s least = s.time8 / 8 + max least s.varies4
 
-abbrev pub expected : Option Smoothed → Pace → ℕ
-expected None pace = pace.first
-expected (Some s) pace = estimate s pace.least
+abbrev pub expected_time : Option Smoothed → Pace → ℕ
+expected_time None pace = pace.first
+expected_time (Some s) pace = estimate s pace.least
 
 -- the soonest time that is to be expected: half of the smoothed time, less four times the amount by which it varies, which counts at least
 -- `least`
@@ -61,7 +61,7 @@ is_fit o pace passed = nat_le (half_time o pace) passed
 
 -- the peer may have acknowledged a packet that went out again, by the time that has passed since
 abbrev pub is_expected : Option Smoothed → Pace → (passed : ℕ) → Bool
-is_expected o pace passed = nat_le (expected_from o pace) passed && nat_le passed (expected o pace)
+is_expected o pace passed = nat_le (expected_from o pace) passed && nat_le passed (expected_time o pace)
 
 -- ---- what is learnt where the peer acknowledges more, or opens the connection
 

@@ -1,6 +1,6 @@
 -- When a connection says something again, asks its peer for a word, and is given up. Times are in milliseconds.
 use Rattle.std.specs.Prelude.{◌≡◌, ℕ, ◌+◌, ◌-◌, ◌^◌, ◌<◌, ◌≤◌, Bool, true, false, not, ◌&&◌, ◌==◌, nat_le, nat_lt, min, if◌then◌else◌, Option, Some, None, IfSome}
-use Rattle.xns_agenda.specs.Measuring.{IsBounded, begun_timing, borne, first_wait, every, is_late, is_vain, learnt, moved_on, next_length}
+use Rattle.xns_agenda.specs.Measuring.{IsWithinLongest, begun_timing, borne, first_wait, every, is_late, is_vain, learnt, moved_on, next_length}
 use Rattle.xns_agenda.specs.Replying.{counted, is_third}
 use Rattle.xns_agenda.specs.declared.act.Act.{Act}
 use Rattle.xns_agenda.specs.declared.act.Act.TheVariants.{Nothing, Again, Ask, GiveUp, Forget}
@@ -36,7 +36,7 @@ pub record IsWaiting (pace : Pace) (length misses : ℕ) (measure : Measure) : T
   pub patient : misses ≤ borne measure pace
   pub least : pace.least ≤ length
   pub longest : length ≤ pace.longest
-  pub bounded : IfSome measure.smoothed IsBounded
+  pub bounded : IfSome measure.smoothed IsWithinLongest
 
 abbrev pub last_time : ℕ
 last_time = 2 ^ 64 - 1

@@ -1,7 +1,7 @@
 //! How long a wait is, by the times that were measured.
 
 ghost use Rattle.std.specs.Prelude.{◌≡◌, ◌≤◌, ◌+◌, ◌-◌, Some, None, IfSome};
-ghost use Rattle.xns_agenda.specs.Measuring.{IsBounded, ambiguously, borne, doubted, doubted_wait, expected, expected_from, first_wait, is_expected, is_fit, learnt, mends, most_borne, sampled, smoothed_by};
+ghost use Rattle.xns_agenda.specs.Measuring.{IsWithinLongest, ambiguously, borne, doubted, doubted_wait, expected_time, expected_from, first_wait, is_expected, is_fit, learnt, mends, most_borne, sampled, smoothed_by};
 
 use crate::pace::Pace;
 use crate::progress::Progress;
@@ -52,7 +52,7 @@ impl Measure {
 
     /// The first wait for an acknowledgement.
     pub fn first_wait(self, pace: &Pace) -> u32
-        requires { IfSome self.smoothed IsBounded }
+        requires { IfSome self.smoothed IsWithinLongest }
         ensures value { result ≡ first_wait self pace.now }
         ensures least { pace.now.least ≤ result }
         ensures most { result ≤ pace.now.longest }
@@ -69,7 +69,7 @@ impl Measure {
 
     /// How many packets without a word of the peer are borne.
     pub fn borne(self, pace: &Pace) -> u16
-        requires { IfSome self.smoothed IsBounded }
+        requires { IfSome self.smoothed IsWithinLongest }
         ensures value { result ≡ borne self pace.now }
         ensures most { result ≤ most_borne }
     {
@@ -80,9 +80,9 @@ impl Measure {
 
     /// The measure after one more time that was measured.
     fn sampled(self, pace: &Pace, passed: u64) -> Measure
-        requires { IfSome self.smoothed IsBounded }
+        requires { IfSome self.smoothed IsWithinLongest }
         ensures value { result ≡ sampled self pace.now passed }
-        ensures bounded { IfSome result.smoothed IsBounded }
+        ensures bounded { IfSome result.smoothed IsWithinLongest }
     {
         let time = passed.min(u64::from(pace.longest)) as u32;
         let smoothed = match self.smoothed {
@@ -98,7 +98,7 @@ impl Measure {
 
     /// Whether a packet that went out again so long ago may be the one that the peer acknowledged.
     fn is_expected(self, pace: &Pace, passed: u64) -> bool
-        requires { IfSome self.smoothed IsBounded }
+        requires { IfSome self.smoothed IsWithinLongest }
         ensures { result ≡ is_expected self.smoothed pace.now passed }
     {
         let (soonest, most) = match self.smoothed {
@@ -154,9 +154,9 @@ impl Measure {
     /// The measure after the peer acknowledged a packet that had gone out again so long ago, or one that had gone out before. `left` says
     /// whether something is still not acknowledged.
     fn doubted(self, pace: &Pace, left: bool, passed: u64) -> Measure
-        requires { IfSome self.smoothed IsBounded }
+        requires { IfSome self.smoothed IsWithinLongest }
         ensures value { result ≡ doubted self pace.now left passed }
-        ensures bounded { IfSome result.smoothed IsBounded }
+        ensures bounded { IfSome result.smoothed IsWithinLongest }
     {
         if !self.is_expected(pace, passed) {
             return Measure {
@@ -169,9 +169,9 @@ impl Measure {
 
     /// The measure once the peer acknowledges more, or opens the connection.
     pub fn learnt(self, pace: &Pace, timing: Timing, progress: Progress, now: u64) -> Measure
-        requires { IfSome self.smoothed IsBounded }
+        requires { IfSome self.smoothed IsWithinLongest }
         ensures value { result ≡ learnt self pace.now timing progress now }
-        ensures bounded { IfSome result.smoothed IsBounded }
+        ensures bounded { IfSome result.smoothed IsWithinLongest }
     {
         match timing {
             Timing::Timed(since, place) if place <= progress.acknowledged => self.sampled(

@@ -16,7 +16,7 @@ use Rattle.xns_host.specs.declared.host.Host.{Host}
 use Rattle.xns_host.specs.declared.outgoing.Outgoing.{Outgoing}
 use Rattle.xns_c.specs.Events.{EventIsGiven}
 use Rattle.xns_c.specs.Given.{IsPut}
-use Rattle.xns_c.specs.Hosts.{FetchesEvent, FetchesPacket, GivesPacket, Turns, WakesHost, left_of, time_or_never}
+use Rattle.xns_c.specs.Hosts.{FetchesEvent, FetchesPacket, GivesPacket, HostTurns, WakesHost, left_of, time_or_never}
 use Rattle.xns_c.specs.Results.{ok, no_memory, no_slot, short_buffer}
 use Rattle.xns_c.specs.declared.event.XnsEvent.{XnsEvent}
 use Rattle.xns_c.specs.declared.kept_host.KeptHost.{KeptHost}
@@ -90,7 +90,7 @@ pub turned : (k n : KeptHost) (host : Host) (now number : ℕ) (deed : Deed) (re
     → n.host ≡ host → n.packet ≡ k.packet → result ≡ host_told answer → Turn now number deed answer k.host host
     → (has_guest (slice_get k.host.guests.items number) ≡ false → answer ≡ Err (NoConnection number))
     → ((g : Guest) → slice_get k.host.guests.items number ≡ Some (Some g) → TellsRefusal (reason g.connection.conversation) answer)
-    → Turns k n now number deed reason result
+    → HostTurns k n now number deed reason result
 turned k n host now number deed reason answer result same packet told turn none refused = record {
   answer = answer;
   told = told;

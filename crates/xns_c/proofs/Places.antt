@@ -11,7 +11,7 @@ use Rattle.xns_idp.specs.declared.fault.IdpFault.TheVariants.{Short}
 use Rattle.xns_c.specs.declared.packet.XnsPacket.{XnsPacket}
 use Rattle.xns_c.specs.Views.{StandsIn, packet_in}
 use Rattle.xns_c.specs.Given.{is_yes, as_byte}
-use Rattle.xns_c.specs.Structs.{address_in}
+use Rattle.xns_c.specs.Structs.{address_of_struct}
 use Rattle.xns_spp.specs.declared.header.Header.{Header}
 use Rattle.xns_spp.specs.Header.{header_of, header_fault, header_fields}
 
@@ -104,7 +104,7 @@ byte_of_flag x f e = let most = small x in omega (arith, e, most)
 
 -- what is told of a packet says which it is
 pub read_as : (b : List ℕ) (p : PacketModel) (n : ℕ) (r : XnsPacket) → Ok (p, n) ≡ packet_of b → r.summed ≡ as_byte p.summed
-    → (r.control ≡ p.control) × (r.kind ≡ p.kind) → (address_in r.target ≡ p.target) × (address_in r.source ≡ p.source)
+    → (r.control ≡ p.control) × (r.kind ≡ p.kind) → (address_of_struct r.target ≡ p.target) × (address_of_struct r.source ≡ p.source)
     → (r.body_at ≡ 30) × (r.body_length ≡ length p.body) × (r.taken ≡ n) → packet_of b ≡ Ok (packet_in r b, r.taken)
 read_as b p n r e flag fields ends (at, size, whole) =
     let summed : p.summed ≡ is_yes r.summed = sym (ap is_yes flag ∙ flag_again p.summed) in

@@ -6,7 +6,7 @@ use Rattle.courier_types.specs.Reading.{reading, front_long}
 use Rattle.courier_types.specs.Shape.{ShapeModel}
 use Rattle.courier_types.specs.Spelling.{bytes_spelling}
 use Rattle.courier_types.specs.Value.{ValueModel}
-use Rattle.xns_c.specs.Cursor.{moved, faulted, IsRead}
+use Rattle.xns_c.specs.Cursor.{further_on, faulted, IsRead}
 use Rattle.xns_c.specs.Given.{is_yes}
 use Rattle.xns_c.specs.Results.{ok, truncated, not_boolean}
 use Rattle.xns_c.specs.declared.cursor.XnsCursor.{XnsCursor}
@@ -21,10 +21,10 @@ two_fewer words = omega arith
 pub same_read : (shape : ShapeModel) (found words : List ℕ) (before after : XnsCursor) (number : ℕ) (value : ValueModel) → found ≡ words → IsRead (value_of shape found) before after number value → IsRead (value_of shape words) before after number value
 same_read shape found words before after number value e read = subst (λ (w : List ℕ). IsRead (value_of shape w) before after number value) e read
 
-pub cardinal_read : (words : List ℕ) (before : XnsCursor) → 1 ≤ length words → IsRead (value_of ShapeModel.cardinal words) before (moved before 1) ok (ValueModel.cardinal (slice_index_or words 0 0))
+pub cardinal_read : (words : List ℕ) (before : XnsCursor) → 1 ≤ length words → IsRead (value_of ShapeModel.cardinal words) before (further_on before 1) ok (ValueModel.cardinal (slice_index_or words 0 0))
 unfolding value_of reading
 cardinal_read [] before h = absurd (omega (arith, h))
-cardinal_read (w ∷ ws) before h = (refl, refl, ap (moved before) (sym (one_fewer ws)))
+cardinal_read (w ∷ ws) before h = (refl, refl, ap (further_on before) (sym (one_fewer ws)))
 
 pub cardinal_cut : (words : List ℕ) (before after : XnsCursor) (number : ℕ) (value : ValueModel) → length words < 1 → (number ≡ truncated) × (after ≡ faulted before truncated) → IsRead (value_of ShapeModel.cardinal words) before after number value
 unfolding value_of reading
@@ -40,11 +40,11 @@ integer_read (w ∷ ws) before after number word value read e =
     let is : word ≡ w = cc in
     (read.0, ap ValueModel.integer (e read.0 ∙ ap (cast_signed w16) is), read.2)
 
-pub long_cardinal_read : (words : List ℕ) (before : XnsCursor) (value : ℕ) → 2 ≤ length words → value ≡ slice_index_or words 0 0 * 65536 + slice_index_or words 1 0 → IsRead (value_of ShapeModel.long_cardinal words) before (moved before 2) ok (ValueModel.long_cardinal value)
+pub long_cardinal_read : (words : List ℕ) (before : XnsCursor) (value : ℕ) → 2 ≤ length words → value ≡ slice_index_or words 0 0 * 65536 + slice_index_or words 1 0 → IsRead (value_of ShapeModel.long_cardinal words) before (further_on before 2) ok (ValueModel.long_cardinal value)
 unfolding value_of reading front_long
 long_cardinal_read [] before value h e = absurd (omega (arith, h))
 long_cardinal_read (high ∷ []) before value h e = absurd (omega (arith, h))
-long_cardinal_read (high ∷ low ∷ ws) before value h e = (refl, ap ValueModel.long_cardinal e, ap (moved before) (sym (two_fewer ws)))
+long_cardinal_read (high ∷ low ∷ ws) before value h e = (refl, ap ValueModel.long_cardinal e, ap (further_on before) (sym (two_fewer ws)))
 
 pub long_cardinal_cut : (words : List ℕ) (before after : XnsCursor) (number : ℕ) (value : ValueModel) → length words < 2 → (number ≡ truncated) × (after ≡ faulted before truncated) → IsRead (value_of ShapeModel.long_cardinal words) before after number value
 unfolding value_of reading front_long
@@ -67,11 +67,11 @@ boolean_cut [] before after number value h told = told
 boolean_cut (w ∷ ws) before after number value h told = absurd (omega (arith, h))
 
 -- the word of a boolean is 0 or 1
-pub boolean_read : (words : List ℕ) (before : XnsCursor) → 1 ≤ length words → slice_index_or words 0 0 ≤ 1 → IsRead (value_of ShapeModel.boolean words) before (moved before 1) ok (ValueModel.boolean (is_yes (slice_index_or words 0 0)))
+pub boolean_read : (words : List ℕ) (before : XnsCursor) → 1 ≤ length words → slice_index_or words 0 0 ≤ 1 → IsRead (value_of ShapeModel.boolean words) before (further_on before 1) ok (ValueModel.boolean (is_yes (slice_index_or words 0 0)))
 unfolding value_of reading
 boolean_read [] before h low = absurd (omega (arith, h))
-boolean_read (zero ∷ ws) before h low = (refl, refl, ap (moved before) (sym (one_fewer ws)))
-boolean_read (suc zero ∷ ws) before h low = (refl, refl, ap (moved before) (sym (one_fewer ws)))
+boolean_read (zero ∷ ws) before h low = (refl, refl, ap (further_on before) (sym (one_fewer ws)))
+boolean_read (suc zero ∷ ws) before h low = (refl, refl, ap (further_on before) (sym (one_fewer ws)))
 boolean_read (suc (suc n) ∷ ws) before h low = absurd (omega (arith, low))
 
 pub boolean_wrong : (words : List ℕ) (before after : XnsCursor) (number : ℕ) (value : ValueModel) → 1 ≤ length words → 1 < slice_index_or words 0 0 → (number ≡ not_boolean) × (after ≡ faulted before not_boolean) → IsRead (value_of ShapeModel.boolean words) before after number value

@@ -19,8 +19,8 @@ abbrev pub ahead : List ℕ → XnsCursor → List ℕ
 ahead words cursor = drop cursor.place words
 
 -- a cursor that is this many words further on
-abbrev pub moved : XnsCursor → ℕ → XnsCursor
-moved cursor count = record cursor { place = cursor.place + count }
+abbrev pub further_on : XnsCursor → ℕ → XnsCursor
+further_on cursor count = record cursor { place = cursor.place + count }
 
 -- a cursor with a fault
 abbrev pub faulted : XnsCursor → ℕ → XnsCursor
@@ -28,7 +28,7 @@ faulted cursor number = record cursor { fault = number }
 
 -- a read of the words ahead, which are a value or have a fault, returns this number, tells this value, and leaves the cursor there
 abbrev pub IsRead : Result (ValueModel × ℕ) ReadFault → XnsCursor → XnsCursor → ℕ → ValueModel → Type 0
-IsRead (Ok found) before after number value = (number ≡ ok) × (value ≡ found.0) × (after ≡ moved before found.1)
+IsRead (Ok found) before after number value = (number ≡ ok) × (value ≡ found.0) × (after ≡ further_on before found.1)
 IsRead (Err fault) before after number value = (number ≡ reason_number fault.reason) × (after ≡ faulted before (reason_number fault.reason))
 
 -- words were put at a place of a buffer; what stood before and behind them stands there still
@@ -36,7 +36,7 @@ abbrev pub IsPutAt : ℕ → List ℕ → List ℕ → List ℕ → Type 0
 IsPutAt place words before after = after ≡ take place before ++ words ++ drop (place + length words) before
 
 -- a write of words at the cursor returns this number, and leaves the cursor there; a buffer without room for all of the words stays as it was
-abbrev pub IsWritten : List ℕ → XnsCursor → XnsCursor → List ℕ → List ℕ → ℕ → Type 0
-IsWritten words before after old new number =
-    (before.place + length words ≤ length old → (number ≡ ok) × IsPutAt before.place words old new × (after ≡ moved before (length words)))
+abbrev pub WritesWords : List ℕ → XnsCursor → XnsCursor → List ℕ → List ℕ → ℕ → Type 0
+WritesWords words before after old new number =
+    (before.place + length words ≤ length old → (number ≡ ok) × IsPutAt before.place words old new × (after ≡ further_on before (length words)))
     × (length old < before.place + length words → (number ≡ short_buffer) × (new ≡ old) × (after ≡ faulted before short_buffer))

@@ -15,7 +15,7 @@ use Rattle.xns_host.specs.declared.host_fault.HostFault.TheVariants.{NoCall, Clo
 use Rattle.xns_connection.specs.declared.why.Why.{Why}
 use Rattle.xns_connection.specs.declared.why.Why.TheVariants.{Asked, ByPeer, Silent, NotServed, Refused}
 use Rattle.xns_c.specs.Results.{ok, nothing, no_memory, bad_argument, too_long, no_slot, stopped, busy, closing, attention}
-use Rattle.xns_c.specs.Results.{no_connection, too_many_services, peer_calls, every_host, no_socket, echo_socket, no_version}
+use Rattle.xns_c.specs.Results.{no_connection, too_many_services, peer_calls, every_host, no_socket, echo_socket_refused, no_version}
 
 -- ---- what a peer said
 
@@ -78,7 +78,7 @@ host_fault_number (NoConnection number) = no_connection
 host_fault_number NoRoom = no_slot
 host_fault_number EveryHost = every_host
 host_fault_number NoSocket = no_socket
-host_fault_number EchoSocket = echo_socket
+host_fault_number EchoSocket = echo_socket_refused
 host_fault_number NoVersion = no_version
 host_fault_number TooManyServices = too_many_services
 host_fault_number Busy = busy

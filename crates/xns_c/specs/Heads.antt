@@ -29,8 +29,8 @@ head_given (messages.Return transaction words) = short_head 2 transaction 0
 head_given (messages.Abort transaction error words) = short_head 3 transaction error
 
 -- the answer of this kind: 1 a reject, 2 a return, 3 an abort
-abbrev pub answer_in : ℕ → ℕ → Option Answer
-answer_in kind code =
+abbrev pub answer_of_kind : ℕ → ℕ → Option Answer
+answer_of_kind kind code =
     if kind == 1 then Some (Reject code)
     else if kind == 2 then Some Return
     else if kind == 3 then Some (Abort code)

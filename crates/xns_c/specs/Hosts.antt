@@ -47,7 +47,7 @@ IsNew (Some k) own settings secret = IsNewHost own.network own.host settings sec
 -- ---- functions that name a connection
 
 -- the host made this turn, and the answer is told; what is kept of packets stays
-pub record Turns (k n : KeptHost) (now number : ℕ) (deed : Deed) (reason : Conversation → Option Refusal) (result : ℕ) : Type 0 where
+pub record HostTurns (k n : KeptHost) (now number : ℕ) (deed : Deed) (reason : Conversation → Option Refusal) (result : ℕ) : Type 0 where
   pub answer : Result (Unit {0}) HostFault
   pub told : result ≡ host_told answer
   pub turn : Turn now number deed answer k.host n.host
@@ -73,20 +73,20 @@ abbrev pub kept_closing : Option Event → ℕ → ℕ → Option Event
 kept_closing event number result = if result == ok && keeps_answer event number then None else event
 
 -- the call was made; while an answer on the connection is kept, it changes nothing
-pub record Calls (k n : KeptHost) (now number : ℕ) (call : RawCall) (result : ℕ) : Type 0 where
+pub record HostCalls (k n : KeptHost) (now number : ℕ) (call : RawCall) (result : ℕ) : Type 0 where
   pub kept : keeps_answer k.event number ≡ true → (result ≡ busy) × (n ≡ k)
-  pub turns : keeps_answer k.event number ≡ false → Turns k n now number (made call) (λ t. call_fault_of t call) result
+  pub turns : keeps_answer k.event number ≡ false → HostTurns k n now number (made call) (λ t. call_fault_of t call) result
   pub event : n.event ≡ k.event
 
 -- the answer was given; a kind that no answer has changes nothing
 pub record AnswersCall (k n : KeptHost) (now number : ℕ) (answer : Option Answer) (words : List ℕ) (result : ℕ) : Type 0 where
-  pub turns : (a : Answer) → answer ≡ Some a → Turns k n now number (gave a words) (λ t. answer_fault_of t a words) result
+  pub turns : (a : Answer) → answer ≡ Some a → HostTurns k n now number (gave a words) (λ t. answer_fault_of t a words) result
   pub bad : answer ≡ None → (result ≡ bad_argument) × (n ≡ k)
   pub event : n.event ≡ kept_after k.event number result
 
 -- the connection was asked to close, as each one is that is there
 pub record Closes (k n : KeptHost) (now number result : ℕ) : Type 0 where
-  pub turns : Turns k n now number asked (λ t. None) result
+  pub turns : HostTurns k n now number asked (λ t. None) result
   pub some : (g : Guest) → guest_at k number ≡ Some (Some g) → result ≡ ok
   pub event : n.event ≡ kept_closing k.event number result
 
@@ -126,7 +126,7 @@ pub record StaysKept (k n : KeptHost) : Type 0 where
   pub packet : n.packet ≡ k.packet
 
 -- the host serves these programs at this socket, or says why not
-pub record Serves (k n : KeptHost) (socket : ℕ) (programs : List Program) (result : ℕ) : Type 0 where
+pub record HostServes (k n : KeptHost) (socket : ℕ) (programs : List Program) (result : ℕ) : Type 0 where
   pub answer : Result (Unit {0}) HostFault
   pub told : result ≡ host_told answer
   pub serves : ServesAt socket programs answer k.host n.host
@@ -134,7 +134,7 @@ pub record Serves (k n : KeptHost) (socket : ℕ) (programs : List Program) (res
   pub kept : StaysKept k n
 
 -- the host is at this network from now on, and nothing else changed
-pub record Moves (k n : KeptHost) (network : ℕ) : Type 0 where
+pub record HostMoves (k n : KeptHost) (network : ℕ) : Type 0 where
   pub moves : MovesTo network k.host n.host
   pub kept : StaysKept k n
 

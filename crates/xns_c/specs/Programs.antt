@@ -7,12 +7,12 @@ use Rattle.call_texts.specs.declared.unread.UnreadReason.{UnreadReason}
 use Rattle.call_texts.specs.declared.unread.UnreadReason.TheVariants as unread
 use Rattle.courier_notation.specs.Lexing.{HasToken}
 use Rattle.courier_programs.specs.Declarations.{error_by, procedure_by}
-use Rattle.courier_programs.specs.Meanings.{ErrorModel, ProcedureModel, ResolvedModel, resolved_model}
+use Rattle.courier_programs.specs.Meanings.{ResolvedError, ResolvedProcedure, ResolvedModel, resolved_model}
 use Rattle.courier_programs.specs.Texts.{TextFault, position_behind, text_meant}
 use Rattle.courier_programs.specs.declared.program.Program.{Program}
 use Rattle.program_tables.specs.Tables.{NodeModel, program_nodes}
 use Rattle.xns_c.specs.Given.{IsPut}
-use Rattle.xns_c.specs.Reasons.{kind_number, reason_number}
+use Rattle.xns_c.specs.Reasons.{kind_number, program_reason_number}
 use Rattle.xns_c.specs.Results.{ok, nothing, short_buffer, too_long, truncated, not_boolean, over_maximum, not_listed, left_over, wrong_text}
 use Rattle.xns_c.specs.declared.kept_programs.KeptPrograms.{KeptPrograms}
 use Rattle.xns_c.specs.declared.node.XnsNode.{XnsNode}
@@ -41,7 +41,7 @@ abbrev pub fault_given : List ℕ → TextFault → XnsNotationFault
 fault_given text f = record {
   line = (position_behind (take f.0 text)).0;
   column = (position_behind (take f.0 text)).1;
-  reason = reason_number f.1;
+  reason = program_reason_number f.1;
 }
 
 -- reading a text, which is a program or has a first fault, returns this number
@@ -59,41 +59,41 @@ ReadingWants text before = HasToken text ⊎ IsOk (text_meant text before)
 abbrev pub program_called : List Program → List ℕ → Option Program
 program_called programs name = find (λ p. bytes_eq p.name.items name) programs
 
-abbrev pub procedure_called : List ProcedureModel → List ℕ → Option ProcedureModel
+abbrev pub procedure_called : List ResolvedProcedure → List ℕ → Option ResolvedProcedure
 procedure_called procedures name = find (λ p. bytes_eq p.name name) procedures
 
-abbrev pub error_called : List ErrorModel → List ℕ → Option ErrorModel
+abbrev pub error_called : List ResolvedError → List ℕ → Option ResolvedError
 error_called errors name = find (λ e. bytes_eq e.name name) errors
 
-abbrev pub procedure_called_in : List ℕ → Option Program → Option ProcedureModel
+abbrev pub procedure_called_in : List ℕ → Option Program → Option ResolvedProcedure
 procedure_called_in name (Some p) = procedure_called (resolved_model p).procedures name
 procedure_called_in name None = None
 
-abbrev pub error_called_in : List ℕ → Option Program → Option ErrorModel
+abbrev pub error_called_in : List ℕ → Option Program → Option ResolvedError
 error_called_in name (Some p) = error_called (resolved_model p).errors name
 error_called_in name None = None
 
-abbrev pub procedure_numbered_in : ℕ → Option Program → Option ProcedureModel
+abbrev pub procedure_numbered_in : ℕ → Option Program → Option ResolvedProcedure
 procedure_numbered_in number (Some p) = procedure_by (resolved_model p).procedures number
 procedure_numbered_in number None = None
 
-abbrev pub error_numbered_in : ℕ → Option Program → Option ErrorModel
+abbrev pub error_numbered_in : ℕ → Option Program → Option ResolvedError
 error_numbered_in number (Some p) = error_by (resolved_model p).errors number
 error_numbered_in number None = None
 
-abbrev pub program_name : Option Program → Option (List ℕ)
-program_name found = option_map (λ p. p.name.items) found
+abbrev pub given_program_name : Option Program → Option (List ℕ)
+given_program_name found = option_map (λ p. p.name.items) found
 
-abbrev pub procedure_name : Option ProcedureModel → Option (List ℕ)
+abbrev pub procedure_name : Option ResolvedProcedure → Option (List ℕ)
 procedure_name found = option_map (λ p. p.name) found
 
-abbrev pub error_name : Option ErrorModel → Option (List ℕ)
+abbrev pub error_name : Option ResolvedError → Option (List ℕ)
 error_name found = option_map (λ e. e.name) found
 
-abbrev pub procedure_number : Option ProcedureModel → Option ℕ
+abbrev pub procedure_number : Option ResolvedProcedure → Option ℕ
 procedure_number found = option_map (λ p. p.number) found
 
-abbrev pub error_number : Option ErrorModel → Option ℕ
+abbrev pub error_number : Option ResolvedError → Option ℕ
 error_number found = option_map (λ e. e.number) found
 
 -- the number and the version of a program that was found are told, or that there is none

@@ -62,9 +62,9 @@ name_number names.TooDeep = 53
 name_number names.NoWords = 54
 name_number names.TooLarge = 55
 
-abbrev pub reason_number : ProgramReason → ℕ
-reason_number (wrong.Notation reason) = notation_number reason
-reason_number (wrong.Name reason) = name_number reason
+abbrev pub program_reason_number : ProgramReason → ℕ
+program_reason_number (wrong.Notation reason) = notation_number reason
+program_reason_number (wrong.Name reason) = name_number reason
 
 -- what a node stands for
 abbrev pub kind_number : NodeKind → ℕ

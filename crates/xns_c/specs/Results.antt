@@ -80,8 +80,8 @@ every_host = 85
 abbrev pub no_socket : ℕ
 no_socket = 86
 
-abbrev pub echo_socket : ℕ
-echo_socket = 87
+abbrev pub echo_socket_refused : ℕ
+echo_socket_refused = 87
 
 abbrev pub no_version : ℕ
 no_version = 88

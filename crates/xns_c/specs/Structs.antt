@@ -5,8 +5,8 @@ use Rattle.xns_spp.specs.declared.item.Item.{Item}
 use Rattle.xns_c.specs.Given.{is_yes}
 use Rattle.xns_c.specs.declared.address.XnsAddress.{XnsAddress}
 
-abbrev pub address_in : XnsAddress → Address
-address_in a = record { network = a.network; host = a.host; socket = a.socket }
+abbrev pub address_of_struct : XnsAddress → Address
+address_of_struct a = record { network = a.network; host = a.host; socket = a.socket }
 
 -- the item of these parts, as C gives them
 abbrev pub item_given : ℕ → ℕ → ℕ → List ℕ → Item

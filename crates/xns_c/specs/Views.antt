@@ -4,7 +4,7 @@ use Rattle.xns_idp.specs.Packet.{PacketModel}
 use Rattle.xns_idp.specs.Reading.{packet_of}
 use Rattle.xns_spp.specs.declared.header.Header.{Header}
 use Rattle.xns_c.specs.Given.{is_yes}
-use Rattle.xns_c.specs.Structs.{address_in}
+use Rattle.xns_c.specs.Structs.{address_of_struct}
 use Rattle.xns_c.specs.declared.header.XnsHeader.{XnsHeader}
 use Rattle.xns_c.specs.declared.packet.XnsPacket.{XnsPacket}
 
@@ -14,8 +14,8 @@ packet_with p body = record {
   summed = is_yes p.summed;
   control = p.control;
   kind = p.kind;
-  target = address_in p.target;
-  source = address_in p.source;
+  target = address_of_struct p.target;
+  source = address_of_struct p.source;
   body = body;
 }
 
@@ -40,8 +40,8 @@ pub record StandsIn (IsSuch : PacketModel → Type 0) (before : ℕ) (bytes : Li
   pub within : place + size ≤ length bytes
   pub body : slice_range bytes place (place + size) ≡ drop before packet.body
 
-abbrev pub header_in : XnsHeader → Header
-header_in h = record {
+abbrev pub header_of_struct : XnsHeader → Header
+header_of_struct h = record {
   control = h.control;
   stream = h.stream;
   source_id = h.source_id;

@@ -1,5 +1,5 @@
 ghost use Rattle.std.specs.Prelude.{◌≡◌};
-ghost use Rattle.xns_c.specs.Structs.{address_in};
+ghost use Rattle.xns_c.specs.Structs.{address_of_struct};
 
 use xns_idp::Address;
 
@@ -17,11 +17,11 @@ pub struct XnsAddress {
 
 impl XnsAddress {
     ghost use Rattle.std.specs.Prelude.{◌≡◌};
-    ghost use Rattle.xns_c.specs.Structs.{address_in};
+    ghost use Rattle.xns_c.specs.Structs.{address_of_struct};
 
     /// An address of the stack, for C.
     pub fn of(address: &Address) -> XnsAddress
-        ensures { address_in result ≡ address.now }
+        ensures { address_of_struct result ≡ address.now }
     {
         XnsAddress {
             network: address.network,
@@ -32,7 +32,7 @@ impl XnsAddress {
 
     /// An address of C, for the stack.
     pub fn address(&self) -> Address
-        ensures { result ≡ address_in self.now }
+        ensures { result ≡ address_of_struct self.now }
     {
         Address {
             network: self.network,
@@ -44,7 +44,7 @@ impl XnsAddress {
 
 /// Tells C an address and the connection identifier of the end there.
 pub fn tell_end(end: (Address, u16), address: &mut XnsAddress, id: &mut u16)
-    ensures { (address_in address.new ≡ end.0) × (id.new ≡ end.1) }
+    ensures { (address_of_struct address.new ≡ end.0) × (id.new ≡ end.1) }
 {
     *address = XnsAddress::of(&end.0);
     *id = end.1;

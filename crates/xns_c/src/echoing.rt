@@ -6,7 +6,7 @@ ghost use Rattle.xns_idp.specs.Reading.{packet_of};
 ghost use Rattle.xns_small.specs.Echo.{echo_of};
 ghost use Rattle.xns_c.specs.Echo.{WritesEchoRequest, IsEchoed, IsEchoedIn};
 ghost use Rattle.xns_c.specs.Results.{ok, nothing};
-ghost use Rattle.xns_c.specs.Structs.{address_in};
+ghost use Rattle.xns_c.specs.Structs.{address_of_struct};
 
 use crate::address::XnsAddress;
 use crate::results::{NO_MEMORY, NOTHING, OK, SHORT_BUFFER, TOO_LONG};
@@ -35,7 +35,7 @@ pub extern "C" fn xns_echo_request(
     buffer: &mut [u8],
     written: &mut usize,
 ) -> u32
-    ensures { WritesEchoRequest (address_in own.now) (address_in target.now) bytes.now buffer.old buffer.new written.old written.new result }
+    ensures { WritesEchoRequest (address_of_struct own.now) (address_of_struct target.now) bytes.now buffer.old buffer.new written.old written.new result }
 {
     if bytes.len() > MOST_ECHOED {
         return TOO_LONG;
@@ -68,8 +68,8 @@ pub extern "C" fn xns_echo_request(
 /// How many bytes a reply echoes, if the packet is an Echo reply from `target`.
 #[tactic(auto, unfolding(xns_small::specs::Echo::echo_of))]
 fn echoed_length(target: &XnsAddress, packet: &Packet<'_>) -> Option<usize>
-    ensures { MatchOption result (IsEchoed (address_in target.now) (packet_model packet.now) → ⊥)
-        (λ n. IsEchoed (address_in target.now) (packet_model packet.now) × (BEFORE_DATA + n ≡ length packet.now.body.now)) }
+    ensures { MatchOption result (IsEchoed (address_of_struct target.now) (packet_model packet.now) → ⊥)
+        (λ n. IsEchoed (address_of_struct target.now) (packet_model packet.now) × (BEFORE_DATA + n ≡ length packet.now.body.now)) }
 {
     if packet.kind != ECHO || packet.source.socket != target.socket {
         return None;
@@ -104,8 +104,8 @@ pub extern "C" fn xns_echo_accept(
     body_at: &mut usize,
     body_length: &mut usize,
 ) -> u32
-    ensures accepted { (x : PacketModel × ℕ) → packet_of bytes.now ≡ Ok x → IsEchoed (address_in target.now) x.0 → result ≡ ok }
-    ensures reply { result ≡ ok → IsEchoedIn (address_in target.now) bytes.now body_at.new body_length.new }
+    ensures accepted { (x : PacketModel × ℕ) → packet_of bytes.now ≡ Ok x → IsEchoed (address_of_struct target.now) x.0 → result ≡ ok }
+    ensures reply { result ≡ ok → IsEchoedIn (address_of_struct target.now) bytes.now body_at.new body_length.new }
     ensures nothing { result ≢ ok → result ≡ nothing }
     ensures unchanged { result ≢ ok → (body_at.new ≡ body_at.old) × (body_length.new ≡ body_length.old) }
 {

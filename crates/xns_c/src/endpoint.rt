@@ -7,13 +7,13 @@ ghost use Rattle.xns_spp.specs.Packet.{most_body};
 ghost use Rattle.xns_spp.specs.Sending.{send_answer, after_send, flush_answer};
 ghost use Rattle.xns_spp.specs.Sending.{after_flush, tick_answer, after_tick};
 ghost use Rattle.xns_spp.specs.State.{State, initiator_state, responder_state};
-ghost use Rattle.xns_c.specs.Endpoints.{HandsUp, TakesPacket};
+ghost use Rattle.xns_c.specs.Endpoints.{HandsUpToBuffer, TakesPacket};
 ghost use Rattle.xns_c.specs.Given.{IsPut, IsPutIfThere};
-ghost use Rattle.xns_c.specs.Handle.{line_of};
-ghost use Rattle.xns_c.specs.Line.{Keeps, Makes, packets_of};
+ghost use Rattle.xns_c.specs.Handle.{kept_endpoint_of};
+ghost use Rattle.xns_c.specs.KeptEndpoint.{KeepsEndpoint, Makes, waiting_packets};
 ghost use Rattle.xns_c.specs.Results.{ok, nothing, no_memory, no_endpoint, short_buffer, bad_argument, too_long, send_number};
 ghost use Rattle.xns_c.specs.Results.{dropped_number};
-ghost use Rattle.xns_c.specs.Structs.{address_in, item_given};
+ghost use Rattle.xns_c.specs.Structs.{address_of_struct, item_given};
 
 use crate::address::XnsAddress;
 use crate::connection::Connection;
@@ -35,10 +35,10 @@ const REPLY: usize = 42;
 
 /// Puts a new endpoint, or none, in the place of the one that a handle had.
 fn fill(alloc: Global, handle: &mut XnsEndpoint, endpoint: Endpoint) -> u32
-    ensures filled { (s : State) → result ≡ ok → StandsFor endpoint s → Keeps (line_of handle.new) s }
-    ensures packets { packets_of (line_of handle.new) ≡ [] }
+    ensures filled { (s : State) → result ≡ ok → StandsFor endpoint s → KeepsEndpoint (kept_endpoint_of handle.new) s }
+    ensures packets { waiting_packets (kept_endpoint_of handle.new) ≡ [] }
     ensures memory { result ≢ ok → result ≡ no_memory }
-    ensures none { result ≢ ok → line_of handle.new ≡ None }
+    ensures none { result ≢ ok → kept_endpoint_of handle.new ≡ None }
 {
     let _ = handle.take(alloc);
     match Box::new(alloc, Connection::new(alloc, endpoint)) {
@@ -64,13 +64,13 @@ pub extern "C" fn xns_endpoint_new_initiator(
     window: usize,
     backlog: usize,
 ) -> u32
-    ensures made { result ≡ ok → Keeps (line_of handle.new) (initiator_state (address_in own.now) id (address_in peer.now) window backlog) }
-    ensures packets { packets_of (line_of handle.new) ≡ [] }
+    ensures made { result ≡ ok → KeepsEndpoint (kept_endpoint_of handle.new) (initiator_state (address_of_struct own.now) id (address_of_struct peer.now) window backlog) }
+    ensures packets { waiting_packets (kept_endpoint_of handle.new) ≡ [] }
     ensures bad { (id ≡ 0) ⊎ ((window < 1) ⊎ ((most_pending < window) ⊎ ((backlog < 1) ⊎ (most_pending < backlog))))
         → result ≡ bad_argument }
     ensures good { 0 < id → (1 ≤ window) × (window ≤ most_pending) → (1 ≤ backlog)
         × (backlog ≤ most_pending) → result ≢ ok → result ≡ no_memory }
-    ensures none { result ≢ ok → line_of handle.new ≡ None }
+    ensures none { result ≢ ok → kept_endpoint_of handle.new ≡ None }
 {
     let _ = handle.take(alloc);
     if id == 0 || window == 0 || window > MOST_PENDING || backlog == 0 || backlog > MOST_PENDING {
@@ -96,14 +96,14 @@ pub extern "C" fn xns_endpoint_new_responder(
     window: usize,
     backlog: usize,
 ) -> u32
-    ensures made { result ≡ ok → Keeps (line_of handle.new)
-        (responder_state (address_in own.now) id (address_in peer.now) peer_id window backlog) }
-    ensures packets { packets_of (line_of handle.new) ≡ [] }
+    ensures made { result ≡ ok → KeepsEndpoint (kept_endpoint_of handle.new)
+        (responder_state (address_of_struct own.now) id (address_of_struct peer.now) peer_id window backlog) }
+    ensures packets { waiting_packets (kept_endpoint_of handle.new) ≡ [] }
     ensures bad { (id ≡ 0) ⊎ ((peer_id ≡ 0) ⊎ ((window < 1) ⊎ ((most_pending < window) ⊎ ((backlog < 1) ⊎ (most_pending < backlog)))))
         → result ≡ bad_argument }
     ensures good { 0 < id → 0 < peer_id → (1 ≤ window) × (window ≤ most_pending) → (1 ≤ backlog)
         × (backlog ≤ most_pending) → result ≢ ok → result ≡ no_memory }
-    ensures none { result ≢ ok → line_of handle.new ≡ None }
+    ensures none { result ≢ ok → kept_endpoint_of handle.new ≡ None }
 {
     let _ = handle.take(alloc);
     if id == 0
@@ -132,7 +132,7 @@ pub extern "C" fn xns_endpoint_new_responder(
 /// Frees the endpoint, if there is one. The handle then has none, and may be used again.
 #[unsafe(no_mangle)]
 pub extern "C" fn xns_endpoint_clear(alloc: Global, handle: &mut XnsEndpoint)
-    ensures { line_of handle.new ≡ None }
+    ensures { kept_endpoint_of handle.new ≡ None }
 {
     let _freed = handle.take(alloc);
 }
@@ -150,15 +150,15 @@ pub extern "C" fn xns_endpoint_send(
     last: u8,
     body: &[u8],
 ) -> u32
-    ensures number { (s : State) → Keeps (line_of handle.old) s → result ≢ no_memory
+    ensures number { (s : State) → KeepsEndpoint (kept_endpoint_of handle.old) s → result ≢ no_memory
         → result ≡ send_number (send_answer s (item_given stream attention last body.now)) }
-    ensures stands { (s : State) → Keeps (line_of handle.old) s → result ≢ no_memory
-        → Keeps (line_of handle.new) (after_send s (item_given stream attention last body.now)) }
-    ensures packets { packets_of (line_of handle.new) ≡ packets_of (line_of handle.old) }
-    ensures none { line_of handle.old ≡ None → (result ≡ no_endpoint) × (line_of handle.new ≡ None) }
-    ensures long { line_of handle.old ≢ None → most_body < length body.now → (result ≡ too_long)
-        × (line_of handle.new ≡ line_of handle.old) }
-    ensures memory { result ≡ no_memory → (0 < length body.now) × (line_of handle.new ≡ line_of handle.old) }
+    ensures stands { (s : State) → KeepsEndpoint (kept_endpoint_of handle.old) s → result ≢ no_memory
+        → KeepsEndpoint (kept_endpoint_of handle.new) (after_send s (item_given stream attention last body.now)) }
+    ensures packets { waiting_packets (kept_endpoint_of handle.new) ≡ waiting_packets (kept_endpoint_of handle.old) }
+    ensures none { kept_endpoint_of handle.old ≡ None → (result ≡ no_endpoint) × (kept_endpoint_of handle.new ≡ None) }
+    ensures long { kept_endpoint_of handle.old ≢ None → most_body < length body.now → (result ≡ too_long)
+        × (kept_endpoint_of handle.new ≡ kept_endpoint_of handle.old) }
+    ensures memory { result ≡ no_memory → (0 < length body.now) × (kept_endpoint_of handle.new ≡ kept_endpoint_of handle.old) }
 {
     let Some(mut connection) = handle.take(alloc) else {
         return NO_ENDPOINT;
@@ -179,7 +179,7 @@ pub extern "C" fn xns_endpoint_take(
     item: &mut XnsItem,
     buffer: &mut [u8],
 ) -> u32
-    ensures { HandsUp (line_of handle.old) (line_of handle.new) item.old item.new buffer.old buffer.new result }
+    ensures { HandsUpToBuffer (kept_endpoint_of handle.old) (kept_endpoint_of handle.new) item.old item.new buffer.old buffer.new result }
 {
     if buffer.len() < MOST_BODY {
         item.length = MOST_BODY;
@@ -229,7 +229,7 @@ pub extern "C" fn xns_endpoint_receive(
     received: &mut XnsReceived,
     buffer: &mut [u8],
 ) -> u32
-    ensures { TakesPacket (line_of handle.old) (line_of handle.new) bytes.now received.old received.new buffer.old buffer.new result }
+    ensures { TakesPacket (kept_endpoint_of handle.old) (kept_endpoint_of handle.new) bytes.now received.old received.new buffer.old buffer.new result }
 {
     if buffer.len() < REPLY {
         received.reply = REPLY;
@@ -262,7 +262,7 @@ pub extern "C" fn xns_endpoint_receive(
 /// `NO_ENDPOINT`, or `NO_MEMORY` where memory is refused: all is then as it was.
 #[unsafe(no_mangle)]
 pub extern "C" fn xns_endpoint_flush(alloc: Global, handle: &mut XnsEndpoint) -> u32
-    ensures { Makes (line_of handle.old) (line_of handle.new) flush_answer after_flush result }
+    ensures { Makes (kept_endpoint_of handle.old) (kept_endpoint_of handle.new) flush_answer after_flush result }
 {
     let Some(mut connection) = handle.take(alloc) else {
         return NO_ENDPOINT;
@@ -279,7 +279,7 @@ pub extern "C" fn xns_endpoint_flush(alloc: Global, handle: &mut XnsEndpoint) ->
 /// Makes the packets that are to go out when time has passed; else as `xns_endpoint_flush`.
 #[unsafe(no_mangle)]
 pub extern "C" fn xns_endpoint_tick(alloc: Global, handle: &mut XnsEndpoint) -> u32
-    ensures { Makes (line_of handle.old) (line_of handle.new) tick_answer after_tick result }
+    ensures { Makes (kept_endpoint_of handle.old) (kept_endpoint_of handle.new) tick_answer after_tick result }
 {
     let Some(mut connection) = handle.take(alloc) else {
         return NO_ENDPOINT;
@@ -304,14 +304,14 @@ pub extern "C" fn xns_endpoint_next_packet(
     buffer: &mut [u8],
     written: &mut usize,
 ) -> u32
-    ensures put { (p : List ℕ) (ps : List (List ℕ)) → packets_of (line_of handle.old) ≡ p ∷ ps → length p ≤ length buffer.old →
-        (result ≡ ok) × (packets_of (line_of handle.new) ≡ ps) × IsPut p buffer.old buffer.new written.new }
-    ensures short { (p : List ℕ) (ps : List (List ℕ)) → packets_of (line_of handle.old) ≡ p ∷ ps → length buffer.old < length p
+    ensures put { (p : List ℕ) (ps : List (List ℕ)) → waiting_packets (kept_endpoint_of handle.old) ≡ p ∷ ps → length p ≤ length buffer.old →
+        (result ≡ ok) × (waiting_packets (kept_endpoint_of handle.new) ≡ ps) × IsPut p buffer.old buffer.new written.new }
+    ensures short { (p : List ℕ) (ps : List (List ℕ)) → waiting_packets (kept_endpoint_of handle.old) ≡ p ∷ ps → length buffer.old < length p
         → (result ≡ short_buffer) × (written.new ≡ length p) }
-    ensures nothing { (s : State) → Keeps (line_of handle.old) s → packets_of (line_of handle.old) ≡ [] → result ≡ nothing }
-    ensures stands { (s : State) → Keeps (line_of handle.old) s → Keeps (line_of handle.new) s }
-    ensures none { line_of handle.old ≡ None → result ≡ no_endpoint }
-    ensures unchanged { result ≢ ok → (line_of handle.new ≡ line_of handle.old) × (buffer.new ≡ buffer.old)
+    ensures nothing { (s : State) → KeepsEndpoint (kept_endpoint_of handle.old) s → waiting_packets (kept_endpoint_of handle.old) ≡ [] → result ≡ nothing }
+    ensures stands { (s : State) → KeepsEndpoint (kept_endpoint_of handle.old) s → KeepsEndpoint (kept_endpoint_of handle.new) s }
+    ensures none { kept_endpoint_of handle.old ≡ None → result ≡ no_endpoint }
+    ensures unchanged { result ≢ ok → (kept_endpoint_of handle.new ≡ kept_endpoint_of handle.old) × (buffer.new ≡ buffer.old)
         × (result ≢ short_buffer → written.new ≡ written.old) }
 {
     let Some(mut connection) = handle.take(alloc) else {

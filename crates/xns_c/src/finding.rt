@@ -2,11 +2,11 @@
 
 ghost use Rattle.std.specs.Prelude.{◌≡◌, IfNone, IfSome, MatchOption, None, Some, map};
 ghost use Rattle.std.specs.Str.{bytes_eq};
-ghost use Rattle.courier_programs.specs.Meanings.{error_model, procedure_model};
+ghost use Rattle.courier_programs.specs.Meanings.{resolved_error, resolved_procedure};
 ghost use Rattle.courier_programs.specs.Scopes.{program_by};
 ghost use Rattle.xns_c.specs.Programs.{error_called, error_called_in, error_name, error_number, error_numbered_in, procedure_called};
 ghost use Rattle.xns_c.specs.Programs.{procedure_called_in, procedure_name, procedure_number, procedure_numbered_in};
-ghost use Rattle.xns_c.specs.Programs.{program_called as program_called_of, program_name};
+ghost use Rattle.xns_c.specs.Programs.{program_called as program_called_of, given_program_name};
 
 use courier_programs::{Procedure, Program, RemoteError, error_of, procedure_of, program_of};
 
@@ -32,7 +32,7 @@ pub fn program_called<'a>(programs: &'a [Program], name: &[u8]) -> Option<&'a Pr
 
 /// The number of the procedure of this name.
 fn number_of_procedure(procedures: &[Procedure], name: &[u8]) -> Option<u16>
-    ensures { result ≡ procedure_number (procedure_called (map procedure_model procedures.now) name.now) }
+    ensures { result ≡ procedure_number (procedure_called (map resolved_procedure procedures.now) name.now) }
 {
     for procedure in procedures {
         if is_same(&procedure.name, name) {
@@ -44,7 +44,7 @@ fn number_of_procedure(procedures: &[Procedure], name: &[u8]) -> Option<u16>
 
 /// The number of the error of this name.
 fn number_of_error(errors: &[RemoteError], name: &[u8]) -> Option<u16>
-    ensures { result ≡ error_number (error_called (map error_model errors.now) name.now) }
+    ensures { result ≡ error_number (error_called (map resolved_error errors.now) name.now) }
 {
     for error in errors {
         if is_same(&error.name, name) {
@@ -76,8 +76,8 @@ pub fn find_error(programs: &[Program], program: u32, version: u16, name: &[u8])
 
 /// The name of a program. `None` where it was not read.
 pub fn name_of_program(programs: &[Program], program: u32, version: u16) -> Option<&[u8]>
-    ensures { MatchOption result (program_name (program_by programs.now program version) ≡ None)
-        (λ name. program_name (program_by programs.now program version) ≡ Some name.now) }
+    ensures { MatchOption result (given_program_name (program_by programs.now program version) ≡ None)
+        (λ name. given_program_name (program_by programs.now program version) ≡ Some name.now) }
 {
     match program_of(programs, program, version) {
         Some(found) => Some(&found.name),

@@ -1,6 +1,6 @@
 ghost use Rattle.std.specs.Prelude.{◌≡◌, Option};
 ghost use Rattle.std.specs.Coded.{coded_option};
-ghost use Rattle.xns_c.specs.Line.{Line};
+ghost use Rattle.xns_c.specs.KeptEndpoint.{KeptEndpoint};
 ghost use Rattle.xns_c.specs.Owned.{owned_if};
 ghost use Rattle.xns_c.specs.contracts.connection.Connection.{the_row};
 
@@ -13,7 +13,7 @@ use std::marker::Model;
 #[repr(C)]
 pub struct XnsEndpoint {
     pub(crate) at: *mut u8,
-    pub ghost line: { Option Line } by { coded_option the_row.coded },
+    pub ghost line: { Option KeptEndpoint } by { coded_option the_row.coded },
 }
 
 impl Model for XnsEndpoint {

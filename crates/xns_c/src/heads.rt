@@ -4,7 +4,7 @@ ghost use Rattle.std.specs.Prelude.{◌≡◌, ℕ, List, IfSome, IfOk, Some, No
 ghost use Rattle.courier_messages.specs.Message.{message_bytes};
 ghost use Rattle.courier_messages.specs.declared.head.Head.TheVariants.{Call};
 ghost use Rattle.courier_messages.specs.Head.{with_words};
-ghost use Rattle.xns_c.specs.Heads.{head_given, message_given, answer_in, short_head};
+ghost use Rattle.xns_c.specs.Heads.{head_given, message_given, answer_of_kind, short_head};
 
 use crate::message::XnsMessage;
 use courier_messages::{Head, Words, write_message};
@@ -105,8 +105,8 @@ pub fn message_bytes(alloc: Global, head: Head, words: &[u16]) -> Result<Vec<u8>
 }
 
 /// The answer of this kind, if there is a kind of this number.
-pub fn answer_in(kind: u8, code: u16) -> Option<Answer>
-    ensures { result ≡ answer_in kind code }
+pub fn answer_of_kind(kind: u8, code: u16) -> Option<Answer>
+    ensures { result ≡ answer_of_kind kind code }
 {
     match kind {
         1 => Some(Answer::Reject { reason: code }),

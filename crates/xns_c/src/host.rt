@@ -7,12 +7,12 @@ ghost use Rattle.xns_host.specs.Standing.{IsNewHost};
 ghost use Rattle.xns_host.specs.declared.host_fault.HostFault.TheVariants.{NoMemory, OutOfRange};
 ghost use Rattle.xns_host.specs.declared.setting.Setting.{Setting};
 ghost use Rattle.xns_c.specs.Handle.{kept_of};
-ghost use Rattle.xns_c.specs.Heads.{answer_in};
-ghost use Rattle.xns_c.specs.Hosts.{AbandonsOne, Does, Calls, AnswersCall, Closes, Connects, Moves, Serves, TagsOne, Receives, FetchesEvent, FetchesPacket};
+ghost use Rattle.xns_c.specs.Heads.{answer_of_kind};
+ghost use Rattle.xns_c.specs.Hosts.{AbandonsOne, Does, HostCalls, AnswersCall, Closes, Connects, HostMoves, HostServes, TagsOne, Receives, FetchesEvent, FetchesPacket};
 ghost use Rattle.xns_c.specs.Hosts.{IsNew};
 ghost use Rattle.xns_c.specs.Results.{ok, no_memory, bad_argument};
 ghost use Rattle.xns_c.specs.Settings.{settings_in};
-ghost use Rattle.xns_c.specs.Structs.{address_in};
+ghost use Rattle.xns_c.specs.Structs.{address_of_struct};
 ghost use Rattle.xns_c.specs.declared.kept_host.KeptHost.{KeptHost};
 
 use crate::address::XnsAddress;
@@ -67,7 +67,7 @@ pub extern "C" fn xns_host_new(
     settings: &XnsSettings,
     secret: &[u8; 32],
 ) -> u32
-    ensures made { result ≡ ok → IsNew (kept_of handle.new) (address_in own.now) (settings_in settings.now) secret.now }
+    ensures made { result ≡ ok → IsNew (kept_of handle.new) (address_of_struct own.now) (settings_in settings.now) secret.now }
     ensures settings { (s : Setting) → wrong_setting (settings_in settings.now) ≡ Some s → result ≡ bad_argument }
     ensures fault { result ≢ ok → wrong_setting (settings_in settings.now) ≡ None → result ≡ no_memory }
     ensures none { result ≢ ok → kept_of handle.new ≡ None }
@@ -95,7 +95,7 @@ pub extern "C" fn xns_host_clear(alloc: Global, handle: &mut XnsHost)
 /// `NO_HOST`.
 #[unsafe(no_mangle)]
 pub extern "C" fn xns_host_set_network(alloc: Global, handle: &mut XnsHost, network: u32) -> u32
-    ensures moves { Does (kept_of handle.old) (kept_of handle.new) result (λ k n. (result ≡ ok) × Moves k n network) }
+    ensures moves { Does (kept_of handle.old) (kept_of handle.new) result (λ k n. (result ≡ ok) × HostMoves k n network) }
 {
     let Some(mut kept) = handle.take(alloc) else {
         return NO_HOST;
@@ -117,7 +117,7 @@ pub extern "C" fn xns_host_serve(
     socket: u16,
     programs: &[Program],
 ) -> u32
-    ensures serves { Does (kept_of handle.old) (kept_of handle.new) result (λ k n. Serves k n socket programs.now result) }
+    ensures serves { Does (kept_of handle.old) (kept_of handle.new) result (λ k n. HostServes k n socket programs.now result) }
 {
     let Some(mut kept) = handle.take(alloc) else {
         return NO_HOST;
@@ -142,7 +142,7 @@ pub extern "C" fn xns_host_connect(
     number: &mut usize,
 ) -> u32
     ensures connects { Does (kept_of handle.old) (kept_of handle.new) result
-        (λ k n. Connects k n now socket (address_in peer.now) via number.new result) }
+        (λ k n. Connects k n now socket (address_of_struct peer.now) via number.new result) }
     ensures untold { result ≢ ok → number.new ≡ number.old }
 {
     let Some(mut kept) = handle.take(alloc) else {
@@ -169,7 +169,7 @@ pub extern "C" fn xns_host_call(
     words: &[u16],
 ) -> u32
     ensures calls { Does (kept_of handle.old) (kept_of handle.new) result
-        (λ k n. Calls k n now number (words_call program version procedure words.now) result) }
+        (λ k n. HostCalls k n now number (words_call program version procedure words.now) result) }
 {
     let Some(mut kept) = handle.take(alloc) else {
         return NO_HOST;
@@ -201,7 +201,7 @@ pub extern "C" fn xns_host_answer(
     words: &[u16],
 ) -> u32
     ensures answers { Does (kept_of handle.old) (kept_of handle.new) result
-        (λ k n. AnswersCall k n now number (answer_in kind code) words.now result) }
+        (λ k n. AnswersCall k n now number (answer_of_kind kind code) words.now result) }
 {
     let Some(mut kept) = handle.take(alloc) else {
         return NO_HOST;

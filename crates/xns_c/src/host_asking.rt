@@ -8,7 +8,7 @@ ghost use Rattle.xns_c.specs.Handle.{kept_of};
 ghost use Rattle.xns_c.specs.Hosts.{WalksOn, Wakes, guest_at};
 ghost use Rattle.xns_c.specs.Results.{ok, no_host, no_connection};
 ghost use Rattle.xns_c.specs.Settings.{never};
-ghost use Rattle.xns_c.specs.Structs.{address_in};
+ghost use Rattle.xns_c.specs.Structs.{address_of_struct};
 ghost use Rattle.xns_c.specs.declared.kept_host.KeptHost.{KeptHost};
 
 use crate::address::XnsAddress;
@@ -77,7 +77,7 @@ pub extern "C" fn xns_host_peer(
     peer: &mut XnsAddress,
 ) -> u32
     ensures some { (k : KeptHost) (g : Guest) → kept_of handle.old ≡ Some k → guest_at k number ≡ Some (Some g)
-        → (result ≡ ok) × (address_in peer.new ≡ g.peer) }
+        → (result ≡ ok) × (address_of_struct peer.new ≡ g.peer) }
     ensures nobody { (k : KeptHost) → kept_of handle.old ≡ Some k → has_guest (guest_at k number) ≡ false → result ≡ no_connection }
     ensures none { kept_of handle.old ≡ None → result ≡ no_host }
     ensures same { kept_of handle.new ≡ kept_of handle.old }

@@ -7,7 +7,7 @@ ghost use Rattle.xns_idp.specs.Reading.{made_even, packet_of};
 ghost use Rattle.xns_idp.specs.declared.fault.IdpFault.{IdpFault};
 ghost use Rattle.xns_c.specs.Given.{IsPut, as_byte};
 ghost use Rattle.xns_c.specs.Results.{ok, bad_argument, short_buffer, too_long, idp_fault_number};
-ghost use Rattle.xns_c.specs.Structs.{address_in};
+ghost use Rattle.xns_c.specs.Structs.{address_of_struct};
 ghost use Rattle.xns_c.specs.Views.{packet_in, packet_with};
 
 use crate::address::XnsAddress;
@@ -35,7 +35,7 @@ pub extern "C" fn xns_checksum(bytes: &[u8], sum: &mut u16) -> u32
 fn told(found: &Packet<'_>, taken: usize) -> XnsPacket
     ensures flag { result.summed ≡ as_byte found.now.summed }
     ensures fields { (result.control ≡ found.now.control) × (result.kind ≡ found.now.kind) }
-    ensures ends { (address_in result.target ≡ found.now.target) × (address_in result.source ≡ found.now.source) }
+    ensures ends { (address_of_struct result.target ≡ found.now.target) × (address_of_struct result.source ≡ found.now.source) }
     ensures place { (result.body_at ≡ 30) × (result.body_length ≡ length found.now.body.now) × (result.taken ≡ taken) }
 {
     XnsPacket {

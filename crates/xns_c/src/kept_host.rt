@@ -1,7 +1,7 @@
 //! A host that C holds.
 
 ghost use Rattle.std.specs.Prelude.{◌≡◌, ◌≢◌, IfOk, OnErr, Some, None, Ok, Err, length};
-ghost use Rattle.xns_connection.specs.Calls.{call_model};
+ghost use Rattle.xns_connection.specs.Calls.{raw_of_call};
 ghost use Rattle.xns_host.specs.Settings.{wrong_setting};
 ghost use Rattle.xns_host.specs.Standing.{IsNewHost};
 ghost use Rattle.xns_host.specs.Turn.{GivesOut, TellsNext};
@@ -9,17 +9,17 @@ ghost use Rattle.xns_host.specs.declared.event.Event.{Event};
 ghost use Rattle.xns_host.specs.declared.host_fault.HostFault.TheVariants.{NoMemory, OutOfRange};
 ghost use Rattle.xns_host.specs.declared.outgoing.Outgoing.{Outgoing};
 ghost use Rattle.xns_host.specs.declared.setting.Setting.{Setting};
-ghost use Rattle.xns_c.specs.Heads.{answer_in};
-ghost use Rattle.xns_c.specs.Hosts.{AbandonsOne, Calls, AnswersCall, Closes, Connects, Moves, Serves, Receives, Wakes, FetchesEvent, FetchesPacket};
+ghost use Rattle.xns_c.specs.Heads.{answer_of_kind};
+ghost use Rattle.xns_c.specs.Hosts.{AbandonsOne, HostCalls, AnswersCall, Closes, Connects, HostMoves, HostServes, Receives, Wakes, FetchesEvent, FetchesPacket};
 ghost use Rattle.xns_c.specs.Hosts.{TagsOne, keeps_answer, kept_after, kept_closing, kept_tagging};
 ghost use Rattle.xns_c.specs.Results.{ok};
-ghost use Rattle.xns_c.specs.Structs.{address_in};
+ghost use Rattle.xns_c.specs.Structs.{address_of_struct};
 
 use crate::address::XnsAddress;
 use crate::event::XnsEvent;
 use crate::faults::{host_fault_number, host_told};
 use crate::front::put_front;
-use crate::heads::answer_in;
+use crate::heads::answer_of_kind;
 use crate::results::{BAD_ARGUMENT, BUSY, NO_MEMORY, NOTHING, OK, SHORT_BUFFER};
 use crate::telling_events::{give_event, is_answer, number_of, set_tag};
 use courier_sessions::Program;
@@ -63,14 +63,14 @@ impl KeptHost {
 
     /// Tells the host its network.
     pub fn set_network(&mut self, network: u32)
-        ensures { Moves self.old self.new network }
+        ensures { HostMoves self.old self.new network }
     {
         self.host.set_network(network);
     }
 
     /// Answers connections to this socket from now on, for these programs.
     pub fn serve(&mut self, socket: u16, programs: &[Program]) -> u32
-        ensures { Serves self.old self.new socket programs.now result }
+        ensures { HostServes self.old self.new socket programs.now result }
     {
         host_told(self.host.serve(socket, programs))
     }
@@ -84,7 +84,7 @@ impl KeptHost {
         peer: &XnsAddress,
         number: &mut usize,
     ) -> u32
-        ensures connects { Connects self.old self.new now socket (address_in peer.now) via number.new result }
+        ensures connects { Connects self.old self.new now socket (address_of_struct peer.now) via number.new result }
         ensures untold { result ≢ ok → number.new ≡ number.old }
     {
         match self.host.connect(now, via, socket, peer.address()) {
@@ -108,7 +108,7 @@ impl KeptHost {
 
     /// Puts out a call, unless the answer to the one before is kept.
     pub fn call(&mut self, now: u64, number: usize, call: &Call<'_>) -> u32
-        ensures { Calls self.old self.new now number (call_model call.now) result }
+        ensures { HostCalls self.old self.new now number (raw_of_call call.now) result }
     {
         if self.keeps_answer(number) {
             return BUSY;
@@ -133,9 +133,9 @@ impl KeptHost {
 
     /// Answers the call that was handed, or is kept, which then goes.
     pub fn answer(&mut self, now: u64, number: usize, kind: u8, code: u16, words: &[u16]) -> u32
-        ensures { AnswersCall self.old self.new now number (answer_in kind code) words.now result }
+        ensures { AnswersCall self.old self.new now number (answer_of_kind kind code) words.now result }
     {
-        let Some(answer) = answer_in(kind, code) else {
+        let Some(answer) = answer_of_kind(kind, code) else {
             return BAD_ARGUMENT;
         };
         let result = host_told(self.host.answer(now, number, answer, words));

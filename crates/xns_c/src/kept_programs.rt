@@ -6,7 +6,7 @@ ghost use Rattle.xns_c.specs.Programs.{ReadingWants, ReadsText, fault_given};
 ghost use Rattle.xns_c.specs.Results.{ok, no_memory};
 
 use crate::notation_fault::XnsNotationFault;
-use crate::reasons::reason_number;
+use crate::reasons::program_reason_number;
 use crate::results::{NO_MEMORY, OK, WRONG_TEXT};
 use courier_programs::{Program, ProgramReason, ProgramRefusal, line_and_column, read_text};
 use std::alloc::Global;
@@ -25,7 +25,7 @@ fn fault_out(text: &[u8], place: usize, reason: ProgramReason) -> XnsNotationFau
     XnsNotationFault {
         line,
         column,
-        reason: reason_number(reason),
+        reason: program_reason_number(reason),
     }
 }
 

@@ -5,7 +5,7 @@ ghost use Rattle.courier_programs.specs.Scopes.{program_by};
 ghost use Rattle.courier_programs.specs.Texts.{text_meant};
 ghost use Rattle.xns_c.specs.Programs.{GivesBytes, ReadingWants, ReadsText, TellsNumber, TellsProgram, error_called_in, error_name, error_number};
 ghost use Rattle.xns_c.specs.Programs.{error_numbered_in, kept_programs_of, procedure_called_in, procedure_name, procedure_number};
-ghost use Rattle.xns_c.specs.Programs.{procedure_numbered_in, program_called, program_name, programs_of};
+ghost use Rattle.xns_c.specs.Programs.{procedure_numbered_in, program_called, given_program_name, programs_of};
 ghost use Rattle.xns_c.specs.Results.{no_memory};
 
 use crate::finding::{
@@ -155,7 +155,7 @@ pub extern "C" fn xns_programs_name(
     buffer: &mut [u8],
     written: &mut usize,
 ) -> u32
-    ensures given { GivesBytes (program_name (program_by (programs_of handle.old) program version)) buffer.old buffer.new
+    ensures given { GivesBytes (given_program_name (program_by (programs_of handle.old) program version)) buffer.old buffer.new
         written.old written.new result }
     ensures same { programs_of handle.new ≡ programs_of handle.old }
 {

@@ -8,7 +8,7 @@ ghost use Rattle.courier_types.specs.Reading.{front_bytes};
 ghost use Rattle.courier_types.specs.Shape.{ShapeModel};
 ghost use Rattle.courier_types.specs.Value.{ValueModel};
 ghost use Rattle.courier_types.specs.declared.read_fault.ReadFault.{ReadFault};
-ghost use Rattle.xns_c.specs.Cursor.{ahead, moved, faulted, IsRead};
+ghost use Rattle.xns_c.specs.Cursor.{ahead, further_on, faulted, IsRead};
 ghost use Rattle.xns_c.specs.Given.{is_yes, IsPut};
 ghost use Rattle.xns_c.specs.Results.{ok, short_buffer, truncated, over_maximum, left_over};
 
@@ -104,7 +104,7 @@ pub extern "C" fn xns_read_count(
     count: &mut u16,
 ) -> u32
     ensures read { (n : ℕ) (rest : List ℕ) → cursor.old.fault ≡ ok → ahead words.now cursor.old ≡ n ∷ rest → n ≤ most →
-        (result ≡ ok) × (count.new ≡ n) × (cursor.new ≡ moved cursor.old 1) }
+        (result ≡ ok) × (count.new ≡ n) × (cursor.new ≡ further_on cursor.old 1) }
     ensures over { (n : ℕ) (rest : List ℕ) → cursor.old.fault ≡ ok → ahead words.now cursor.old ≡ n ∷ rest → most < n →
         (result ≡ over_maximum) × (cursor.new ≡ faulted cursor.old over_maximum) }
     ensures cut { cursor.old.fault ≡ ok → ahead words.now cursor.old ≡ [] → (result ≡ truncated)
@@ -201,7 +201,7 @@ pub extern "C" fn xns_read_text(
 ) -> u32
     ensures read { (bytes : List ℕ) (taken : ℕ) → cursor.old.fault ≡ ok
         → value_of ShapeModel.text (ahead words.now cursor.old) ≡ Ok (ValueModel.text bytes, taken) → length bytes ≤ length text.old →
-        (result ≡ ok) × IsPut bytes text.old text.new size.new × (cursor.new ≡ moved cursor.old taken) }
+        (result ≡ ok) × IsPut bytes text.old text.new size.new × (cursor.new ≡ further_on cursor.old taken) }
     ensures short { (bytes : List ℕ) (taken : ℕ) → cursor.old.fault ≡ ok
         → value_of ShapeModel.text (ahead words.now cursor.old) ≡ Ok (ValueModel.text bytes, taken) → length text.old < length bytes →
         (result ≡ short_buffer) × (size.new ≡ length bytes) × (cursor.new ≡ cursor.old) }

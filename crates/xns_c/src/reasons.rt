@@ -1,7 +1,7 @@
 //! What is wrong with a text in Courier's notation, and what a node of a table stands for, by number.
 
 ghost use Rattle.std.specs.Prelude.{◌≡◌};
-ghost use Rattle.xns_c.specs.Reasons.{kind_number, name_number, notation_number, reason_number};
+ghost use Rattle.xns_c.specs.Reasons.{kind_number, name_number, notation_number, program_reason_number};
 
 use courier_notation::Reason;
 use courier_programs::{NameReason, ProgramReason};
@@ -71,8 +71,8 @@ fn name_number(reason: NameReason) -> u32
 }
 
 /// What is wrong with a text.
-pub fn reason_number(reason: ProgramReason) -> u32
-    ensures { result ≡ reason_number reason }
+pub fn program_reason_number(reason: ProgramReason) -> u32
+    ensures { result ≡ program_reason_number reason }
 {
     match reason {
         ProgramReason::Notation(reason) => notation_number(reason),

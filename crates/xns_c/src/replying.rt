@@ -4,7 +4,7 @@ ghost use Rattle.std.specs.Prelude.{◌≡◌, MatchOption};
 ghost use Rattle.xns_idp.specs.Packet.{packet_model};
 ghost use Rattle.xns_idp.specs.Reading.{long_at, word_at};
 ghost use Rattle.xns_c.specs.Exchange.{IsAsked, WritesResponse};
-ghost use Rattle.xns_c.specs.Structs.{address_in};
+ghost use Rattle.xns_c.specs.Structs.{address_of_struct};
 
 use crate::address::XnsAddress;
 use crate::results::{NOTHING, TOO_LONG};
@@ -17,8 +17,8 @@ use xns_small::{Exchange, read_exchange};
 /// The identifier and the client type of a packet, if it asks this socket.
 #[tactic(auto, unfolding(xns_small::specs::Exchange::exchange_of))]
 fn asked_as(own: &XnsAddress, packet: &Packet<'_>) -> Option<(u32, u16)>
-    ensures { MatchOption result (IsAsked (address_in own.now) (packet_model packet.now) → ⊥)
-        (λ x. IsAsked (address_in own.now) (packet_model packet.now) × (x.0 ≡ long_at packet.now.body.now 0)
+    ensures { MatchOption result (IsAsked (address_of_struct own.now) (packet_model packet.now) → ⊥)
+        (λ x. IsAsked (address_of_struct own.now) (packet_model packet.now) × (x.0 ≡ long_at packet.now.body.now 0)
         × (x.1 ≡ word_at packet.now.body.now 4)) }
 {
     if packet.kind != PACKET_EXCHANGE || packet.target.socket != own.socket {
@@ -48,7 +48,7 @@ pub extern "C" fn xns_exchange_reply(
     buffer: &mut [u8],
     written: &mut usize,
 ) -> u32
-    ensures { WritesResponse (address_in own.now) request.now bytes.now buffer.old buffer.new written.old written.new result }
+    ensures { WritesResponse (address_of_struct own.now) request.now bytes.now buffer.old buffer.new written.old written.new result }
 {
     if bytes.len() > MOST_EXCHANGED {
         return TOO_LONG;

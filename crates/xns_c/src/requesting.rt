@@ -6,7 +6,7 @@ ghost use Rattle.xns_idp.specs.Reading.{packet_of};
 ghost use Rattle.xns_small.specs.Exchange.{IsResponse};
 ghost use Rattle.xns_c.specs.Exchange.{IsResponseIn, WritesRequest, asker};
 ghost use Rattle.xns_c.specs.Results.{ok, nothing};
-ghost use Rattle.xns_c.specs.Structs.{address_in};
+ghost use Rattle.xns_c.specs.Structs.{address_of_struct};
 
 use crate::address::XnsAddress;
 use crate::results::{BAD_ARGUMENT, NOTHING, OK, TOO_LONG};
@@ -32,7 +32,7 @@ pub extern "C" fn xns_exchange_request(
     buffer: &mut [u8],
     written: &mut usize,
 ) -> u32
-    ensures { WritesRequest (address_in own.now) (address_in target.now) id client bytes.now buffer.old buffer.new written.old written.new result }
+    ensures { WritesRequest (address_of_struct own.now) (address_of_struct target.now) id client bytes.now buffer.old buffer.new written.old written.new result }
 {
     if bytes.len() > MOST_EXCHANGED {
         return TOO_LONG;
@@ -52,8 +52,8 @@ pub extern "C" fn xns_exchange_request(
 /// How many bytes the data of a response have, if the packet is the response to what was asked of `target` under this identifier.
 #[tactic(auto, unfolding(xns_small::specs::Exchange::exchange_of))]
 fn response_length(target: &XnsAddress, id: u32, packet: &Packet<'_>) -> Option<usize>
-    ensures { MatchOption result (IsResponse (asker (address_in target.now) id) (packet_model packet.now) → ⊥)
-        (λ n. IsResponse (asker (address_in target.now) id) (packet_model packet.now)
+    ensures { MatchOption result (IsResponse (asker (address_of_struct target.now) id) (packet_model packet.now) → ⊥)
+        (λ n. IsResponse (asker (address_of_struct target.now) id) (packet_model packet.now)
         × (BEFORE_EXCHANGED + n ≡ length packet.now.body.now)) }
 {
     let source = packet.source;
@@ -82,9 +82,9 @@ pub extern "C" fn xns_exchange_accept(
     body_at: &mut usize,
     body_length: &mut usize,
 ) -> u32
-    ensures accepted { (x : PacketModel × ℕ) → packet_of bytes.now ≡ Ok x → IsResponse (asker (address_in target.now) id) x.0
+    ensures accepted { (x : PacketModel × ℕ) → packet_of bytes.now ≡ Ok x → IsResponse (asker (address_of_struct target.now) id) x.0
         → result ≡ ok }
-    ensures response { result ≡ ok → IsResponseIn (asker (address_in target.now) id) bytes.now body_at.new body_length.new }
+    ensures response { result ≡ ok → IsResponseIn (asker (address_of_struct target.now) id) bytes.now body_at.new body_length.new }
     ensures nothing { result ≢ ok → result ≡ nothing }
     ensures unchanged { result ≢ ok → (body_at.new ≡ body_at.old) × (body_length.new ≡ body_length.old) }
 {

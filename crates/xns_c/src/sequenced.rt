@@ -5,8 +5,8 @@ ghost use Rattle.xns_spp.specs.Header.{header_of, header_spelling};
 ghost use Rattle.xns_spp.specs.Packet.{opener};
 ghost use Rattle.xns_c.specs.Given.{IsPut};
 ghost use Rattle.xns_c.specs.Results.{ok, nothing, short, short_buffer};
-ghost use Rattle.xns_c.specs.Views.{header_in};
-ghost use Rattle.xns_c.specs.Structs.{address_in};
+ghost use Rattle.xns_c.specs.Views.{header_of_struct};
+ghost use Rattle.xns_c.specs.Structs.{address_of_struct};
 
 use crate::address::{XnsAddress, tell_end};
 use crate::front::put_front;
@@ -19,7 +19,7 @@ use xns_spp::{Header, opening, read_header};
 #[tactic(auto, unfolding(xns_spp::specs::Header::header_of))]
 #[unsafe(no_mangle)]
 pub extern "C" fn xns_header_read(body: &[u8], header: &mut XnsHeader) -> u32
-    ensures read { result ≡ ok → header_of body.now ≡ Ok (header_in header.new, drop 12 body.now) }
+    ensures read { result ≡ ok → header_of body.now ≡ Ok (header_of_struct header.new, drop 12 body.now) }
     ensures long { 12 ≤ length body.now → result ≡ ok }
     ensures short { length body.now < 12 → result ≡ short }
     ensures unchanged { result ≢ ok → header.new ≡ header.old }
@@ -49,7 +49,7 @@ pub extern "C" fn xns_header_write(
     written: &mut usize,
 ) -> u32
     ensures written { 12 ≤ length buffer.old → (result ≡ ok)
-        × IsPut (header_spelling (header_in header.now)) buffer.old buffer.new written.new }
+        × IsPut (header_spelling (header_of_struct header.now)) buffer.old buffer.new written.new }
     ensures short { length buffer.old < 12 → (result ≡ short_buffer) × (written.new ≡ 12) × (buffer.new ≡ buffer.old) }
 {
     let whole = Header {
@@ -68,7 +68,7 @@ pub extern "C" fn xns_header_write(
 /// (XSIS 028112, Sequenced Packet Protocol, Connection Identifiers).
 #[unsafe(no_mangle)]
 pub extern "C" fn xns_opening(bytes: &[u8], peer: &mut XnsAddress, peer_id: &mut u16) -> u32
-    ensures opens { result ≡ ok → opener bytes.now ≡ Some (address_in peer.new, peer_id.new) }
+    ensures opens { result ≡ ok → opener bytes.now ≡ Some (address_of_struct peer.new, peer_id.new) }
     ensures none { result ≢ ok → (result ≡ nothing) × (opener bytes.now ≡ None) }
     ensures unchanged { result ≢ ok → (peer.new ≡ peer.old) × (peer_id.new ≡ peer_id.old) }
 {

@@ -7,7 +7,7 @@ ghost use Rattle.xns_c.specs.Complaints.{WritesComplaint};
 ghost use Rattle.xns_c.specs.Echo.{WritesEchoReply};
 ghost use Rattle.xns_c.specs.Exchange.{WritesExchange};
 ghost use Rattle.xns_c.specs.Results.{ok, short};
-ghost use Rattle.xns_c.specs.Structs.{address_in};
+ghost use Rattle.xns_c.specs.Structs.{address_of_struct};
 
 use crate::address::XnsAddress;
 use crate::front::put_front;
@@ -29,7 +29,7 @@ pub extern "C" fn xns_echo_reply(
     buffer: &mut [u8],
     written: &mut usize,
 ) -> u32
-    ensures { WritesEchoReply (address_in own.now) bytes.now buffer.old buffer.new written.old written.new result }
+    ensures { WritesEchoReply (address_of_struct own.now) bytes.now buffer.old buffer.new written.old written.new result }
 {
     let Ok((packet, _)) = decode(bytes) else {
         return NOTHING;
@@ -55,7 +55,7 @@ pub extern "C" fn xns_complain(
     buffer: &mut [u8],
     written: &mut usize,
 ) -> u32
-    ensures { WritesComplaint (address_in own.now) number parameter offending.now buffer.old buffer.new written.old written.new result }
+    ensures { WritesComplaint (address_of_struct own.now) number parameter offending.now buffer.old buffer.new written.old written.new result }
 {
     match complain(alloc, own.address(), number, parameter, offending) {
         Ok(Some(bytes)) => put_front(bytes.as_slice(), buffer, written),

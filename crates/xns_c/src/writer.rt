@@ -5,7 +5,7 @@
 ghost use Rattle.std.specs.Prelude.{◌≡◌, ◌≢◌, ◌<◌, ◌≤◌, ◌+◌, ◌^◌, [], ◌∷◌, length};
 ghost use Rattle.courier_types.specs.Spelling.{bytes_spelling, value_spelling};
 ghost use Rattle.courier_types.specs.Value.{ValueModel};
-ghost use Rattle.xns_c.specs.Cursor.{faulted, IsWritten};
+ghost use Rattle.xns_c.specs.Cursor.{faulted, WritesWords};
 ghost use Rattle.xns_c.specs.Given.{is_yes};
 ghost use Rattle.xns_c.specs.Results.{ok, over_maximum, too_long};
 
@@ -17,7 +17,7 @@ const MOST_TEXT: usize = 65_535;
 
 /// Puts these words at the place of the cursor, which is behind them then.
 fn put(words: &[u16], buffer: &mut [u16], cursor: &mut XnsCursor) -> u32
-    ensures written { cursor.old.fault ≡ ok → IsWritten words.now cursor.old cursor.new buffer.old buffer.new result }
+    ensures written { cursor.old.fault ≡ ok → WritesWords words.now cursor.old cursor.new buffer.old buffer.new result }
     ensures stays { cursor.old.fault ≢ ok → (result ≡ cursor.old.fault) × (cursor.new ≡ cursor.old) × (buffer.new ≡ buffer.old) }
 {
     if cursor.fault != OK {
@@ -55,7 +55,7 @@ fn fill_text(bytes: &[u8], words: &mut [u16])
 /// Writes a cardinal, one word.
 #[unsafe(no_mangle)]
 pub extern "C" fn xns_write_cardinal(buffer: &mut [u16], cursor: &mut XnsCursor, value: u16) -> u32
-    ensures written { cursor.old.fault ≡ ok → IsWritten
+    ensures written { cursor.old.fault ≡ ok → WritesWords
         (value_spelling (ValueModel.cardinal value)) cursor.old cursor.new buffer.old buffer.new result }
     ensures stays { cursor.old.fault ≢ ok → (result ≡ cursor.old.fault) × (cursor.new ≡ cursor.old) × (buffer.new ≡ buffer.old) }
 {
@@ -69,7 +69,7 @@ pub extern "C" fn xns_write_long_cardinal(
     cursor: &mut XnsCursor,
     value: u32,
 ) -> u32
-    ensures written { cursor.old.fault ≡ ok → IsWritten
+    ensures written { cursor.old.fault ≡ ok → WritesWords
         (value_spelling (ValueModel.long_cardinal value)) cursor.old cursor.new buffer.old buffer.new result }
     ensures stays { cursor.old.fault ≢ ok → (result ≡ cursor.old.fault) × (cursor.new ≡ cursor.old) × (buffer.new ≡ buffer.old) }
 {
@@ -83,7 +83,7 @@ pub extern "C" fn xns_write_long_cardinal(
 /// Writes an integer, one word.
 #[unsafe(no_mangle)]
 pub extern "C" fn xns_write_integer(buffer: &mut [u16], cursor: &mut XnsCursor, value: i16) -> u32
-    ensures written { cursor.old.fault ≡ ok → IsWritten
+    ensures written { cursor.old.fault ≡ ok → WritesWords
         (value_spelling (ValueModel.integer value)) cursor.old cursor.new buffer.old buffer.new result }
     ensures stays { cursor.old.fault ≢ ok → (result ≡ cursor.old.fault) × (cursor.new ≡ cursor.old) × (buffer.new ≡ buffer.old) }
 {
@@ -97,7 +97,7 @@ pub extern "C" fn xns_write_long_integer(
     cursor: &mut XnsCursor,
     value: i32,
 ) -> u32
-    ensures written { cursor.old.fault ≡ ok → IsWritten
+    ensures written { cursor.old.fault ≡ ok → WritesWords
         (value_spelling (ValueModel.long_integer value)) cursor.old cursor.new buffer.old buffer.new result }
     ensures stays { cursor.old.fault ≢ ok → (result ≡ cursor.old.fault) × (cursor.new ≡ cursor.old) × (buffer.new ≡ buffer.old) }
 {
@@ -107,7 +107,7 @@ pub extern "C" fn xns_write_long_integer(
 /// Writes a boolean, one word. `value` is 0 for no.
 #[unsafe(no_mangle)]
 pub extern "C" fn xns_write_boolean(buffer: &mut [u16], cursor: &mut XnsCursor, value: u8) -> u32
-    ensures written { cursor.old.fault ≡ ok → IsWritten
+    ensures written { cursor.old.fault ≡ ok → WritesWords
         (value_spelling (ValueModel.boolean (is_yes value))) cursor.old cursor.new buffer.old buffer.new result }
     ensures stays { cursor.old.fault ≢ ok → (result ≡ cursor.old.fault) × (cursor.new ≡ cursor.old) × (buffer.new ≡ buffer.old) }
 {
@@ -124,7 +124,7 @@ pub extern "C" fn xns_write_count(
     most: u16,
     count: usize,
 ) -> u32
-    ensures written { cursor.old.fault ≡ ok → count ≤ most → IsWritten (count ∷ []) cursor.old cursor.new buffer.old buffer.new result }
+    ensures written { cursor.old.fault ≡ ok → count ≤ most → WritesWords (count ∷ []) cursor.old cursor.new buffer.old buffer.new result }
     ensures over { cursor.old.fault ≡ ok → most < count → (result ≡ over_maximum) × (cursor.new ≡ faulted cursor.old over_maximum)
         × (buffer.new ≡ buffer.old) }
     ensures stays { cursor.old.fault ≢ ok → (result ≡ cursor.old.fault) × (cursor.new ≡ cursor.old) × (buffer.new ≡ buffer.old) }
@@ -145,7 +145,7 @@ pub extern "C" fn xns_write_count(
 #[tactic(auto, using(crate::proofs::Spelled::bytes_count))]
 pub extern "C" fn xns_write_text(buffer: &mut [u16], cursor: &mut XnsCursor, bytes: &[u8]) -> u32
     ensures written { cursor.old.fault ≡ ok → length bytes.now < 2 ^ 16
-        → IsWritten (value_spelling (ValueModel.text bytes.now)) cursor.old cursor.new buffer.old buffer.new result }
+        → WritesWords (value_spelling (ValueModel.text bytes.now)) cursor.old cursor.new buffer.old buffer.new result }
     ensures long { cursor.old.fault ≡ ok → 2 ^ 16 ≤ length bytes.now → (result ≡ too_long) × (cursor.new ≡ faulted cursor.old too_long)
         × (buffer.new ≡ buffer.old) }
     ensures stays { cursor.old.fault ≢ ok → (result ≡ cursor.old.fault) × (cursor.new ≡ cursor.old) × (buffer.new ≡ buffer.old) }

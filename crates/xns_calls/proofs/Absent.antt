@@ -17,14 +17,14 @@ use Rattle.xns_calls.specs.declared.heard.Heard.{Heard}
 use Rattle.xns_calls.specs.declared.heard.Heard.TheVariants as heard
 use Rattle.xns_calls.specs.declared.side.Side.{Side}
 use Rattle.xns_calls.specs.declared.track.Track.{Track}
-use Rattle.xns_calls.specs.Unanswered.{Calls}
+use Rattle.xns_calls.specs.Unanswered.{UnansweredCalls}
 use Rattle.xns_calls.specs.declared.waiting.Waiting.{Waiting}
 use Rattle.xns_calls.specs.AtEnd.{both_ended, end_turn, ended_of, ended_times, first_in, one_ended, own_ended, read_behind}
 use Rattle.xns_calls.specs.declared.first_kept.FirstKept.{FirstKept}
 use Rattle.xns_calls.specs.Exchange.{Scene, advance_other, advance_own, advance_track, advanced, after_content, after_data, after_new, after_number, after_packet, begin_track, begun, carried, new_number, no_side, of_other, other_reached, own_reached, reached, scene, seen_from_other, take_in_track, told_of}
 use Rattle.xns_calls.specs.Numbers.{most_early}
 use Rattle.xns_calls.specs.Reading.{Told, after_heard, brought, brought_over, first_read, first_read_over, item_read, item_taken, passed, past, read_next, said_item}
-use Rattle.xns_calls.specs.Read.{handled, kept_count, one_read, own_read, read_in_track, read_of, read_times, settled}
+use Rattle.xns_calls.specs.Read.{handled, kept_item_count, one_read, own_read, read_in_track, read_of, read_times, settled}
 use Rattle.xns_calls.specs.Turns.{next_turn}
 use Rattle.xns_calls.proofs.Packets.{read_none}
 use Rattle.xns_calls.specs.Speech.{heard_of}
@@ -32,13 +32,13 @@ use Rattle.xns_calls.specs.Telling.{after_message, call_left, calls_after}
 
 -- ---- where no call of the flow behind waits, none waits later
 
-message_asked : (h : Heading) (calls : Calls) (m : Message) → calls.asked ≡ None → (after_message h calls m).asked ≡ None
+message_asked : (h : Heading) (calls : UnansweredCalls) (m : Message) → calls.asked ≡ None → (after_message h calls m).asked ≡ None
 message_asked h calls (Call transaction program version procedure words) e = e
 message_asked h calls (Reject transaction reason words) e = ap (λ o. call_left o transaction) e
 message_asked h calls (Return transaction words) e = ap (λ o. call_left o transaction) e
 message_asked h calls (Abort transaction error words) e = ap (λ o. call_left o transaction) e
 
-heard_asked : (h : Heading) (calls : Calls) (x : Heard) → calls.asked ≡ None → (calls_after h calls x).asked ≡ None
+heard_asked : (h : Heading) (calls : UnansweredCalls) (x : Heard) → calls.asked ≡ None → (calls_after h calls x).asked ≡ None
 heard_asked h calls heard.Nothing e = e
 heard_asked h calls (heard.Message message) e = message_asked h calls message e
 heard_asked h calls (heard.Fault fault) e = e
@@ -203,11 +203,11 @@ times_own_none (suc n) h given s none = times_own_none n h given (one_read h giv
 
 settled_other_none : (h : Heading) (given : Given) (s : Scene) → s.other ≡ no_side → (settled h given s).other ≡ no_side
 unfolding settled
-settled_other_none h given s none = times_other_none (kept_count s.own.track + kept_count s.other.track) h given s none
+settled_other_none h given s none = times_other_none (kept_item_count s.own.track + kept_item_count s.other.track) h given s none
 
 settled_own_none : (h : Heading) (given : Given) (s : Scene) → s.own ≡ no_side → (settled h given s).own ≡ no_side
 unfolding settled
-settled_own_none h given s none = times_own_none (kept_count s.own.track + kept_count s.other.track) h given s none
+settled_own_none h given s none = times_own_none (kept_item_count s.own.track + kept_item_count s.other.track) h given s none
 
 pub alone : (h : Heading) (due : Due) (packet : PacketModel) (f : Header) (content : List ℕ) (own other own' other' : Side) (page page' : Page) → other ≡ no_side
     → scene own' other' page' ≡ handled h due packet f content (scene own other page) → scene own' no_side page' ≡ handled h due packet f content (scene own no_side page)
@@ -267,7 +267,7 @@ end_times_none (suc n) h s none = end_times_none n h (one_ended h s) (end_turn_n
 
 both_none : (h : Heading) (s : Scene) → s.other ≡ no_side → (both_ended h s).other ≡ no_side
 unfolding both_ended
-both_none h s none = end_times_none (kept_count s.own.track + kept_count s.other.track) h s none
+both_none h s none = end_times_none (kept_item_count s.own.track + kept_item_count s.other.track) h s none
 
 pub ended_alone : (h : Heading) (own other own' other' : Side) (page page' : Page) → other ≡ no_side
     → scene own' other' page' ≡ both_ended h (scene own other page) → scene own' no_side page' ≡ both_ended h (scene own no_side page)

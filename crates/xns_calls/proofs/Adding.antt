@@ -9,38 +9,38 @@ use Rattle.xns_spp.specs.declared.item.Item.{Item}
 use Rattle.xns_calls.specs.declared.carried.Carried.{Carried}
 use Rattle.xns_calls.specs.Events.{acknowledged_event, after_events, brought_if, captured_event}
 use Rattle.xns_calls.specs.Exchange.{Scene, advance_other, advance_own, advance_track, advanced, after_content, after_data, after_new, after_number, after_packet, begin_track, begun, carried, is_repeat, new_number, of_other, other_reached, own_reached, reached, seen_from_other, take_in_track, told_of, up_to}
-use Rattle.xns_calls.specs.Input.{Said, begins, lacks, message, refuses, said_text, said_texts}
+use Rattle.xns_calls.specs.Input.{FlowSaid, begins, lacks, message, refuses, flow_said_text, said_texts}
 use Rattle.xns_calls.specs.Numbers.{most_early}
 use Rattle.xns_calls.specs.Reading.{Told, after_heard, brought, brought_over, first_read, first_read_over, item_read, item_taken, passed, past, read_next, said_item}
 use Rattle.xns_calls.specs.Speech.{heard_of}
 use Rattle.xns_calls.specs.Telling.{heard_text}
-use Rattle.xns_calls.specs.Queue.{last_number}
+use Rattle.xns_calls.specs.Queue.{last_kept_number}
 use Rattle.xns_calls.specs.declared.due.Due.{Due}
 use Rattle.xns_calls.specs.declared.early.Early.{Early}
 use Rattle.xns_calls.specs.declared.heading.Heading.{Heading}
 use Rattle.xns_calls.specs.declared.heard.Heard.{Heard}
 use Rattle.xns_calls.specs.declared.heard.Heard.TheVariants as heard
 use Rattle.xns_calls.specs.declared.track.Track.{Track}
-use Rattle.xns_calls.specs.Unanswered.{Calls}
+use Rattle.xns_calls.specs.Unanswered.{UnansweredCalls}
 use Rattle.xns_calls.proofs.Comparing.{by_test}
 use Rattle.xns_calls.proofs.Steps.{with_early}
 
 -- the text goes on with what is said under a heading
 pub record Adds (h : Heading) (text more : List ℕ) : Type 0 where
-  pub said : List Said
+  pub said : List FlowSaid
   pub is : more ≡ text ++ said_texts h said
 
 adds_none : (h : Heading) (text : List ℕ) → Adds h text text
 adds_none h text = record { said = []; is = sym (append-nil text) }
 
-adds_one : (h : Heading) (text : List ℕ) (s : Said) → Adds h text (text ++ said_text h s)
-adds_one h text s = record { said = s ∷ []; is = ap (λ x. text ++ x) (sym (append-nil (said_text h s))) }
+adds_one : (h : Heading) (text : List ℕ) (s : FlowSaid) → Adds h text (text ++ flow_said_text h s)
+adds_one h text s = record { said = s ∷ []; is = ap (λ x. text ++ x) (sym (append-nil (flow_said_text h s))) }
 
 adds_on : (h : Heading) (a b c : List ℕ) → Adds h a b → Adds h b c → Adds h a c
 adds_on h a b c x y = record {
   said = x.said ++ y.said;
   is = y.is ∙ ap (λ t. t ++ said_texts h y.said) x.is ∙ append_assoc a (said_texts h x.said) (said_texts h y.said)
-      ∙ ap (λ t. a ++ t) (sym (flat_map-append (said_text h) x.said y.said));
+      ∙ ap (λ t. a ++ t) (sym (flat_map-append (flow_said_text h) x.said y.said));
 }
 
 -- ---- a flow
@@ -50,7 +50,7 @@ unfolding passed
 passed_adds h n t =
     by_test (λ (u : Told). Adds h t.text u.text) (nat_lt t.track.next n) (past h n t) t (λ e. adds_one h t.text (lacks t.track.next n)) (λ e. adds_none h t.text)
 
-heard_adds : (h : Heading) (calls : Calls) (x : Heard) (text : List ℕ) → Adds h text (text ++ heard_text h calls x)
+heard_adds : (h : Heading) (calls : UnansweredCalls) (x : Heard) (text : List ℕ) → Adds h text (text ++ heard_text h calls x)
 heard_adds h calls heard.Nothing text = record { said = []; is = refl }
 heard_adds h calls (heard.Message m) text = adds_one h text (message calls m)
 heard_adds h calls (heard.Fault fault) text = adds_one h text (refuses fault)
@@ -166,7 +166,7 @@ if_adds h (Some n) t = brought_adds h n t
 
 effect_adds : (h : Heading) (o : Option ℕ) (t : Told) → Adds h t.text (after_events (acknowledged_event h o) t).text
 effect_adds h None t = adds_none h t.text
-effect_adds h (Some n) t = if_adds h (up_to (last_number t.track.early) (Some n)) t
+effect_adds h (Some n) t = if_adds h (up_to (last_kept_number t.track.early) (Some n)) t
 
 captured_adds : (h : Heading) (o : Option ℕ) (item : Carried) (t : Told) → Adds h t.text (after_events (captured_event h o item) t).text
 captured_adds h None item t = adds_none h t.text

@@ -12,7 +12,7 @@ use Rattle.xns_calls.specs.Input.{AreAtLines, FlowName}
 use Rattle.xns_calls.specs.Naming.{Programs}
 use Rattle.xns_calls.specs.Numbers.{most_early}
 use Rattle.xns_calls.specs.Origins.{line_origin}
-use Rattle.xns_calls.specs.Queue.{last_number}
+use Rattle.xns_calls.specs.Queue.{last_kept_number}
 use Rattle.xns_calls.specs.Reading.{Told, read_next}
 use Rattle.xns_calls.specs.Speech.{heard_of}
 use Rattle.xns_calls.specs.Whole.{ToldHeard, flow_heard, heard_below, heard_below_if, heard_first, heard_with, new_heard}
@@ -152,7 +152,7 @@ module _ (programs : Programs) (p : FlowName) (last : ℕ) where
       (events_between a.0 more (after_event (captured heading number item) t) a.4)
   events_between first (acknowledged heading number ∷ more) t a =
       event_between first a.0 heading (new_heard (acknowledged heading number) t) (flow_heard more (after_event (acknowledged heading number) t)) a.1 a.2 a.3
-      (if_heard_at heading (up_to (last_number t.track.early) (Some number)) t)
+      (if_heard_at heading (up_to (last_kept_number t.track.early) (Some number)) t)
       (events_between a.0 more (after_event (acknowledged heading number) t) a.4)
   events_between first (read heading ∷ more) t a =
       event_between first a.0 heading (new_heard (read heading) t) (flow_heard more (after_event (read heading) t)) a.1 a.2 a.3

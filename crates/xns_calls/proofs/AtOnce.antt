@@ -10,10 +10,10 @@ use Rattle.xns_spp.specs.declared.header.Header.{Header}
 use Rattle.xns_calls.specs.Exchange.{Scene, advance_other, advance_own, after_content, after_data, after_packet, after_told, begin_track, begun, brings_new, carried, is_repeat, other_reached, own_reached, reached, scene, take_number, told_of, unless_repeat, up_to, wants_memory}
 use Rattle.xns_calls.specs.Events.{after_events, captured_event}
 use Rattle.xns_calls.specs.Numbers.{most_early, near}
-use Rattle.xns_calls.specs.Queue.{kept, last_number}
-use Rattle.xns_calls.specs.Read.{alone_number, begins_first, comes_next, handled, is_alone, keeps_none, kept_count, own_read, read_of, read_once, read_once_in, read_times, settled}
+use Rattle.xns_calls.specs.Queue.{kept, last_kept_number}
+use Rattle.xns_calls.specs.Read.{alone_number, begins_first, comes_next, handled, is_alone, keeps_none, kept_item_count, own_read, read_of, read_once, read_once_in, read_times, settled}
 use Rattle.xns_calls.specs.Reading.{Told, brought, first_read, item_read, item_taken, passed, read_next, with_kept_item}
-use Rattle.xns_calls.specs.Turns.{first_kept, first_line, is_free, next_turn, readable, readable_first}
+use Rattle.xns_calls.specs.Turns.{first_kept, first_line, waits_for_none, next_turn, readable, readable_first}
 use Rattle.xns_calls.specs.declared.carried.Carried.{Carried}
 use Rattle.xns_calls.specs.declared.due.Due.{Due}
 use Rattle.xns_calls.specs.declared.early.Early.{Early}
@@ -51,13 +51,13 @@ no_items (early ∷ es) test =
 -- nothing takes effect of a flow that keeps nothing
 none_reached : (o : Option Track) (number : Option ℕ) → keeps_none o ≡ true → reached o number ≡ None
 none_reached None number e = refl
-none_reached (Some track) number e = ap (λ es. up_to (last_number es) number) (no_items track.early e)
+none_reached (Some track) number e = ap (λ es. up_to (last_kept_number es) number) (no_items track.early e)
 
 none_readable : (o behind : Option Track) (given : ℕ) → keeps_none o ≡ true → readable o behind given ≡ None
 none_readable None behind given e = refl
 none_readable (Some track) behind given e = ap (λ es. readable_first track.next behind given (first_kept es)) (no_items track.early e)
 
-none_count : (o : Option Track) → keeps_none o ≡ true → kept_count o ≡ 0
+none_count : (o : Option Track) → keeps_none o ≡ true → kept_item_count o ≡ 0
 none_count None e = refl
 none_count (Some track) e = ap length (no_items track.early e)
 
@@ -71,7 +71,7 @@ own_same h s = by_track s.own.track
   where
     by_track : (o : Option Track) → advance_own h (reached o None) s ≡ s
     by_track None = refl
-    by_track (Some track) = ap (λ o. advance_own h o s) (up_to_none (last_number track.early))
+    by_track (Some track) = ap (λ o. advance_own h o s) (up_to_none (last_kept_number track.early))
 
 -- the item is the only one that is kept
 taken_once : (h : Heading) (n : ℕ) (item : Carried) (t : Told) → t.track.next ≡ n → t.track.early ≡ []
@@ -91,15 +91,15 @@ first_once h e t at none =
     first_some h e [] u refl (omega (arith, at)) ∙ ap (λ x. read_next h (e.number + 1) e.item.item (passed h e.number x)) left
     ∙ ap (read_next h (e.number + 1) e.item.item) (passed_same h e.number t (omega (arith, at)))
 
-settled_once : (h : Heading) (given : Given) (s : Scene) (track : Track) (e : Early) → track.next ≡ e.number → track.early ≡ [] → keeps_none s.other.track ≡ true → is_free s.other.track given.other e.item.acknowledged ≡ true
+settled_once : (h : Heading) (given : Given) (s : Scene) (track : Track) (e : Early) → track.next ≡ e.number → track.early ≡ [] → keeps_none s.other.track ≡ true → waits_for_none s.other.track given.other e.item.acknowledged ≡ true
     → settled h given (after_told (with_early (e ∷ []) (told_of track s)) s) ≡ after_told (read_next h (e.number + 1) e.item.item (told_of track s)) s
 unfolding settled own_read
 settled_once h given s track e at none quiet free =
     let t = told_of track s in
     let x = after_told (with_early (e ∷ []) t) s in
-    let few : kept_count x.own.track + kept_count x.other.track ≡ 1 = let c = none_count s.other.track quiet in omega (arith, c) in
+    let few : kept_item_count x.own.track + kept_item_count x.other.track ≡ 1 = let c = none_count s.other.track quiet in omega (arith, c) in
     let line : readable x.own.track x.other.track given.other ≡ Some e.item.line =
-    ap (λ p. cond (not p && is_free s.other.track given.other e.item.acknowledged) (Some e.item.line) None) (lt_false track.next e.number (omega (arith, at)))
+    ap (λ p. cond (not p && waits_for_none s.other.track given.other e.item.acknowledged) (Some e.item.line) None) (lt_false track.next e.number (omega (arith, at)))
     ∙ ap (λ p. cond p (Some e.item.line) None) free in
     let turn : next_turn given x.own.track x.other.track ≡ Some false =
     ap (λ o. first_line o (readable x.other.track x.own.track given.own)) line ∙ ap (first_line (Some e.item.line)) (none_readable s.other.track x.own.track given.own quiet) in
@@ -115,11 +115,11 @@ once h due packet f content number s comes = by_track s.own.track refl comes
 
     at_once : (track : Track) → s.own.track ≡ Some track → near track.next f.sequence ≡ Some number → is_alone due f number track s.other.track ≡ true → Goal (Some track)
     at_once track is near_is e =
-        let parts = both_true ((not (is_system f) && not (is_some due.own)) && (number == track.next && length track.early == 0)) (keeps_none s.other.track && is_free s.other.track due.given.other due.acknowledged) e in
+        let parts = both_true ((not (is_system f) && not (is_some due.own)) && (number == track.next && length track.early == 0)) (keeps_none s.other.track && waits_for_none s.other.track due.given.other due.acknowledged) e in
         let front = both_true (not (is_system f) && not (is_some due.own)) (number == track.next && length track.early == 0) parts.0 in
         let kind = both_true (not (is_system f)) (not (is_some due.own)) front.0 in
         let first = both_true (number == track.next) (length track.early == 0) front.1 in
-        let others = both_true (keeps_none s.other.track) (is_free s.other.track due.given.other due.acknowledged) parts.1 in
+        let others = both_true (keeps_none s.other.track) (waits_for_none s.other.track due.given.other due.acknowledged) parts.1 in
         let none : track.early ≡ [] = no_items track.early first.1 in
         let at : track.next ≡ number = sym (equal_tells number track.next first.0) in
         let item = carried h due.acknowledged f content in
@@ -161,7 +161,7 @@ once_wants due f number own other page comes = by_track own.track refl comes
   where
     wanted : (track : Track) → own.track ≡ Some track → near track.next f.sequence ≡ Some number → is_alone due f number track other.track ≡ true → wants_memory due f (scene own other page) ≡ true
     wanted track is near_is e =
-        let parts = both_true ((not (is_system f) && not (is_some due.own)) && (number == track.next && length track.early == 0)) (keeps_none other.track && is_free other.track due.given.other due.acknowledged) e in
+        let parts = both_true ((not (is_system f) && not (is_some due.own)) && (number == track.next && length track.early == 0)) (keeps_none other.track && waits_for_none other.track due.given.other due.acknowledged) e in
         let front = both_true (not (is_system f) && not (is_some due.own)) (number == track.next && length track.early == 0) parts.0 in
         let kind = both_true (not (is_system f)) (not (is_some due.own)) front.0 in
         let first = both_true (number == track.next) (length track.early == 0) front.1 in

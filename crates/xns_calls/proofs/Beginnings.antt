@@ -13,7 +13,7 @@ use Rattle.xns_calls.specs.Anew.{begins_anew}
 use Rattle.xns_calls.specs.Capture.{Known, after_at, after_in, after_new_flow, after_place, after_sequenced, after_there, forgotten, heading_at, is_behind_in, new_connection, place_of, renewed, renewed_there, repeats_told, scene_in, settled_at, settled_there, taken_in, with_new, with_scene}
 use Rattle.xns_calls.specs.Events.{Event, acknowledged_event, after_events, captured_event}
 use Rattle.xns_calls.specs.Exchange.{Scene, behind_last, carried, first_track, seen_from_other}
-use Rattle.xns_calls.specs.Input.{Part, connection_at, connection_of, ending_events, events_between, events_there, field_between, field_there, is_same, name_in, next_name, part_text, parts_text, text_in, texts_in}
+use Rattle.xns_calls.specs.Input.{Part, known_connection, connection_of, ending_events, events_between, events_there, field_between, field_there, is_same, name_in, next_name, part_text, parts_text, text_in, texts_in}
 use Rattle.xns_calls.specs.Numbers.{near}
 use Rattle.xns_calls.specs.Over.{side_in}
 use Rattle.xns_calls.specs.Repeats.{tells_repeats}
@@ -294,8 +294,8 @@ unfolding after_sequenced
 sequenced_meets plain_places n m b packet f content k numbered all = by_place (place_of (flow_of packet f) k.connections) refl
   where
     by_place : (o : Option ℕ) → place_of (flow_of packet f) k.connections ≡ o
-        → Met n m b k.text (after_place n (flow_of packet f) packet f content o k) (events_there (flow_at m b) (heading_at n m b) (packet, f, content) (connection_at o k.connections) k)
-        (field_there (flow_at m b) (packet, f, content) (connection_at o k.connections) k)
+        → Met n m b k.text (after_place n (flow_of packet f) packet f content o k) (events_there (flow_at m b) (heading_at n m b) (packet, f, content) (known_connection o k.connections) k)
+        (field_there (flow_at m b) (packet, f, content) (known_connection o k.connections) k)
     by_place (Some i) at =
         let w = place_there (flow_of packet f) k.connections i at in
         subst (λ o. Met n m b k.text (after_at n i (flow_of packet f) packet f content (renewed n i (flow_of packet f) f k)) (events_there (flow_at m b) (heading_at n m b) (packet, f, content) o k)

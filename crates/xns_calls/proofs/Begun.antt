@@ -3,7 +3,7 @@ use Rattle.std.proofs.Common.{◌≡◌, ◌∙◌, ap, sym, refl, subst, inl, i
 use Rattle.std.specs.Prelude.{not, slice_get}
 use Rattle.std.proofs.lemmas.Grind.{flat_map-append}
 use Rattle.xns_spp.specs.declared.header.Header.{Header}
-use Rattle.xns_calls.specs.Acknowledged.{noted}
+use Rattle.xns_calls.specs.Acknowledged.{noted_beside}
 use Rattle.xns_calls.specs.Capture.{Known, after_scene, heading_at, scene_in, with_scene}
 use Rattle.xns_calls.specs.Events.{Event, after_events, meanwhile, with_others}
 use Rattle.xns_calls.specs.Exchange.{Scene, seen_from_other, told_of}
@@ -41,15 +41,15 @@ IsOn m b k t = IsAt m b k t ⊎ IsGone m k t
 
 -- behind a packet of its own
 pub stands_own : (i : ℕ) (b : Bool) (f : Header) (c : Connection) (s : Scene) (k : Known) → slice_get k.connections i ≡ Some c → (u : Told) → IsOrdered u → s.own.track ≡ Some u.track → u ≡ told_of u.track s
-    → IsAt c.number b (after_scene i b (noted b f c) s k) u
-stands_own i true f c s k e u ordered track is = record { place = i; connection = with_scene true s (noted true f c); there = get_same k.connections i c (with_scene true s (noted true f c)) e; number = refl; track = track; is = is; ordered = ordered }
-stands_own i false f c s k e u ordered track is = record { place = i; connection = with_scene false s (noted false f c); there = get_same k.connections i c (with_scene false s (noted false f c)) e; number = refl; track = track; is = is; ordered = ordered }
+    → IsAt c.number b (after_scene i b (noted_beside b f c) s k) u
+stands_own i true f c s k e u ordered track is = record { place = i; connection = with_scene true s (noted_beside true f c); there = get_same k.connections i c (with_scene true s (noted_beside true f c)) e; number = refl; track = track; is = is; ordered = ordered }
+stands_own i false f c s k e u ordered track is = record { place = i; connection = with_scene false s (noted_beside false f c); there = get_same k.connections i c (with_scene false s (noted_beside false f c)) e; number = refl; track = track; is = is; ordered = ordered }
 
 -- behind a packet of the flow behind it
 pub stands_behind : (i : ℕ) (q : Bool) (f : Header) (c : Connection) (s : Scene) (k : Known) → slice_get k.connections i ≡ Some c → (u : Told) → IsOrdered u → s.other.track ≡ Some u.track
-    → u ≡ told_of u.track (seen_from_other s) → IsAt c.number (not q) (after_scene i q (noted q f c) s k) u
-stands_behind i true f c s k e u ordered track is = record { place = i; connection = with_scene true s (noted true f c); there = get_same k.connections i c (with_scene true s (noted true f c)) e; number = refl; track = track; is = is; ordered = ordered }
-stands_behind i false f c s k e u ordered track is = record { place = i; connection = with_scene false s (noted false f c); there = get_same k.connections i c (with_scene false s (noted false f c)) e; number = refl; track = track; is = is; ordered = ordered }
+    → u ≡ told_of u.track (seen_from_other s) → IsAt c.number (not q) (after_scene i q (noted_beside q f c) s k) u
+stands_behind i true f c s k e u ordered track is = record { place = i; connection = with_scene true s (noted_beside true f c); there = get_same k.connections i c (with_scene true s (noted_beside true f c)) e; number = refl; track = track; is = is; ordered = ordered }
+stands_behind i false f c s k e u ordered track is = record { place = i; connection = with_scene false s (noted_beside false f c); there = get_same k.connections i c (with_scene false s (noted_beside false f c)) e; number = refl; track = track; is = is; ordered = ordered }
 
 -- where its connection stays
 pub still : (m : ℕ) (b : Bool) (k k' : Known) (t : Told) → (a : IsAt m b k t) → slice_get k'.connections a.place ≡ slice_get k.connections a.place → IsAt m b k' (with_others t.calls k'.text k'.is_refused t)

@@ -7,7 +7,7 @@ use Rattle.xns_calls.specs.declared.heading.Heading.{Heading}
 use Rattle.xns_calls.specs.Events.{Event, IsAmong, acknowledged, after_event, after_events, after_whole_event, brought_if, captured, captured_in, meanwhile, read, read_below_if, with_captured}
 use Rattle.xns_calls.specs.Exchange.{is_repeat, up_to}
 use Rattle.xns_calls.specs.Numbers.{most_early}
-use Rattle.xns_calls.specs.Queue.{kept, last_number}
+use Rattle.xns_calls.specs.Queue.{kept, last_kept_number}
 use Rattle.xns_calls.specs.Reading.{Told, brought, first_read, item_read}
 use Rattle.xns_calls.proofs.Steps.{early_of, passed_early, read_early, with_early}
 use Rattle.xns_calls.proofs.Comparing.{by_test}
@@ -79,7 +79,7 @@ event_to most (captured h k item) t ordered up b =
     let at = brought_to most h (k - most_early) t ordered (omega (arith, le)) b in
     by_test (IsTo most) (is_repeat k t.track) t (with_item k item u) (λ old. b)
     (λ new. record { next = at.next; kept = kept_to most k item (early_of u) le at.kept })
-event_to most (acknowledged h n) t ordered up b = acknowledged_to most h (last_number t.track.early) n t ordered (got_to most t.track.early (length t.track.early - 1) b.kept) b
+event_to most (acknowledged h n) t ordered up b = acknowledged_to most h (last_kept_number t.track.early) n t ordered (got_to most t.track.early (length t.track.early - 1) b.kept) b
 event_to most (read h) t ordered up b = first_to_bears most h t ordered b
 event_to most (meanwhile calls text is_refused) t ordered up b = record { next = b.next; kept = b.kept }
 
@@ -132,7 +132,7 @@ event_kept most (captured h k item) t ordered up b =
     let u = brought h (k - most_early) t in
     by_test (Holds most) (is_repeat k t.track) t (with_item k item u) (λ old. b)
     (λ new. kept_to most k item (early_of u) (up k (inl refl)) (brought_bears (Holds most) h (k - most_early) t (holds_bears most h (k - most_early)) ordered b))
-event_kept most (acknowledged h n) t ordered up b = holds_if most h (up_to (last_number t.track.early) (Some n)) t ordered b
+event_kept most (acknowledged h n) t ordered up b = holds_if most h (up_to (last_kept_number t.track.early) (Some n)) t ordered b
 event_kept most (read h) t ordered up b = first_bears (Holds most) h (λ e rest u same le p. holds_read most h e rest u same p) t ordered b
 event_kept most (meanwhile calls text is_refused) t ordered up b = b
 
@@ -159,9 +159,9 @@ unfolding AreTo
 event_first (captured h k item) t ordered to up =
     let le : k ≤ next_of t = up k (inl refl) in
     ap (λ (u : Told). cond (is_repeat k t.track) t (with_item k item u)) (brought_whole h (k - most_early) t ordered (λ m least lt. absurd (omega (arith, le, least, lt))))
-event_first (acknowledged h n) t ordered to up = by_last (last_number t.track.early) refl
+event_first (acknowledged h n) t ordered to up = by_last (last_kept_number t.track.early) refl
   where
-    by_last : (o : Option ℕ) → last_number t.track.early ≡ o → brought_if h (up_to o (Some n)) t ≡ read_below_if h (up_to o (Some n)) t
+    by_last : (o : Option ℕ) → last_kept_number t.track.early ≡ o → brought_if h (up_to o (Some n)) t ≡ read_below_if h (up_to o (Some n)) t
     by_last None is = refl
     by_last (Some last) is =
         let most : last ≤ next_of t = subst (λ o. IfSome o (λ i. i ≤ next_of t)) is (got_to (next_of t) t.track.early (length t.track.early - 1) to) in

@@ -8,10 +8,10 @@ use Rattle.xns_calls.specs.Acknowledged.{acknowledged_in, due_in}
 use Rattle.xns_calls.specs.Capture.{heading_at, repeats_told, scene_in}
 use Rattle.xns_calls.specs.Events.{Event, acknowledged, acknowledged_event, after_event, after_events, brought_if, captured, captured_event, meanwhile, own_events, read}
 use Rattle.xns_calls.specs.Exchange.{Scene, carried, first_track, is_repeat, of_other, other_reached, seen_from_other, told_of, up_to}
-use Rattle.xns_calls.specs.Held.{AreHandled, CameWith, Handled, IsHandled, handled_in, item_of, with_all, with_handled}
+use Rattle.xns_calls.specs.Held.{AreHandled, CameWith, Handled, IsHandled, handled_in, carried_item, with_all, with_handled}
 use Rattle.xns_calls.specs.Numbers.{most_early, near}
 use Rattle.xns_calls.specs.Over.{side_in}
-use Rattle.xns_calls.specs.Queue.{kept, last_number}
+use Rattle.xns_calls.specs.Queue.{kept, last_kept_number}
 use Rattle.xns_calls.specs.Read.{handled}
 use Rattle.xns_calls.specs.Reading.{Told, brought, item_read}
 use Rattle.xns_calls.specs.declared.carried.Carried.{Carried}
@@ -77,7 +77,7 @@ event_has : (Q : Carried → Type 0) (e : Event) (t : Told) → IsOrdered t → 
 event_has Q (captured h k item) t ordered new has =
     let u = brought h (k - most_early) t in
     by_test (Has Q) (is_repeat k t.track) t (with_item k item u) (λ old. has) (λ other. has_kept Q k item (early_of u) new (has_brought Q h (k - most_early) t ordered has))
-event_has Q (acknowledged h n) t ordered new has = has_if Q h (up_to (last_number t.track.early) (Some n)) t ordered has
+event_has Q (acknowledged h n) t ordered new has = has_if Q h (up_to (last_kept_number t.track.early) (Some n)) t ordered has
 event_has Q (read h) t ordered new has = first_bears (Has Q) h (λ e rest u same le had. has_read Q h e rest u same had) t ordered has
 event_has Q (meanwhile calls text is_refused) t ordered new has = has
 
@@ -165,7 +165,7 @@ behind_have Q n m q due packet f content s = by_track s.other.track refl
 
 -- ---- the packets of a connection
 
-one_has : (Q : Carried → Type 0) (d : Bool) (packet : Handled) (c : Connection) → (w : IsHandled packet c) → (packet.is_behind ≡ d → Q (item_of packet c))
+one_has : (Q : Carried → Type 0) (d : Bool) (packet : Handled) (c : Connection) → (w : IsHandled packet c) → (packet.is_behind ≡ d → Q (carried_item packet c))
     → GoesOn None (side_in d c).track → AllOf Q (side_in d c).track → AllOf Q (side_in d (with_handled packet c)).track
 one_has Q d packet c w new order has = subst (λ x. AllOf Q (side_in d (with_handled x c)).track) (sym w.is) (by_flow d packet.is_behind new order has)
   where
@@ -178,7 +178,7 @@ one_has Q d packet c w new order has = subst (λ x. AllOf Q (side_in d (with_han
 
 -- an item is that of a packet of a flow
 abbrev IsOf : Bool → Handled → Connection → Carried → Type 0
-IsOf d packet c item = (packet.is_behind ≡ d) × (item ≡ item_of packet c)
+IsOf d packet c item = (packet.is_behind ≡ d) × (item ≡ carried_item packet c)
 
 -- one of the packets brought the item
 abbrev IsBrought : Bool → List Handled → Connection → Carried → Type 0

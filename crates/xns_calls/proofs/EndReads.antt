@@ -7,10 +7,10 @@ use Rattle.xns_calls.specs.AtEnd.{both_ended, earliest, end_turn, ended_of, ende
 use Rattle.xns_calls.specs.Capture.{Known, heading_at, scene_in}
 use Rattle.xns_calls.specs.Events.{Event, acknowledged_event, after_events, brought_if, meanwhile}
 use Rattle.xns_calls.specs.Exchange.{Scene, advance_other, advance_own, after_told, of_other, other_reached, reached, seen_from_other, told_of, up_to}
-use Rattle.xns_calls.specs.Input.{Said, part_text, parts_text, said_texts, text_in, texts_in, told}
+use Rattle.xns_calls.specs.Input.{FlowSaid, part_text, parts_text, said_texts, text_in, texts_in, told}
 use Rattle.xns_calls.specs.Input.{Part}
-use Rattle.xns_calls.specs.Queue.{last_number}
-use Rattle.xns_calls.specs.Read.{kept_count}
+use Rattle.xns_calls.specs.Queue.{last_kept_number}
+use Rattle.xns_calls.specs.Read.{kept_item_count}
 use Rattle.xns_calls.specs.Reading.{Told}
 use Rattle.xns_calls.specs.Whole.{flow_text}
 use Rattle.xns_calls.specs.declared.connection.Connection.{Connection}
@@ -35,7 +35,7 @@ use Rattle.xns_calls.proofs.Whole.{after_append}
 
 -- ---- a flow that is brought to a number
 
-pub moved_said : Origin → ℕ → Bool → Option ℕ → Scene → List Said
+pub moved_said : Origin → ℕ → Bool → Option ℕ → Scene → List FlowSaid
 moved_said n m b o s = (own_adds (heading_at n m b) o s).said
 
 one_text : (n : Origin) (m : ℕ) (b : Bool) (o : Option ℕ) (s : Scene)
@@ -105,19 +105,19 @@ ends_on n m b s s' s'' t w v =
       own = flat_map-append (text_in P) w.parts v.parts ∙ ap (λ z. z ++ texts_in P v.parts) w.own ∙ ap (λ z. flow_text w.events t ++ z) v.own ∙ sym (flow_append w.events v.events t);
     }
 
-moved_event : (h : Heading) (o : Option ℕ) (s : Scene) (track : Track) → s.own.track ≡ Some track → up_to (last_number track.early) o ≡ o
+moved_event : (h : Heading) (o : Option ℕ) (s : Scene) (track : Track) → s.own.track ≡ Some track → up_to (last_kept_number track.early) o ≡ o
     → advance_own h o s ≡ after_told (after_events (acknowledged_event h o) (told_of track s)) s
 moved_event h None s track at upto = own_event h None s track at
 moved_event h (Some n) s track at upto = own_event h (Some n) s track at ∙ ap (λ o. after_told (brought_if h o (told_of track s)) s) (sym upto)
 
-moved_acks : (bound : ℕ) (h : Heading) (o : Option ℕ) (t : Told) → up_to (last_number t.track.early) o ≡ o → AreBelow bound (early_of t)
+moved_acks : (bound : ℕ) (h : Heading) (o : Option ℕ) (t : Told) → up_to (last_kept_number t.track.early) o ≡ o → AreBelow bound (early_of t)
     → AreAcks bound (acknowledged_event h o) × AreBelow bound (early_of (after_events (acknowledged_event h o) t))
 moved_acks bound h None t upto below = (tt, below)
 moved_acks bound h (Some n) t upto below =
-    ((upto_below bound n t.track.early upto below, tt), brought_if_below bound h (up_to (last_number t.track.early) (Some n)) t below)
+    ((upto_below bound n t.track.early upto below, tt), brought_if_below bound h (up_to (last_kept_number t.track.early) (Some n)) t below)
 
 -- the flow is brought to a number, at most the one behind the last item that it keeps
-moves : (n : Origin) (m : ℕ) (b : Bool) (o : Option ℕ) (s : Scene) (t : Told) → s.own.track ≡ Some t.track → t ≡ told_of t.track s → up_to (last_number t.track.early) o ≡ o
+moves : (n : Origin) (m : ℕ) (b : Bool) (o : Option ℕ) (s : Scene) (t : Told) → s.own.track ≡ Some t.track → t ≡ told_of t.track s → up_to (last_kept_number t.track.early) o ≡ o
     → Ends n m b s (advance_own (heading_at n m b) o s) t
 moves n m b o s t track is upto =
     let h = heading_at n m b in
@@ -172,10 +172,10 @@ own_reads n m b s t track is ordered = subst (λ o. Ends n m b s (read_behind h 
         let u = after_events w.events t in
         let some : Some u.track ≡ Some t.track = sym w.track ∙ reached_own h a s ∙ track in
         let same : u.track ≡ t.track = (cc) in
-        let upto : up_to (last_number t.track.early) (Some (first.number + 1)) ≡ Some (first.number + 1) =
-        ap (λ k. up_to (last_number t.track.early) (Some (k + 1))) number ∙ first_upto t e rest at ordered ∙ ap (λ k. Some (k + 1)) (sym number) in
+        let upto : up_to (last_kept_number t.track.early) (Some (first.number + 1)) ≡ Some (first.number + 1) =
+        ap (λ k. up_to (last_kept_number t.track.early) (Some (k + 1))) number ∙ first_upto t e rest at ordered ∙ ap (λ k. Some (k + 1)) (sym number) in
         ends_on n m b s s' (advance_own h (Some (first.number + 1)) s') t w
-        (moves n m b (Some (first.number + 1)) s' u w.track w.is (ap (λ (x : Track). up_to (last_number x.early) (Some (first.number + 1))) same ∙ upto))
+        (moves n m b (Some (first.number + 1)) s' u w.track w.is (ap (λ (x : Track). up_to (last_kept_number x.early) (Some (first.number + 1))) same ∙ upto))
 
 -- the flow behind reads its first item
 behind_reads : (n : Origin) (m : ℕ) (b : Bool) (s : Scene) (t : Told) → s.own.track ≡ Some t.track → t ≡ told_of t.track s
@@ -194,8 +194,8 @@ behind_reads n m b s t track is = by_first (first_in s.other.track)
     by_first (Some first) =
         let a = first.acknowledged in
         let y = seen_from_other (other_reached h a x) in
-        let upto : up_to (last_number t.track.early) (reached s.own.track a) ≡ reached s.own.track a =
-        subst (λ o. up_to (last_number t.track.early) (reached o a) ≡ reached o a) (sym track) (upto_twice (last_number t.track.early) a) in
+        let upto : up_to (last_kept_number t.track.early) (reached s.own.track a) ≡ reached s.own.track a =
+        subst (λ o. up_to (last_kept_number t.track.early) (reached o a) ≡ reached o a) (sym track) (upto_twice (last_kept_number t.track.early) a) in
         let w : Ends n m b s y t = subst (λ z. Ends n m b s z t) (sym (reach_back n m b a s)) (moves n m b (reached s.own.track a) s t track is upto) in
         ends_on n m b s y (seen_from_other (advance_own h (Some (first.number + 1)) (other_reached h a x))) t w
         (others n m b (Some (first.number + 1)) y (after_events w.events t) w.track)
@@ -232,12 +232,12 @@ other_times n m q (suc count) s t track is ordered =
 
 pub own_ends : (n : Origin) (m : ℕ) (b : Bool) (s : Scene) (t : Told) → s.own.track ≡ Some t.track → t ≡ told_of t.track s → IsOrdered t → Ends n m b s (both_ended (heading_at n m b) s) t
 unfolding both_ended
-own_ends n m b s t track is ordered = own_times n m b (kept_count s.own.track + kept_count s.other.track) s t track is ordered
+own_ends n m b s t track is ordered = own_times n m b (kept_item_count s.own.track + kept_item_count s.other.track) s t track is ordered
 
 pub other_ends : (n : Origin) (m : ℕ) (q : Bool) (s : Scene) (t : Told) → s.other.track ≡ Some t.track → t ≡ told_of t.track (seen_from_other s) → IsOrdered t
     → Ends n m (not q) (seen_from_other s) (seen_from_other (both_ended (heading_at n m q) s)) t
 unfolding both_ended
-other_ends n m q s t track is ordered = other_times n m q (kept_count s.own.track + kept_count s.other.track) s t track is ordered
+other_ends n m q s t track is ordered = other_times n m q (kept_item_count s.own.track + kept_item_count s.other.track) s t track is ordered
 
 -- ---- for one of the two flows of a connection
 
@@ -327,11 +327,11 @@ other_times_rest n m q (suc count) s none =
 
 pub own_ends_rest : (n : Origin) (m : ℕ) (b : Bool) (s : Scene) → s.own.track ≡ None → Rests m b s (both_ended (heading_at n m b) s)
 unfolding both_ended
-own_ends_rest n m b s none = own_times_rest n m b (kept_count s.own.track + kept_count s.other.track) s none
+own_ends_rest n m b s none = own_times_rest n m b (kept_item_count s.own.track + kept_item_count s.other.track) s none
 
 pub other_ends_rest : (n : Origin) (m : ℕ) (q : Bool) (s : Scene) → s.other.track ≡ None → Rests m (not q) (seen_from_other s) (seen_from_other (both_ended (heading_at n m q) s))
 unfolding both_ended
-other_ends_rest n m q s none = other_times_rest n m q (kept_count s.own.track + kept_count s.other.track) s none
+other_ends_rest n m q s none = other_times_rest n m q (kept_item_count s.own.track + kept_item_count s.other.track) s none
 
 -- ---- for the flows of other connections
 
@@ -376,4 +376,4 @@ says_times n m q (suc count) s =
 
 pub ends_say : (n : Origin) (m : ℕ) (q : Bool) (s : Scene) → Says m s (both_ended (heading_at n m q) s)
 unfolding both_ended
-ends_say n m q s = says_times n m q (kept_count s.own.track + kept_count s.other.track) s
+ends_say n m q s = says_times n m q (kept_item_count s.own.track + kept_item_count s.other.track) s

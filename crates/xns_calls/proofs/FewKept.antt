@@ -12,7 +12,7 @@ use Rattle.xns_calls.specs.Input.{first_field_from}
 use Rattle.xns_calls.specs.Naming.{Programs}
 use Rattle.xns_calls.specs.Numbers.{most_early}
 use Rattle.xns_calls.specs.Over.{side_in}
-use Rattle.xns_calls.specs.Queue.{kept, last_number}
+use Rattle.xns_calls.specs.Queue.{kept, last_kept_number}
 use Rattle.xns_calls.specs.Reading.{Told, brought, brought_over, item_read, passed}
 use Rattle.xns_calls.specs.declared.carried.Carried.{Carried}
 use Rattle.xns_calls.specs.declared.connection.Connection.{Connection}
@@ -94,7 +94,7 @@ event_near (captured h k item) t ordered near =
     let lt : k < next_of u + 64 = omega (arith, there) in
     by_test IsNear (is_repeat k t.track) t (with_item k item u) (λ old. near)
     (λ new. kept_below (next_of u + most_pending) k item (early_of u) lt (brought_bears IsNear h (k - most_early) t (near_bears h (k - most_early)) ordered near))
-event_near (acknowledged h n) t ordered near = near_if h (up_to (last_number t.track.early) (Some n)) t ordered near
+event_near (acknowledged h n) t ordered near = near_if h (up_to (last_kept_number t.track.early) (Some n)) t ordered near
 event_near (read h) t ordered near = first_bears IsNear h (λ e rest u same le now. near_read h e rest u same le now) t ordered near
 event_near (meanwhile calls text is_refused) t ordered near = near
 

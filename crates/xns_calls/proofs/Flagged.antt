@@ -8,17 +8,17 @@ use Rattle.xns_spp.specs.declared.header.Header.{Header}
 use Rattle.xns_spp.specs.declared.item.Item.{Item}
 use Rattle.xns_calls.specs.declared.carried.Carried.{Carried}
 use Rattle.xns_calls.specs.declared.given.Given.{Given}
-use Rattle.xns_dump.specs.Laws.{IsLoud, IsQuiet, JoinedTextsSayRefused, OnlyRefusalsSayRefused, says_refused}
+use Rattle.xns_dump.specs.Laws.{IsLoud, SaysNoRefusal, JoinedTextsSayRefused, OnlyRefusalsSayRefused, says_refused}
 use Rattle.xns_calls.specs.Numbers.{most_early}
 use Rattle.xns_calls.specs.AtEnd.{both_ended, end_turn, ended_of, ended_times, first_in, one_ended, own_ended, read_behind}
 use Rattle.xns_calls.specs.declared.first_kept.FirstKept.{FirstKept}
 use Rattle.xns_calls.specs.Exchange.{Scene, advance_other, advance_own, advance_track, advanced, after_content, after_data, after_new, after_number, after_packet, begin_track, begun, carried, new_number, of_other, other_reached, own_reached, reached, seen_from_other, take_in_track, told_of}
 use Rattle.xns_calls.specs.Reading.{Told, after_heard, brought, brought_over, first_read, first_read_over, item_read, passed, past, read_next, said_item}
-use Rattle.xns_calls.specs.Read.{kept_count, one_read, own_read, read_in_track, read_of, read_times, settled}
+use Rattle.xns_calls.specs.Read.{kept_item_count, one_read, own_read, read_in_track, read_of, read_times, settled}
 use Rattle.xns_calls.specs.Turns.{next_turn}
 use Rattle.xns_calls.specs.Speech.{heard_of}
 use Rattle.xns_calls.specs.Telling.{heard_text, is_fault}
-use Rattle.xns_calls.specs.Unanswered.{Calls}
+use Rattle.xns_calls.specs.Unanswered.{UnansweredCalls}
 use Rattle.xns_calls.specs.declared.early.Early.{Early}
 use Rattle.xns_calls.specs.declared.due.Due.{Due}
 use Rattle.xns_calls.specs.declared.heading.Heading.{Heading}
@@ -31,7 +31,7 @@ use Rattle.xns_calls.proofs.Quiet.{IsPlain, cases, flow_is, message_is, missing_
 
 pub Tells : Bool → List ℕ → Type 0
 Tells true xs = IsLoud xs
-Tells false xs = IsQuiet xs
+Tells false xs = SaysNoRefusal xs
 
 -- since the flag was b, the text has the word where the flag was set
 pub record Says (b : Bool) (text : List ℕ) (flag : Bool) : Type 0 where
@@ -65,7 +65,7 @@ module _ (joined : JoinedTextsSayRefused) (only : OnlyRefusalsSayRefused) where
     tells = tells_both s.new c text more s.tells t;
   }
 
-  pub says_quiet : (b : Bool) (text more : List ℕ) (flag : Bool) → Says b text flag → IsQuiet more → Says b (text ++ more) flag
+  pub says_quiet : (b : Bool) (text more : List ℕ) (flag : Bool) → Says b text flag → SaysNoRefusal more → Says b (text ++ more) flag
   unfolding Tells
   says_quiet b text more flag s q = record {
     new = s.new || false;
@@ -107,7 +107,7 @@ module _ (joined : JoinedTextsSayRefused) (only : OnlyRefusalsSayRefused) where
   unfolding passed
   passed_says b h n t s = cases (SaysTold b) (nat_lt t.track.next n) (past h n t) t (says_quiet b t.text _ t.is_refused s (missing_is joined only h t.track.next n)) s
 
-  heard_tells : (h : Heading) (plain : IsPlain h) (calls : Calls) (x : Heard) → Tells (is_fault x) (heard_text h calls x)
+  heard_tells : (h : Heading) (plain : IsPlain h) (calls : UnansweredCalls) (x : Heard) → Tells (is_fault x) (heard_text h calls x)
   unfolding Tells
   heard_tells h plain calls heard.Nothing = record { skips = λ ys. refl }
   heard_tells h plain calls (heard.Message m) = message_is joined only h plain calls m
@@ -227,7 +227,7 @@ module _ (joined : JoinedTextsSayRefused) (only : OnlyRefusalsSayRefused) where
 
   pub settled_says : (b : Bool) (h : Heading) (plain : IsPlain h) (given : Given) (s : Scene) → SaysScene b s → SaysScene b (settled h given s)
   unfolding settled
-  settled_says b h plain given s k = times_say b h plain (kept_count s.own.track + kept_count s.other.track) given s k
+  settled_says b h plain given s k = times_say b h plain (kept_item_count s.own.track + kept_item_count s.other.track) given s k
 
   -- ---- the end of a connection
 
@@ -251,4 +251,4 @@ module _ (joined : JoinedTextsSayRefused) (only : OnlyRefusalsSayRefused) where
 
   pub both_say : (b : Bool) (h : Heading) (plain : IsPlain h) (s : Scene) → SaysScene b s → SaysScene b (both_ended h s)
   unfolding both_ended
-  both_say b h plain s k = ends_say b h plain (kept_count s.own.track + kept_count s.other.track) s k
+  both_say b h plain s k = ends_say b h plain (kept_item_count s.own.track + kept_item_count s.other.track) s k

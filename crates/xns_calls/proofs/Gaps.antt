@@ -6,7 +6,7 @@ use Rattle.xns_calls.specs.declared.heading.Heading.{Heading}
 use Rattle.xns_calls.specs.Events.{AreWithinReach, Event, IsAmong, IsLate, acknowledged, after_event, after_events, after_whole_event, after_whole_events, brought_if, captured, meanwhile, read, read_below, read_below_if, read_below_over, read_first_over, with_captured}
 use Rattle.xns_calls.specs.Exchange.{is_repeat, up_to}
 use Rattle.xns_calls.specs.Numbers.{most_early}
-use Rattle.xns_calls.specs.Queue.{below, last_number}
+use Rattle.xns_calls.specs.Queue.{below, last_kept_number}
 use Rattle.xns_calls.specs.Reading.{Told, brought, brought_over, first_read, first_read_over, item_read, passed, read_next}
 use Rattle.xns_calls.proofs.Steps.{early_of, passed_same, read_early, with_early}
 use Rattle.xns_calls.proofs.Comparing.{le_tells, lt_tells}
@@ -118,7 +118,7 @@ event_whole first before (captured h k item) t ordered low known late =
     let all : AreKept (next_of t) (k - most_early) (early_of t) = λ m le lt. late_kept first before t low known (λ n. n + most_early < k) late m le (omega (arith, lt)) in
     ap (λ (u : Told). cond (is_repeat k t.track) t (with_item k item u)) (brought_whole h (k - most_early) t ordered all)
 event_whole first before (acknowledged h n) t ordered low known late =
-    acknowledged_whole h (last_number t.track.early) n t ordered (λ m le lt. late_kept first before t low known (λ i. i < n) late m le lt)
+    acknowledged_whole h (last_kept_number t.track.early) n t ordered (λ m le lt. late_kept first before t low known (λ i. i < n) late m le lt)
 event_whole first before (read h) t ordered low known late = first_whole h t ordered
 event_whole first before (meanwhile calls text is_refused) t ordered low known late = refl
 

@@ -12,7 +12,7 @@ use Rattle.xns_calls.specs.Exchange.{Scene, advance_other, advance_own, after_co
 use Rattle.xns_calls.specs.Held.{AreHandled, Handled, IsHandled, handled_in, with_all, with_handled}
 use Rattle.xns_calls.specs.Numbers.{most_early, near}
 use Rattle.xns_calls.specs.Over.{side_in}
-use Rattle.xns_calls.specs.Queue.{last_number}
+use Rattle.xns_calls.specs.Queue.{last_kept_number}
 use Rattle.xns_calls.specs.Read.{handled, settled}
 use Rattle.xns_calls.specs.Reading.{Told, brought, item_read, passed}
 use Rattle.xns_calls.specs.declared.connection.Connection.{Connection}
@@ -59,7 +59,7 @@ event_past : (least : ℕ) (e : Event) (t : Told) → IsOrdered t → IsPast lea
 event_past least (captured h k item) t ordered past =
     by_test (IsPast least) (is_repeat k t.track) t (with_item k item (brought h (k - most_early) t)) (λ old. past)
     (λ new. past_brought least h (k - most_early) t ordered past)
-event_past least (acknowledged h n) t ordered past = past_if least h (up_to (last_number t.track.early) (Some n)) t ordered past
+event_past least (acknowledged h n) t ordered past = past_if least h (up_to (last_kept_number t.track.early) (Some n)) t ordered past
 event_past least (read h) t ordered past = first_bears (IsPast least) h (λ e rest u same le now. past_read least h e rest u le now) t ordered past
 event_past least (meanwhile calls text is_refused) t ordered past = past
 

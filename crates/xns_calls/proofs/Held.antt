@@ -5,7 +5,7 @@ use Rattle.std.specs.Option.{unwrap_or}
 use Rattle.std.proofs.lemmas.Bool.Decides.{nat_tests}
 use Rattle.xns_spp.specs.declared.header.Header.{Header}
 use Rattle.xns_dump.specs.declared.flows.flow.Flow.{Flow}
-use Rattle.xns_calls.specs.Acknowledged.{acknowledged_of, ahead_of, aheads_in, beyond, effective, given_in, given_with, last_ahead, most_waited, nearer, new_ahead, noted, waiting, with_ahead}
+use Rattle.xns_calls.specs.Acknowledged.{acknowledged_of, ahead_of, aheads_in, beyond, effective, given_in, given_with, last_ahead, most_waited, nearer, new_ahead, noted_beside, waiting, with_ahead}
 use Rattle.xns_calls.specs.Capture.{new_connection}
 use Rattle.xns_calls.specs.Held.{Handled, acknowledges, behind_all, track_behind, with_all, with_handled}
 use Rattle.xns_calls.specs.Numbers.{near}
@@ -189,7 +189,7 @@ added false true f c = ahead_of true f c
 aheads_after : (d : Bool) (packet : Handled) (c : Connection) → aheads_in d (with_handled packet c) ≡ stepped (added d packet.is_behind packet.header c) (aheads_in d c)
 aheads_after d packet c = by_flow d packet.is_behind
   where
-    by_flow : (d q : Bool) → aheads_in d (record (noted q packet.header c) { first = packet.first; second = packet.second }) ≡ stepped (added d q packet.header c) (aheads_in d c)
+    by_flow : (d q : Bool) → aheads_in d (record (noted_beside q packet.header c) { first = packet.first; second = packet.second }) ≡ stepped (added d q packet.header c) (aheads_in d c)
     by_flow true true = refl
     by_flow true false = refl
     by_flow false true = refl
@@ -198,7 +198,7 @@ aheads_after d packet c = by_flow d packet.is_behind
 given_after : (d : Bool) (packet : Handled) (c : Connection) → given_of d (with_handled packet c) ≡ given_with (effective (nearer (aheads_in d c))) (given_of d c)
 given_after d packet c = by_flow d packet.is_behind
   where
-    by_flow : (d q : Bool) → given_of d (record (noted q packet.header c) { first = packet.first; second = packet.second }) ≡ given_with (effective (nearer (aheads_in d c))) (given_of d c)
+    by_flow : (d q : Bool) → given_of d (record (noted_beside q packet.header c) { first = packet.first; second = packet.second }) ≡ given_with (effective (nearer (aheads_in d c))) (given_of d c)
     by_flow true true = refl
     by_flow true false = refl
     by_flow false true = refl

@@ -6,11 +6,11 @@ use Rattle.xns_spp.specs.Header.{is_system}
 use Rattle.xns_spp.specs.declared.header.Header.{Header}
 use Rattle.xns_dump.specs.Flows.{flow_of}
 use Rattle.xns_dump.specs.declared.flows.flow.Flow.{Flow}
-use Rattle.xns_calls.specs.Acknowledged.{noted}
+use Rattle.xns_calls.specs.Acknowledged.{noted_beside}
 use Rattle.xns_calls.specs.Anew.{begins_anew}
 use Rattle.xns_calls.specs.Calls.{known_from, known_of, line_taken, nothing_known}
 use Rattle.xns_calls.specs.Capture.{Known, after_at, after_in, after_place, after_sequenced, after_there, forgotten, is_behind_in, new_connection, place_of, renewed, renewed_there, with_new}
-use Rattle.xns_calls.specs.Held.{AreHandled, Handled, IsHandled, behind_all, handled_in, handled_of, packets_at, packets_from, packets_in, packets_place, packets_there, with_all, with_handled}
+use Rattle.xns_calls.specs.Held.{AreHandled, Handled, IsHandled, behind_all, handled_in, handled_of, packets_at, handled_from, handled_packets, packets_place, packets_there, with_all, with_handled}
 use Rattle.xns_calls.specs.Input.{Arrival, arrival}
 use Rattle.xns_calls.specs.Naming.{Programs}
 use Rattle.xns_calls.specs.Origins.{line_origin}
@@ -48,7 +48,7 @@ new_comes number flow = record { are = tt; is = refl }
 same_start : (packet : Handled) (c : Connection) → new_connection (with_handled packet c).number (with_handled packet c).flow ≡ new_connection c.number c.flow
 same_start packet c = by_flow packet.is_behind
   where
-    by_flow : (q : Bool) → new_connection (noted q packet.header c).number (noted q packet.header c).flow ≡ new_connection c.number c.flow
+    by_flow : (q : Bool) → new_connection (noted_beside q packet.header c).number (noted_beside q packet.header c).flow ≡ new_connection c.number c.flow
     by_flow true = refl
     by_flow false = refl
 
@@ -155,11 +155,11 @@ module _ (programs : Programs) where
       (λ a. sequenced_comes (line_origin programs n) i a (record k { text = [] }) packets w)
       line
 
-  lines_come : (i n : ℕ) (k : Known) (packets : List Handled) (lines : List (List ℕ)) → ComesAt i packets k → ComesAt i (packets_from programs i n k packets lines) (known_from programs n k lines)
+  lines_come : (i n : ℕ) (k : Known) (packets : List Handled) (lines : List (List ℕ)) → ComesAt i packets k → ComesAt i (handled_from programs i n k packets lines) (known_from programs n k lines)
   lines_come i n k packets [] w = w
   lines_come i n k packets (line ∷ lines) w =
       lines_come i (n + 1) (line_taken programs n line k) (packets_at i (line_origin programs n) (arrival line) (record k { text = [] }) packets) lines (line_comes i n k line packets w)
 
   pub known_come : (lines : List (List ℕ)) (i : ℕ) (c : Connection) → slice_get (known_of programs lines).connections i ≡ Some c
-      → AreHandled (packets_in programs i lines) (new_connection c.number c.flow) × (c ≡ behind_all c.number c.flow (packets_in programs i lines))
+      → AreHandled (handled_packets programs i lines) (new_connection c.number c.flow) × (c ≡ behind_all c.number c.flow (handled_packets programs i lines))
   known_come lines i c there = let w = lines_come i 1 nothing_known [] lines (λ d at. (cc)) c there in (w.are, w.is)

@@ -4,9 +4,9 @@ use Rattle.std.specs.Prelude.{max, nat_lt, not, ◌&&◌, ◌||◌, ◌-◌}
 use Rattle.xns_spp.specs.Ends.{most_pending}
 use Rattle.xns_calls.specs.AtEnd.{both_ended}
 use Rattle.xns_calls.specs.Exchange.{Scene}
-use Rattle.xns_calls.specs.InOrder.{CanBeRead, IsFree, KeptItemsAreReadInTurn}
+use Rattle.xns_calls.specs.InOrder.{CanBeRead, WaitsForNone, KeptItemsAreReadInTurn}
 use Rattle.xns_calls.specs.Read.{one_read, read_of, read_times, settled}
-use Rattle.xns_calls.specs.Turns.{first_kept, first_line, is_behind, is_free, next_turn, readable, readable_first}
+use Rattle.xns_calls.specs.Turns.{first_kept, first_line, is_behind, waits_for_none, next_turn, readable, readable_first}
 use Rattle.xns_calls.specs.declared.early.Early.{Early}
 use Rattle.xns_calls.specs.declared.given.Given.{Given}
 use Rattle.xns_calls.specs.declared.heading.Heading.{Heading}
@@ -40,12 +40,12 @@ is_behind_so next given number (inr (inl le)) = ap (λ p. not p || nat_lt most_p
 is_behind_so next given number (inr (inr far)) =
     ap (λ p. not (nat_lt (max next given) number) || p) (lt_true most_pending (number - next) (omega (arith, far))) ∙ or_true (not (nat_lt (max next given) number))
 
-free_is : (behind : Option Track) (given : ℕ) (a : Option ℕ) → is_free behind given a ≡ true → IsFree behind given a
+free_is : (behind : Option Track) (given : ℕ) (a : Option ℕ) → waits_for_none behind given a ≡ true → WaitsForNone behind given a
 free_is None given a is = tt
 free_is (Some behind) given None is = tt
 free_is (Some behind) given (Some number) is = behind_is behind.next given number is
 
-is_free_so : (behind : Option Track) (given : ℕ) (a : Option ℕ) → IsFree behind given a → is_free behind given a ≡ true
+is_free_so : (behind : Option Track) (given : ℕ) (a : Option ℕ) → WaitsForNone behind given a → waits_for_none behind given a ≡ true
 is_free_so None given a free = refl
 is_free_so (Some behind) given None free = refl
 is_free_so (Some behind) given (Some number) free = is_behind_so behind.next given number free
@@ -57,9 +57,9 @@ can_is track behind given line is = by_early track.early refl is
   where
     by_early : (es : List Early) → track.early ≡ es → readable_first track.next behind given (first_kept es) ≡ Some line → (early : Early) × CanBeRead track behind given early
     by_early [] at is = (cc)
-    by_early (e ∷ rest) at is = by_next (nat_lt track.next e.number) (is_free behind given e.item.acknowledged) refl refl is
+    by_early (e ∷ rest) at is = by_next (nat_lt track.next e.number) (waits_for_none behind given e.item.acknowledged) refl refl is
       where
-        by_next : (p q : Bool) → nat_lt track.next e.number ≡ p → is_free behind given e.item.acknowledged ≡ q → cond (not p && q) (Some e.item.line) None ≡ Some line
+        by_next : (p q : Bool) → nat_lt track.next e.number ≡ p → waits_for_none behind given e.item.acknowledged ≡ q → cond (not p && q) (Some e.item.line) None ≡ Some line
             → (early : Early) × CanBeRead track behind given early
         by_next true q d f is = (cc)
         by_next false false d f is = (cc)
@@ -68,7 +68,7 @@ can_is track behind given line is = by_early track.early refl is
 pub can_so : (track : Track) (behind : Option Track) (given : ℕ) (early : Early) → CanBeRead track behind given early → readable (Some track) behind given ≡ Some early.item.line
 can_so track behind given early can =
     ap (λ es. readable_first track.next behind given (first_kept es)) can.first
-    ∙ ap (λ p. cond (not p && is_free behind given early.item.acknowledged) (Some early.item.line) None) (lt_false track.next early.number can.next)
+    ∙ ap (λ p. cond (not p && waits_for_none behind given early.item.acknowledged) (Some early.item.line) None) (lt_false track.next early.number can.next)
     ∙ ap (λ p. cond p (Some early.item.line) None) (is_free_so behind given early.item.acknowledged can.free)
 
 -- ---- what is read

@@ -14,7 +14,7 @@ use Rattle.xns_calls.specs.Naming.{Programs}
 use Rattle.xns_calls.specs.Calls.{after_body, after_bytes, after_digits, after_found, after_header, after_line, known_from, line_taken, refuse, text_from}
 use Rattle.xns_calls.specs.Capture.{Known, after_sequenced, heading_at}
 use Rattle.xns_calls.specs.Events.{Event, after_events, meanwhile, with_others}
-use Rattle.xns_calls.specs.Input.{Arrival, FlowName, Part, arrival, bad_header, bad_hex, bad_packet, connection_of, events_at, events_from, events_there, in_bytes, in_packet, part_text, parts_text, text_in, texts_in, with_header}
+use Rattle.xns_calls.specs.Input.{Arrival, FlowName, Part, arrival, bad_header, bad_hex, bad_packet, connection_of, events_at, events_from, events_there, in_bytes, in_packet, part_text, parts_text, text_in, texts_in, arrival_with_header}
 use Rattle.xns_calls.specs.Reading.{Told}
 use Rattle.xns_calls.specs.Whole.{flow_text}
 use Rattle.xns_calls.specs.declared.connection.Connection.{Connection}
@@ -39,13 +39,13 @@ module _ (programs : Programs) where
   unfolding after_line after_bytes after_body arrival
   line_is P n k bad same takes line = by_digits (decode_of (digits_of line))
     where
-      by_header : (packet : PacketModel) (r : Result (Header × List ℕ) SppFault) → P (after_header (line_origin programs n) packet r k) (with_header packet r)
+      by_header : (packet : PacketModel) (r : Result (Header × List ℕ) SppFault) → P (after_header (line_origin programs n) packet r k) (arrival_with_header packet r)
       by_header packet (Ok found) = by_both P (found.0.target_id == 0) k (after_sequenced (line_origin programs n) packet found.0 found.1 k) None (Some (packet, found.0, found.1)) (λ e. same) (λ e. takes (packet, found.0, found.1))
       by_header packet (Err fault) = bad (bad_header (line_origin programs n) fault) (λ p. refl)
 
       by_packet : (r : Result (PacketModel × ℕ) IdpFault) → P (after_found (line_origin programs n) r k) (in_packet r)
       by_packet (Ok found) =
-          by_both P (found.0.kind == 5) (after_header (line_origin programs n) found.0 (header_of found.0.body) k) k (with_header found.0 (header_of found.0.body)) None (λ e. by_header found.0 (header_of found.0.body)) (λ e. same)
+          by_both P (found.0.kind == 5) (after_header (line_origin programs n) found.0 (header_of found.0.body) k) k (arrival_with_header found.0 (header_of found.0.body)) None (λ e. by_header found.0 (header_of found.0.body)) (λ e. same)
       by_packet (Err fault) = bad (bad_packet (line_origin programs n) fault) (λ p. refl)
 
       by_digits : (r : Result (List ℕ) FromHexError) → P (after_digits programs n r k) (in_bytes r)

@@ -8,7 +8,7 @@ use Rattle.xns_calls.specs.declared.heading.Heading.{Heading}
 use Rattle.xns_calls.specs.Events.{Event, IsAmong, acknowledged, after_event, after_events, brought_if, captured, captured_in, meanwhile, read, with_captured}
 use Rattle.xns_calls.specs.Exchange.{is_repeat, up_to}
 use Rattle.xns_calls.specs.Numbers.{most_early}
-use Rattle.xns_calls.specs.Queue.{below, kept, last_number}
+use Rattle.xns_calls.specs.Queue.{below, kept, last_kept_number}
 use Rattle.xns_calls.specs.Reading.{Told, brought, first_read, with_kept_item}
 use Rattle.xns_calls.proofs.Steps.{early_of, passed_early, read_early, with_early}
 use Rattle.xns_calls.proofs.Comparing.{by_test, equal_tells, equal_true, le_tells, lt_tells, lt_true, not_less, other_than}
@@ -148,7 +148,7 @@ pub event_ordered : (e : Event) (t : Told) → IsOrdered t → IsOrdered (after_
 event_ordered (captured h k item) t ordered =
     by_test IsOrdered (is_repeat k t.track) t (with_item k item (brought h (k - most_early) t)) (λ old. ordered)
     (λ new. kept_ready k item (brought h (k - most_early) t) (ready h k t ordered new))
-event_ordered (acknowledged h n) t ordered = brought_if_ordered h (up_to (last_number t.track.early) (Some n)) t ordered
+event_ordered (acknowledged h n) t ordered = brought_if_ordered h (up_to (last_kept_number t.track.early) (Some n)) t ordered
 event_ordered (read h) t ordered = first_ordered h t ordered
 event_ordered (meanwhile calls text is_refused) t ordered = ordered
 
@@ -170,7 +170,7 @@ pub event_known : (m : ℕ) (e : Event) (t : Told) → IsOrdered t → IsKnown m
 event_known m (captured h k item) t ordered known =
     by_test (IsKnown m) (is_repeat k t.track) t (with_item k item (brought h (k - most_early) t)) (λ old. known)
     (λ new. kept_known m k item (brought h (k - most_early) t) (brought_known m h (k - most_early) t ordered known))
-event_known m (acknowledged h n) t ordered known = brought_if_known m h (up_to (last_number t.track.early) (Some n)) t ordered known
+event_known m (acknowledged h n) t ordered known = brought_if_known m h (up_to (last_kept_number t.track.early) (Some n)) t ordered known
 event_known m (read h) t ordered known = first_known m h t ordered known
 event_known m (meanwhile calls text is_refused) t ordered known = known
 

@@ -3,7 +3,7 @@ use Rattle.std.proofs.Common.{◌≡◌, ◌∙◌, ap, sym, refl, subst, arith,
 use Rattle.std.specs.Prelude.{min, nat_lt, option_map, slice_get}
 use Rattle.xns_calls.specs.Events.{Event, acknowledged, acknowledged_event, after_events, brought_if, captured, meanwhile, read}
 use Rattle.xns_calls.specs.Exchange.{behind_last, up_to}
-use Rattle.xns_calls.specs.Queue.{last_number}
+use Rattle.xns_calls.specs.Queue.{last_kept_number}
 use Rattle.xns_calls.specs.Reading.{Told, brought, brought_over, item_read, passed}
 use Rattle.xns_calls.specs.declared.early.Early.{Early}
 use Rattle.xns_calls.specs.declared.heading.Heading.{Heading}
@@ -25,28 +25,28 @@ over_empty h n (e ∷ rest) t same below =
     let u = item_read h e (with_early rest t) in
     ap (λ p. early_of (cond p (brought_over h n rest u) (passed h n t))) (lt_true e.number n below.0) ∙ over_empty h n rest u (read_early h e (with_early rest t)) below.1
 
-last_more : (e g : Early) (rest : List Early) → last_number (e ∷ g ∷ rest) ≡ last_number (g ∷ rest)
+last_more : (e g : Early) (rest : List Early) → last_kept_number (e ∷ g ∷ rest) ≡ last_kept_number (g ∷ rest)
 last_more e g rest =
     let one : length (e ∷ g ∷ rest) - 1 ≡ suc (length (g ∷ rest) - 1) = omega arith in ap (λ i. option_map (λ (x : Early). x.number) (slice_get (e ∷ g ∷ rest) i)) one
 
 -- each number is at most the last one
-last_below : (n : ℕ) (es : List Early) (last : ℕ) → AreFrom n es → last_number es ≡ Some last → AreBelow (last + 1) es
+last_below : (n : ℕ) (es : List Early) (last : ℕ) → AreFrom n es → last_kept_number es ≡ Some last → AreBelow (last + 1) es
 last_below n [] last from is = tt
 last_below n (e ∷ []) last from is = let same : e.number ≡ last = (cc) in (omega (arith, same), tt)
 last_below n (e ∷ g ∷ rest) last from is =
     let more = last_below (e.number + 1) (g ∷ rest) last from.1 (sym (last_more e g rest) ∙ is) in
     (omega (arith, more.0, from.1.0), more)
 
-none_kept : (es : List Early) → last_number es ≡ None → es ≡ []
+none_kept : (es : List Early) → last_kept_number es ≡ None → es ≡ []
 none_kept [] is = refl
 none_kept (e ∷ []) is = (cc)
 none_kept (e ∷ g ∷ rest) is = let none : g ∷ rest ≡ [] = none_kept (g ∷ rest) (sym (last_more e g rest) ∙ is) in (cc)
 
 pub end_empty : (h : Heading) (t : Told) → IsOrdered t → early_of (after_events (acknowledged_event h (behind_last (Some t.track))) t) ≡ []
 unfolding brought
-end_empty h t ordered = by_last (last_number t.track.early) refl
+end_empty h t ordered = by_last (last_kept_number t.track.early) refl
   where
-    by_last : (o : Option ℕ) → last_number t.track.early ≡ o → early_of (after_events (acknowledged_event h (option_map (λ number. number + 1) o)) t) ≡ []
+    by_last : (o : Option ℕ) → last_kept_number t.track.early ≡ o → early_of (after_events (acknowledged_event h (option_map (λ number. number + 1) o)) t) ≡ []
     by_last None is = none_kept t.track.early is
     by_last (Some last) is =
         ap (λ o. early_of (brought_if h (up_to o (Some (last + 1))) t)) is
@@ -61,23 +61,23 @@ upto_twice (Some last) None = refl
 upto_twice (Some last) (Some n) = let same : min (min n (last + 1)) (last + 1) ≡ min n (last + 1) = omega arith in ap Some same
 
 -- the last number is below what all are below
-last_under : (bound : ℕ) (es : List Early) (last : ℕ) → AreBelow bound es → last_number es ≡ Some last → last < bound
+last_under : (bound : ℕ) (es : List Early) (last : ℕ) → AreBelow bound es → last_kept_number es ≡ Some last → last < bound
 last_under bound [] last below is = (cc)
 last_under bound (e ∷ []) last below is = let same : e.number ≡ last = (cc) in subst (λ k. k < bound) same below.0
 last_under bound (e ∷ g ∷ rest) last below is = last_under bound (g ∷ rest) last below.1 (sym (last_more e g rest) ∙ is)
 
-pub upto_below : (bound n : ℕ) (es : List Early) → up_to (last_number es) (Some n) ≡ Some n → AreBelow bound es → n ≤ bound
-upto_below bound n es upto below = by_last (last_number es) refl upto
+pub upto_below : (bound n : ℕ) (es : List Early) → up_to (last_kept_number es) (Some n) ≡ Some n → AreBelow bound es → n ≤ bound
+upto_below bound n es upto below = by_last (last_kept_number es) refl upto
   where
-    by_last : (o : Option ℕ) → last_number es ≡ o → up_to o (Some n) ≡ Some n → n ≤ bound
+    by_last : (o : Option ℕ) → last_kept_number es ≡ o → up_to o (Some n) ≡ Some n → n ≤ bound
     by_last None at is = (cc)
     by_last (Some last) at is =
         let same : min n (last + 1) ≡ n = (cc) in
         let under : last < bound = last_under bound es last below at in omega (arith, same, under)
 
 -- the number behind the first item is at most the one behind the last
-pub first_upto : (t : Told) (e : Early) (rest : List Early) → t.track.early ≡ e ∷ rest → IsOrdered t → up_to (last_number t.track.early) (Some (e.number + 1)) ≡ Some (e.number + 1)
-first_upto t e rest at ordered = by_last (last_number t.track.early) refl
+pub first_upto : (t : Told) (e : Early) (rest : List Early) → t.track.early ≡ e ∷ rest → IsOrdered t → up_to (last_kept_number t.track.early) (Some (e.number + 1)) ≡ Some (e.number + 1)
+first_upto t e rest at ordered = by_last (last_kept_number t.track.early) refl
   where
     from : AreFrom t.track.next (e ∷ rest)
     from = subst (AreFrom t.track.next) at ordered
@@ -85,10 +85,10 @@ first_upto t e rest at ordered = by_last (last_number t.track.early) refl
     some_kept : t.track.early ≡ [] → ⊥
     some_kept none = let wrong : e ∷ rest ≡ [] = sym at ∙ none in (cc)
 
-    by_last : (o : Option ℕ) → last_number t.track.early ≡ o → up_to o (Some (e.number + 1)) ≡ Some (e.number + 1)
+    by_last : (o : Option ℕ) → last_kept_number t.track.early ≡ o → up_to o (Some (e.number + 1)) ≡ Some (e.number + 1)
     by_last None is = absurd (some_kept (none_kept t.track.early is))
     by_last (Some last) is =
-        let below : AreBelow (last + 1) (e ∷ rest) = last_below t.track.next (e ∷ rest) last from (ap last_number (sym at) ∙ is) in
+        let below : AreBelow (last + 1) (e ∷ rest) = last_below t.track.next (e ∷ rest) last from (ap last_kept_number (sym at) ∙ is) in
         let same : min (e.number + 1) (last + 1) ≡ e.number + 1 = omega (arith, below.0) in ap Some same
 
 -- ---- what is kept below a number stays below it
@@ -111,9 +111,9 @@ bound_of None = 0
 bound_of (Some n) = n
 
 pub all_below : (t : Told) → IsOrdered t → AreBelow (bound_of (behind_last (Some t.track))) (early_of t)
-all_below t ordered = by_last (last_number t.track.early) refl
+all_below t ordered = by_last (last_kept_number t.track.early) refl
   where
-    by_last : (o : Option ℕ) → last_number t.track.early ≡ o → AreBelow (bound_of (option_map (λ number. number + 1) o)) (early_of t)
+    by_last : (o : Option ℕ) → last_kept_number t.track.early ≡ o → AreBelow (bound_of (option_map (λ number. number + 1) o)) (early_of t)
     by_last None is = subst (AreBelow 0) (sym (none_kept t.track.early is)) tt
     by_last (Some last) is = last_below t.track.next t.track.early last ordered is
 

@@ -7,8 +7,8 @@ use Rattle.xns_dump.specs.declared.flows.flow.Flow.{Flow}
 use Rattle.xns_calls.specs.Acknowledged.{acknowledged_of, due_in, given_in, most_waited}
 use Rattle.xns_calls.specs.Capture.{heading_at, new_connection, repeats_told, scene_in}
 use Rattle.xns_calls.specs.Exchange.{Scene, after_packet}
-use Rattle.xns_calls.specs.Held.{AreHandled, CameWith, Handled, IsHandled, NextItemsAreNotHeldLonger, acknowledges, behind_all, handled_by, packets_in, scene_behind, track_behind, with_all, with_handled}
-use Rattle.xns_calls.specs.InOrder.{IsFree}
+use Rattle.xns_calls.specs.Held.{AreHandled, CameWith, Handled, IsHandled, NextItemsAreNotHeldLonger, acknowledges, behind_all, handled_by, handled_packets, scene_behind, track_behind, with_all, with_handled}
+use Rattle.xns_calls.specs.InOrder.{WaitsForNone}
 use Rattle.xns_calls.specs.Over.{side_in}
 use Rattle.xns_calls.specs.Turns.{first_line, readable}
 use Rattle.xns_calls.specs.declared.connection.Connection.{Connection}
@@ -27,13 +27,13 @@ use Rattle.xns_calls.proofs.Held.{given_of, given_other, given_then}
 
 -- an item waits for nothing once what its packet acknowledges is waited for no longer
 free_then : (old new : Option Track) (field given : ℕ) (a : Option ℕ) → a ≡ acknowledged_of old field → GoesOn old new
-    → ((track : Track) (n : ℕ) → old ≡ Some track → a ≡ Some n → (n ≤ track.next) ⊎ (n ≤ given)) → IsFree new given a
+    → ((track : Track) (n : ℕ) → old ≡ Some track → a ≡ Some n → (n ≤ track.next) ⊎ (n ≤ given)) → WaitsForNone new given a
 free_then old None field given a is on waited = tt
 free_then old (Some new) field given None is on waited = tt
 free_then None (Some new) field given (Some n) is on waited = absurd (let wrong : Some n ≡ None = is in (cc))
 free_then (Some old) (Some new) field given (Some n) is on waited = by_wait (waited old n refl refl)
   where
-    by_wait : (n ≤ old.next) ⊎ (n ≤ given) → IsFree (Some new) given (Some n)
+    by_wait : (n ≤ old.next) ⊎ (n ≤ given) → WaitsForNone (Some new) given (Some n)
     by_wait (inl le) = let up : old.next ≤ new.next = on.0 in inl (omega (arith, le, up))
     by_wait (inr le) = inr (inl le)
 
@@ -102,7 +102,7 @@ never_held number flow before more packet track early rest are long is at first 
     let on : GoesOn (track_behind packet c) (side_in (not b) last).track =
     subst (λ (x : Connection). GoesOn (track_behind packet c) (side_in (not b) x).track) (sym (with_both before (packet ∷ more) start))
     (all_go (not b) (packet ∷ more) c parts.1 (goes_order (side_in (not b) start).track (track_behind packet c) (all_go (not b) before start parts.0 (new_order (not b) number flow)))) in
-    let free : IsFree (side_in (not b) last).track (given_of (not b) last) early.item.acknowledged =
+    let free : WaitsForNone (side_in (not b) last).track (given_of (not b) last) early.item.acknowledged =
     free_then (track_behind packet c) (side_in (not b) last).track packet.header.acknowledge (given_of (not b) last) early.item.acknowledged is on
     (λ old n there has. given_then number flow before more packet old n there (sym is ∙ has) long) in
     let none : readable (side_in b last).track (side_in (not b) last).track (given_of (not b) last) ≡ None = all_read (before ++ packet ∷ more) start are (new_read number flow) b in
@@ -141,5 +141,5 @@ not_held_longer = record {
   late = came_late;
   lines = λ programs lines i c d track early rest there at first next.
       let w = known_come programs lines i c there in
-      came_late c.number c.flow (packets_in programs i lines) d track early rest w.0 (sym (ap (λ (x : Connection). (side_in d x).track) w.1) ∙ at) first next;
+      came_late c.number c.flow (handled_packets programs i lines) d track early rest w.0 (sym (ap (λ (x : Connection). (side_in d x).track) w.1) ∙ at) first next;
 }

@@ -3,7 +3,7 @@ use Rattle.std.proofs.Common.{◌≡◌, ◌∙◌, ap, sym, refl, subst, arith,
 use Rattle.std.specs.Prelude.{nat_lt, option_map}
 use Rattle.xns_calls.specs.AtEnd.{both_ended, earliest, end_line, end_turn, ended_of, ended_times, first_at_end, first_in, one_ended, other_ended, own_ended, read_behind}
 use Rattle.xns_calls.specs.Exchange.{Scene, advance_other, advance_track, advanced, of_other, other_reached, reached, seen_from_other, told_of}
-use Rattle.xns_calls.specs.Read.{kept_count}
+use Rattle.xns_calls.specs.Read.{kept_item_count}
 use Rattle.xns_calls.specs.Reading.{Told, brought, brought_over, item_read, passed}
 use Rattle.xns_calls.specs.Turns.{first_line}
 use Rattle.xns_calls.specs.declared.early.Early.{Early}
@@ -40,24 +40,24 @@ first_less h e rest t at =
     ap (λ es. brought_over h n es t) at ∙ ap (λ p. cond p (brought_over h n rest u) (passed h n t)) (lt_true e.number n (omega arith)) in
     subst (λ (x : Told). length (early_of x) ≤ length rest) (sym read) (over_less h n rest u (read_early h e (with_early rest t)))
 
-advanced_less : (h : Heading) (n : ℕ) (s : Scene) → kept_count (advanced h n s).own.track ≤ kept_count s.own.track
+advanced_less : (h : Heading) (n : ℕ) (s : Scene) → kept_item_count (advanced h n s).own.track ≤ kept_item_count s.own.track
 unfolding advanced
 advanced_less h n s = by_track s.own.track refl
   where
-    by_track : (o : Option Track) → s.own.track ≡ o → kept_count (advance_track h n o s).own.track ≤ kept_count o
-    by_track None at = let none : kept_count s.own.track ≡ 0 = ap kept_count at in omega (arith, none)
+    by_track : (o : Option Track) → s.own.track ≡ o → kept_item_count (advance_track h n o s).own.track ≤ kept_item_count o
+    by_track None at = let none : kept_item_count s.own.track ≡ 0 = ap kept_item_count at in omega (arith, none)
     by_track (Some track) at = brought_less h n (told_of track s)
 
-first_advanced : (h : Heading) (e : Early) (rest : List Early) (track : Track) (s : Scene) → s.own.track ≡ Some track → track.early ≡ e ∷ rest → kept_count (advanced h (e.number + 1) s).own.track ≤ length rest
+first_advanced : (h : Heading) (e : Early) (rest : List Early) (track : Track) (s : Scene) → s.own.track ≡ Some track → track.early ≡ e ∷ rest → kept_item_count (advanced h (e.number + 1) s).own.track ≤ length rest
 unfolding advanced
 first_advanced h e rest track s at first =
-    subst (λ o. kept_count (advance_track h (e.number + 1) o s).own.track ≤ length rest) (sym at) (first_less h e rest (told_of track s) first)
+    subst (λ o. kept_item_count (advance_track h (e.number + 1) o s).own.track ≤ length rest) (sym at) (first_less h e rest (told_of track s) first)
 
-reached_less : (h : Heading) (number : Option ℕ) (s : Scene) → kept_count (other_reached h number s).other.track ≤ kept_count s.other.track
+reached_less : (h : Heading) (number : Option ℕ) (s : Scene) → kept_item_count (other_reached h number s).other.track ≤ kept_item_count s.other.track
 unfolding other_reached
 reached_less h number s = by_number (reached s.other.track number)
   where
-    by_number : (o : Option ℕ) → kept_count (advance_other h o s).other.track ≤ kept_count s.other.track
+    by_number : (o : Option ℕ) → kept_item_count (advance_other h o s).other.track ≤ kept_item_count s.other.track
     by_number None = omega arith
     by_number (Some n) = advanced_less (of_other h) n (seen_from_other s)
 
@@ -75,11 +75,11 @@ own_less h s line is = by_track s.own.track refl is
         let first = earliest start (early ∷ rest) in
         let known = other_reached h first.acknowledged s in
         let same : first.number ≡ early.number = earliest_number start (early ∷ rest) in
-        let own : kept_count (advanced h (early.number + 1) known).own.track ≤ length rest =
+        let own : kept_item_count (advanced h (early.number + 1) known).own.track ≤ length rest =
         first_advanced h early rest track known (reached_own h first.acknowledged s ∙ at) e in
-        let still : kept_count (advanced h (early.number + 1) known).other.track ≡ kept_count known.other.track = ap kept_count (advanced_other h (early.number + 1) known) in
-        let other : kept_count known.other.track ≤ kept_count s.other.track = reached_less h first.acknowledged s in
-        let mine : kept_count s.own.track ≡ suc (length rest) = ap kept_count at ∙ ap length e in
+        let still : kept_item_count (advanced h (early.number + 1) known).other.track ≡ kept_item_count known.other.track = ap kept_item_count (advanced_other h (early.number + 1) known) in
+        let other : kept_item_count known.other.track ≤ kept_item_count s.other.track = reached_less h first.acknowledged s in
+        let mine : kept_item_count s.own.track ≡ suc (length rest) = ap kept_item_count at ∙ ap length e in
         subst (λ n. count (advanced h (n + 1) known) < count s) (sym same) (omega (arith, own, still, other, mine))
 
     by_track : (o : Option Track) → s.own.track ≡ o → end_line o ≡ Some line → count (read_behind h (first_in o) s) < count s

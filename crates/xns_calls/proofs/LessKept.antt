@@ -2,9 +2,9 @@
 use Rattle.std.proofs.Common.{◌≡◌, ◌∙◌, ap, sym, refl, arith, ℕ, zero, suc, ◌+◌, ◌<◌, ◌≤◌, Bool, true, false, cond, List, [], ◌∷◌, length, Option, Some, None}
 use Rattle.std.specs.Prelude.{nat_lt, not, ◌&&◌}
 use Rattle.xns_calls.specs.Exchange.{Scene, of_other, seen_from_other, told_of}
-use Rattle.xns_calls.specs.Read.{kept_count, one_read, own_read, read_in_track, read_of, read_times, settled}
+use Rattle.xns_calls.specs.Read.{kept_item_count, one_read, own_read, read_in_track, read_of, read_times, settled}
 use Rattle.xns_calls.specs.Reading.{Told, first_read}
-use Rattle.xns_calls.specs.Turns.{first_kept, first_line, is_free, next_turn, readable, readable_first}
+use Rattle.xns_calls.specs.Turns.{first_kept, first_line, waits_for_none, next_turn, readable, readable_first}
 use Rattle.xns_calls.specs.declared.early.Early.{Early}
 use Rattle.xns_calls.specs.declared.given.Given.{Given}
 use Rattle.xns_calls.specs.declared.heading.Heading.{Heading}
@@ -18,11 +18,11 @@ use Rattle.xns_calls.proofs.Steps.{first_some, read_early, with_early}
 first_due : (next : ℕ) (behind : Option Track) (given : ℕ) (e : Early) (rest : List Early) (line : ℕ) → readable_first next behind given (first_kept (e ∷ rest)) ≡ Some line → e.number ≤ next
 first_due next behind given e rest line is = by_test (nat_lt next e.number) refl is
   where
-    by_test : (p : Bool) → nat_lt next e.number ≡ p → cond (not p && is_free behind given e.item.acknowledged) (Some e.item.line) None ≡ Some line → e.number ≤ next
+    by_test : (p : Bool) → nat_lt next e.number ≡ p → cond (not p && waits_for_none behind given e.item.acknowledged) (Some e.item.line) None ≡ Some line → e.number ≤ next
     by_test true test is = (cc)
     by_test false test is = le_tells next e.number test
 
-less_in : (h : Heading) (given : ℕ) (o : Option Track) (line : ℕ) (s : Scene) → readable o s.other.track given ≡ Some line → kept_count o ≡ suc (kept_count (read_in_track h o s).own.track)
+less_in : (h : Heading) (given : ℕ) (o : Option Track) (line : ℕ) (s : Scene) → readable o s.other.track given ≡ Some line → kept_item_count o ≡ suc (kept_item_count (read_in_track h o s).own.track)
 less_in h given None line s is = (cc)
 less_in h given (Some track) line s is = by_early track.early refl is
   where
@@ -36,12 +36,12 @@ less_in h given (Some track) line s is = by_early track.early refl is
         ap (λ (x : Told). x.track.early) (first_some h e rest t at (first_due track.next s.other.track given e rest line is)) ∙ read_early h e (with_early rest t) in
         ap length at ∙ ap (λ es. suc (length es)) (sym left)
 
-less : (h : Heading) (given line : ℕ) (s : Scene) → readable s.own.track s.other.track given ≡ Some line → kept_count s.own.track ≡ suc (kept_count (own_read h s).own.track)
+less : (h : Heading) (given line : ℕ) (s : Scene) → readable s.own.track s.other.track given ≡ Some line → kept_item_count s.own.track ≡ suc (kept_item_count (own_read h s).own.track)
 unfolding own_read
 less h given line s is = less_in h given s.own.track line s is
 
 abbrev pub count : Scene → ℕ
-count s = kept_count s.own.track + kept_count s.other.track
+count s = kept_item_count s.own.track + kept_item_count s.other.track
 
 pub count_less : (h : Heading) (given : Given) (turn : Bool) (s : Scene) → next_turn given s.own.track s.other.track ≡ Some turn → count s ≡ suc (count (read_of h (Some turn) s))
 count_less h given turn s is = by_lines (readable s.own.track s.other.track given.other) (readable s.other.track s.own.track given.own) turn refl refl is
@@ -49,12 +49,12 @@ count_less h given turn s is = by_lines (readable s.own.track s.other.track give
     own_less : (line : ℕ) → readable s.own.track s.other.track given.other ≡ Some line → count s ≡ suc (count (own_read h s))
     own_less line e =
         let one = less h given.other line s e in
-        let same = ap kept_count (read_other h s) in omega (arith, one, same)
+        let same = ap kept_item_count (read_other h s) in omega (arith, one, same)
 
     other_less : (line : ℕ) → readable s.other.track s.own.track given.own ≡ Some line → count s ≡ suc (count (seen_from_other (own_read (of_other h) (seen_from_other s))))
     other_less line e =
         let one = less (of_other h) given.own line (seen_from_other s) e in
-        let same = ap kept_count (read_other (of_other h) (seen_from_other s)) in omega (arith, one, same)
+        let same = ap kept_item_count (read_other (of_other h) (seen_from_other s)) in omega (arith, one, same)
 
     by_lines : (a b : Option ℕ) (turn : Bool) → readable s.own.track s.other.track given.other ≡ a → readable s.other.track s.own.track given.own ≡ b → first_line a b ≡ Some turn → count s ≡ suc (count (read_of h (Some turn) s))
     by_lines None None turn ea eb is = (cc)

@@ -6,7 +6,7 @@ use Rattle.xns_spp.specs.declared.header.Header.{Header}
 use Rattle.xns_dump.specs.Flows.{flow_of}
 use Rattle.xns_dump.specs.declared.flows.flow.Flow.{Flow}
 use Rattle.xns_calls.specs.Naming.{Programs}
-use Rattle.xns_calls.specs.Acknowledged.{due_in, given_in, noted}
+use Rattle.xns_calls.specs.Acknowledged.{due_in, given_in, noted_beside}
 use Rattle.xns_calls.specs.Anew.{begins_anew, begins_items}
 use Rattle.xns_calls.specs.Calls.{known_from, line_taken}
 use Rattle.xns_calls.specs.Capture.{Known, after_at, after_in, after_sequenced, after_there, forgotten, heading_at, is_behind_in, place_of, renewed, renewed_there, repeats_told, scene_in, settled_at, settled_there, taken_in, with_scene}
@@ -15,7 +15,7 @@ use Rattle.xns_calls.specs.Input.{Arrival, arrival}
 use Rattle.xns_calls.specs.Living.{AnswersNothing, IsNotAnswered, is_answered}
 use Rattle.xns_calls.specs.Origins.{line_origin}
 use Rattle.xns_calls.specs.Read.{settled}
-use Rattle.xns_calls.specs.Over.{brings_item, closed_with, closes, closing_in, closing_with, has_ended, has_replied, with_end}
+use Rattle.xns_calls.specs.Over.{brings_new_item, closed_with, closes, closing_in, closing_with, has_ended, has_replied, with_end_said}
 use Rattle.xns_calls.specs.declared.closing.Closing.{Closing}
 use Rattle.xns_calls.specs.declared.closing.Closing.TheVariants.{Open, End, EndReply}
 use Rattle.xns_calls.specs.declared.connection.Connection.{Connection}
@@ -33,7 +33,7 @@ Stays i number k = (c : Connection) × (slice_get k.connections i ≡ Some c) ×
 
 -- ---- an item that is no EndReply answers nothing
 
-end_replies : (closing : Closing) → has_replied (with_end closing) ≡ has_replied closing
+end_replies : (closing : Closing) → has_replied (with_end_said closing) ≡ has_replied closing
 end_replies Open = refl
 end_replies End = refl
 end_replies EndReply = refl
@@ -46,16 +46,16 @@ other_item stream other = by_test (stream == 255) refl
     by_test false e = refl
 
 closed_replies : (stream : ℕ) (closing : Closing) → (stream ≡ 255 → ⊥) → has_replied (closed_with stream closing) ≡ has_replied closing
-closed_replies stream closing other = ap (λ p. has_replied (cond p EndReply (with_end closing))) (other_item stream other) ∙ end_replies closing
+closed_replies stream closing other = ap (λ p. has_replied (cond p EndReply (with_end_said closing))) (other_item stream other) ∙ end_replies closing
 
 closing_replies : (q : Bool) (f : Header) (c : Connection) → (f.stream ≡ 255 → ⊥) → has_replied (closing_with q f c) ≡ has_replied (closing_in q c)
-closing_replies q f c other = by_item (closes f.stream && brings_item q f c)
+closing_replies q f c other = by_item (closes f.stream && brings_new_item q f c)
   where
     by_item : (p : Bool) → has_replied (cond p (closed_with f.stream (closing_in q c)) (closing_in q c)) ≡ has_replied (closing_in q c)
     by_item true = closed_replies f.stream (closing_in q c) other
     by_item false = refl
 
-answered_same : (q : Bool) (f : Header) (c : Connection) (s : Scene) → (f.stream ≡ 255 → ⊥) → is_answered (with_scene q s (noted q f c)) ≡ is_answered c
+answered_same : (q : Bool) (f : Header) (c : Connection) (s : Scene) → (f.stream ≡ 255 → ⊥) → is_answered (with_scene q s (noted_beside q f c)) ≡ is_answered c
 answered_same true f c s other = ap (λ p. has_replied c.first_closing || p) (closing_replies true f c other)
 answered_same false f c s other = ap (λ p. p || has_replied c.second_closing) (closing_replies false f c other)
 
@@ -88,7 +88,7 @@ own_stays n i number flow packet f content k other (c, there, is, quiet) =
     let q = is_behind_in flow c in
     let told = repeats_told n q f c k in
     let s = after_packet (heading_at n c.number q) (due_in q f c) packet f content (scene_in q c told) in
-    let c' = with_scene q s (noted q f c) in
+    let c' = with_scene q s (noted_beside q f c) in
     let k' = taken_in n i q packet f content c told in
     let there' : slice_get k'.connections i ≡ Some c' = get_same k.connections i c c' there in
     let z = settled (heading_at n c'.number q) (given_in q c') (scene_in q c' k') in

@@ -6,7 +6,7 @@ use Rattle.xns_spp.specs.Header.{is_system}
 use Rattle.xns_spp.specs.declared.header.Header.{Header}
 use Rattle.xns_dump.specs.Flows.{flow_of}
 use Rattle.xns_dump.specs.declared.flows.flow.Flow.{Flow}
-use Rattle.xns_calls.specs.Acknowledged.{noted}
+use Rattle.xns_calls.specs.Acknowledged.{noted_beside}
 use Rattle.xns_calls.specs.Anew.{begins_anew}
 use Rattle.xns_calls.specs.Capture.{Known, after_at, after_place, after_sequenced, after_there, forgotten, is_behind_in, new_connection, place_of, renewed, renewed_there, repeats_told, settled_at, settled_there, taken_in, with_new, with_scene}
 use Rattle.xns_calls.specs.Exchange.{Scene}
@@ -137,7 +137,7 @@ abbrev pub AreNumbered : Known → Type 0
 AreNumbered k = IsNumbered k.connections k.count
 
 -- a flow that changes leaves the number
-pub scene_number : (b : Bool) (s : Scene) (f : Header) (c : Connection) → (with_scene b s (noted b f c)).number ≡ c.number
+pub scene_number : (b : Bool) (s : Scene) (f : Header) (c : Connection) → (with_scene b s (noted_beside b f c)).number ≡ c.number
 scene_number true s f c = refl
 scene_number false s f c = refl
 
@@ -163,7 +163,7 @@ numbered_stays = record {
   more = λ cs n flow w. numbered_more cs n (new_connection (n + 1) flow) w refl;
 }
 
-scene_flow : (b : Bool) (s : Scene) (f : Header) (c : Connection) → (with_scene b s (noted b f c)).flow ≡ c.flow
+scene_flow : (b : Bool) (s : Scene) (f : Header) (c : Connection) → (with_scene b s (noted_beside b f c)).flow ≡ c.flow
 scene_flow true s f c = refl
 scene_flow false s f c = refl
 

@@ -5,8 +5,8 @@ use Rattle.std.proofs.lemmas.Grind.{flat_map-append}
 use Rattle.xns_calls.specs.Capture.{heading_at}
 use Rattle.xns_calls.specs.Events.{Event, after_events, meanwhile, read}
 use Rattle.xns_calls.specs.Exchange.{Scene, after_told, of_other, seen_from_other, told_of}
-use Rattle.xns_calls.specs.Input.{Part, Said, part_text, parts_text, said_texts, text_in, texts_in, told}
-use Rattle.xns_calls.specs.Read.{kept_count, one_read, own_read, read_in_track, read_of, read_times, settled}
+use Rattle.xns_calls.specs.Input.{Part, FlowSaid, part_text, parts_text, said_texts, text_in, texts_in, told}
+use Rattle.xns_calls.specs.Read.{kept_item_count, one_read, own_read, read_in_track, read_of, read_times, settled}
 use Rattle.xns_calls.specs.Reading.{Told, first_read}
 use Rattle.xns_calls.specs.Turns.{next_turn}
 use Rattle.xns_calls.specs.Whole.{flow_text}
@@ -30,7 +30,7 @@ read_adds h s = by_track s.own.track
     by_track None = record { said = []; is = sym (append-nil s.text) }
     by_track (Some track) = first_adds h (told_of track s)
 
-pub read_said : Origin → ℕ → Bool → Scene → List Said
+pub read_said : Origin → ℕ → Bool → Scene → List FlowSaid
 read_said n m b s = (read_adds (heading_at n m b) s).said
 
 one_text : (n : Origin) (m : ℕ) (b : Bool) (s : Scene) → (own_read (heading_at n m b) s).text ≡ s.text ++ parts_text (told n (flow_at m b) (read_said n m b s) ∷ [])
@@ -136,12 +136,12 @@ other_times n m q (suc count) given s t track is =
 
 pub own_settled : (n : Origin) (m : ℕ) (b : Bool) (given : Given) (s : Scene) (t : Told) → s.own.track ≡ Some t.track → t ≡ told_of t.track s → Ran n m b s (settled (heading_at n m b) given s) t
 unfolding settled
-own_settled n m b given s t track is = own_times n m b (kept_count s.own.track + kept_count s.other.track) given s t track is
+own_settled n m b given s t track is = own_times n m b (kept_item_count s.own.track + kept_item_count s.other.track) given s t track is
 
 pub other_settled : (n : Origin) (m : ℕ) (q : Bool) (given : Given) (s : Scene) (t : Told) → s.other.track ≡ Some t.track → t ≡ told_of t.track (seen_from_other s)
     → Ran n m (not q) (seen_from_other s) (seen_from_other (settled (heading_at n m q) given s)) t
 unfolding settled
-other_settled n m q given s t track is = other_times n m q (kept_count s.own.track + kept_count s.other.track) given s t track is
+other_settled n m q given s t track is = other_times n m q (kept_item_count s.own.track + kept_item_count s.other.track) given s t track is
 
 -- ---- for a flow that has not begun
 
@@ -224,11 +224,11 @@ other_rests n m q (suc count) given s none =
 
 pub own_settles : (n : Origin) (m : ℕ) (b : Bool) (given : Given) (s : Scene) → s.own.track ≡ None → Rests m b s (settled (heading_at n m b) given s)
 unfolding settled
-own_settles n m b given s none = own_rests n m b (kept_count s.own.track + kept_count s.other.track) given s none
+own_settles n m b given s none = own_rests n m b (kept_item_count s.own.track + kept_item_count s.other.track) given s none
 
 pub other_settles : (n : Origin) (m : ℕ) (q : Bool) (given : Given) (s : Scene) → s.other.track ≡ None → Rests m (not q) (seen_from_other s) (seen_from_other (settled (heading_at n m q) given s))
 unfolding settled
-other_settles n m q given s none = other_rests n m q (kept_count s.own.track + kept_count s.other.track) given s none
+other_settles n m q given s none = other_rests n m q (kept_item_count s.own.track + kept_item_count s.other.track) given s none
 
 -- ---- for the flows of other connections
 
@@ -267,4 +267,4 @@ says_times n m q (suc count) given s =
 
 pub settled_says : (n : Origin) (m : ℕ) (q : Bool) (given : Given) (s : Scene) → Says m s (settled (heading_at n m q) given s)
 unfolding settled
-settled_says n m q given s = says_times n m q (kept_count s.own.track + kept_count s.other.track) given s
+settled_says n m q given s = says_times n m q (kept_item_count s.own.track + kept_item_count s.other.track) given s

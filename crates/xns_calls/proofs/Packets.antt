@@ -13,7 +13,7 @@ use Rattle.xns_calls.specs.declared.track.Track.{Track}
 use Rattle.xns_calls.specs.Events.{acknowledged_event, after_events, brought_if, captured_event, own_events}
 use Rattle.xns_calls.specs.Exchange.{Scene, advance_other, advance_own, advance_track, advanced, after_content, after_data, after_new, after_number, after_packet, after_told, begin_track, begun, carried, new_number, of_other, other_reached, own_reached, reached, seen_from_other, take_in_track, take_number, told_of, unless_repeat, up_to}
 use Rattle.xns_calls.specs.Numbers.{near}
-use Rattle.xns_calls.specs.Queue.{last_number}
+use Rattle.xns_calls.specs.Queue.{last_kept_number}
 use Rattle.xns_calls.specs.Read.{own_read, read_in_track}
 use Rattle.xns_calls.specs.Reading.{first_read}
 use Rattle.xns_calls.proofs.Whole.{after_append}
@@ -92,10 +92,10 @@ pub reached_event : (h : Heading) (number : Option ℕ) (s : Scene) (track : Tra
 unfolding other_reached
 reached_event h number s track e = ap (λ o. advance_other h (reached o number) s) e ∙ of_number number
   where
-    of_number : (o : Option ℕ) → advance_other h (up_to (last_number track.early) o) s
+    of_number : (o : Option ℕ) → advance_other h (up_to (last_kept_number track.early) o) s
         ≡ seen_from_other (after_told (after_events (acknowledged_event (of_other h) o) (told_of track (seen_from_other s))) (seen_from_other s))
-    of_number None = ap (λ o. advance_other h o s) (up_to_none (last_number track.early)) ∙ advance_event h None s track e
-    of_number (Some n) = advance_event h (up_to (last_number track.early) (Some n)) s track e
+    of_number None = ap (λ o. advance_other h o s) (up_to_none (last_kept_number track.early)) ∙ advance_event h None s track e
+    of_number (Some n) = advance_event h (up_to (last_kept_number track.early) (Some n)) s track e
 
 pub own_event : (h : Heading) (o : Option ℕ) (s : Scene) (track : Track) → s.own.track ≡ Some track → advance_own h o s ≡ after_told (brought_if h o (told_of track s)) s
 unfolding advanced
@@ -107,9 +107,9 @@ pub own_reached_event : (h : Heading) (number : Option ℕ) (s : Scene) (track :
 unfolding own_reached
 own_reached_event h number s track e = ap (λ o. advance_own h (reached o number) s) e ∙ of_number number
   where
-    of_number : (o : Option ℕ) → advance_own h (up_to (last_number track.early) o) s ≡ after_told (after_events (acknowledged_event h o) (told_of track s)) s
-    of_number None = ap (λ o. advance_own h o s) (up_to_none (last_number track.early)) ∙ own_event h None s track e
-    of_number (Some n) = own_event h (up_to (last_number track.early) (Some n)) s track e
+    of_number : (o : Option ℕ) → advance_own h (up_to (last_kept_number track.early) o) s ≡ after_told (after_events (acknowledged_event h o) (told_of track s)) s
+    of_number None = ap (λ o. advance_own h o s) (up_to_none (last_kept_number track.early)) ∙ own_event h None s track e
+    of_number (Some n) = own_event h (up_to (last_kept_number track.early) (Some n)) s track e
 
 -- where nothing does, the flow behind stays
 pub none_other : (h : Heading) (s : Scene) → other_reached h None s ≡ s
@@ -118,7 +118,7 @@ none_other h s = by_track s.other.track
   where
     by_track : (o : Option Track) → advance_other h (reached o None) s ≡ s
     by_track None = refl
-    by_track (Some track) = ap (λ o. advance_other h o s) (up_to_none (last_number track.early))
+    by_track (Some track) = ap (λ o. advance_other h o s) (up_to_none (last_kept_number track.early))
 
 -- ---- the item of a packet
 

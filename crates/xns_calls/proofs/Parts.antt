@@ -12,7 +12,7 @@ use Rattle.xns_calls.specs.declared.carried.Carried.{Carried}
 use Rattle.xns_calls.specs.Capture.{Known, heading_at, scene_in}
 use Rattle.xns_calls.specs.Events.{AreWithinReach, Event, IsAmong, acknowledged, acknowledged_event, after_event, after_events, captured, captured_event, captured_in, meanwhile, read}
 use Rattle.xns_calls.specs.Exchange.{Scene, after_packet, of_other, other_reached}
-use Rattle.xns_calls.specs.Input.{FlowName, Part, Said, is_same, parts_text, said_texts, text_in, texts_in, told}
+use Rattle.xns_calls.specs.Input.{FlowName, Part, FlowSaid, is_same, parts_text, said_texts, text_in, texts_in, told}
 use Rattle.xns_calls.specs.Reading.{Told}
 use Rattle.xns_calls.specs.Whole.{AreOf, IsWhole, flow_text, new_text}
 use Rattle.xns_calls.specs.declared.connection.Connection.{Connection}
@@ -158,19 +158,19 @@ number_tells i j e same = no_both (i == j) e (subst (λ k. (i == k) ≡ true) sa
 abbrev pub flow_at : ℕ → Bool → FlowName
 flow_at m b = record { connection = m; is_behind = b }
 
-pub own_text : (n : Origin) (i : ℕ) (b : Bool) (said : List Said) → text_in (flow_at i b) (told n (flow_at i b) said) ≡ said_texts (heading_at n i b) said
+pub own_text : (n : Origin) (i : ℕ) (b : Bool) (said : List FlowSaid) → text_in (flow_at i b) (told n (flow_at i b) said) ≡ said_texts (heading_at n i b) said
 own_text n i true said = ap (λ p. cond p (said_texts (heading_at n i true) said) []) (same_number i)
 own_text n i false said = ap (λ p. cond p (said_texts (heading_at n i false) said) []) (same_number i)
 
-pub other_text : (n : Origin) (i : ℕ) (b : Bool) (said : List Said) → text_in (flow_at i b) (told n (flow_at i (not b)) said) ≡ []
+pub other_text : (n : Origin) (i : ℕ) (b : Bool) (said : List FlowSaid) → text_in (flow_at i b) (told n (flow_at i (not b)) said) ≡ []
 other_text n i true said = ap (λ (p : Bool). cond p [] []) (same_number i)
 other_text n i false said = ap (λ (p : Bool). cond p [] []) (same_number i)
 
-pub behind_text : (n : Origin) (i : ℕ) (q : Bool) (said : List Said) → text_in (flow_at i (not q)) (told n (flow_at i q) said) ≡ []
+pub behind_text : (n : Origin) (i : ℕ) (q : Bool) (said : List FlowSaid) → text_in (flow_at i (not q)) (told n (flow_at i q) said) ≡ []
 behind_text n i true said = ap (λ (p : Bool). cond p [] []) (same_number i)
 behind_text n i false said = ap (λ (p : Bool). cond p [] []) (same_number i)
 
-pub far_text : (n : Origin) (i j : ℕ) (b q : Bool) (said : List Said) → (i == j) ≡ false → text_in (flow_at i b) (told n (flow_at j q) said) ≡ []
+pub far_text : (n : Origin) (i j : ℕ) (b q : Bool) (said : List FlowSaid) → (i == j) ≡ false → text_in (flow_at i b) (told n (flow_at j q) said) ≡ []
 far_text n i j b q said e = ap (λ (p : Bool). cond p (cond (is_same b q) (said_texts (heading_at n j q) said) []) []) e
 
 pub two_of : (a b c d : List ℕ) → a ≡ c → b ≡ d → a ++ (b ++ []) ≡ c ++ d
@@ -180,10 +180,10 @@ pub scene_text : (b : Bool) (c : Connection) (k : Known) → (scene_in b c k).te
 scene_text true c k = refl
 scene_text false c k = refl
 
-pub reached_said : Origin → ℕ → Bool → Due → Scene → List Said
+pub reached_said : Origin → ℕ → Bool → Due → Scene → List FlowSaid
 reached_said n i q due s = (reached_adds (heading_at n i q) due.other s).said
 
-pub packet_said : Origin → ℕ → Bool → Due → PacketModel → Header → List ℕ → Scene → List Said
+pub packet_said : Origin → ℕ → Bool → Due → PacketModel → Header → List ℕ → Scene → List FlowSaid
 packet_said n i q due packet f content s = (packet_adds (heading_at n i q) due packet f content s).said
 
 -- what a packet of a flow says of the flow behind it, and of the flow

@@ -12,7 +12,7 @@ use Rattle.xns_calls.specs.AtEnd.{both_ended}
 use Rattle.xns_calls.specs.Capture.{Known, after_at, after_in, after_new_flow, after_place, after_sequenced, after_there, forgotten, heading_at, is_behind_in, new_connection, place_of, renewed, renewed_there, scene_in, with_new}
 use Rattle.xns_calls.specs.Events.{Event, acknowledged_event, after_events}
 use Rattle.xns_calls.specs.Exchange.{Scene, behind_last, told_of}
-use Rattle.xns_calls.specs.Input.{Part, connection_at, connection_of, ending_events, events_between, events_there, name_in, next_name}
+use Rattle.xns_calls.specs.Input.{Part, known_connection, connection_of, ending_events, events_between, events_there, name_in, next_name}
 use Rattle.xns_calls.specs.Over.{side_in}
 use Rattle.xns_calls.specs.Reading.{Told}
 use Rattle.xns_calls.specs.declared.connection.Connection.{Connection}
@@ -227,7 +227,7 @@ unfolding after_sequenced
 sequenced_step plain n m b packet f content k t numbered on = by_place (place_of (flow_of packet f) k.connections) refl
   where
     by_place : (o : Option ℕ) → place_of (flow_of packet f) k.connections ≡ o
-        → Stepped n m b k (after_place n (flow_of packet f) packet f content o k) t (events_there (flow_at m b) (heading_at n m b) (packet, f, content) (connection_at o k.connections) k)
+        → Stepped n m b k (after_place n (flow_of packet f) packet f content o k) t (events_there (flow_at m b) (heading_at n m b) (packet, f, content) (known_connection o k.connections) k)
     by_place (Some i) at =
         let w = place_there (flow_of packet f) k.connections i at in
         subst (λ o. Stepped n m b k (after_at n i (flow_of packet f) packet f content (renewed n i (flow_of packet f) f k)) t (events_there (flow_at m b) (heading_at n m b) (packet, f, content) o k)) (sym w.1)

@@ -2,7 +2,7 @@
 use Rattle.std.proofs.Common.{◌≡◌, ◌∙◌, ap, refl, arith, inl, inr, ℕ, ◌+◌, ◌<◌, ◌⊎◌, ◌&&◌, ◌||◌, Bool, true, false, cond, List, [], ◌∷◌}
 use Rattle.std.specs.Prelude.{nat_lt, not}
 use Rattle.std.proofs.lemmas.Bool.Decides.{nat_tests}
-use Rattle.xns_calls.specs.Repeats.{has_row, in_a_row, one_more, repeats_of, row_ended, tells_next}
+use Rattle.xns_calls.specs.Repeats.{has_row, in_a_row, one_repeat_more, repeats_of, row_ended, tells_next}
 use Rattle.xns_calls.specs.declared.repeats.Repeats.TheVariants.{InARow, Told}
 
 -- a flow was told of, or so many repeats are its last items
@@ -26,11 +26,11 @@ keeps (true ∷ items) = by_row (keeps items)
 
     by_count : (p : Bool) → nat_lt so_far 64 ≡ p → has_row items ≡ false → repeats_of items ≡ InARow (in_a_row items) → Keeps (true ∷ items)
     by_count true e none is =
-        inr (ap (λ p. not p || has_row items) e ∙ none, ap one_more is ∙ ap (λ p. cond p (InARow so_far) Told) e, less_true so_far e)
-    by_count false e none is = inl (ap (λ p. not p || has_row items) e, ap one_more is ∙ ap (λ p. cond p (InARow so_far) Told) e)
+        inr (ap (λ p. not p || has_row items) e ∙ none, ap one_repeat_more is ∙ ap (λ p. cond p (InARow so_far) Told) e, less_true so_far e)
+    by_count false e none is = inl (ap (λ p. not p || has_row items) e, ap one_repeat_more is ∙ ap (λ p. cond p (InARow so_far) Told) e)
 
     by_row : Keeps items → Keeps (true ∷ items)
-    by_row (inl (told, is)) = inl (ap (λ p. not (nat_lt so_far 64) || p) told ∙ or_true (not (nat_lt so_far 64)), ap one_more is)
+    by_row (inl (told, is)) = inl (ap (λ p. not (nat_lt so_far 64) || p) told ∙ or_true (not (nat_lt so_far 64)), ap one_repeat_more is)
     by_row (inr (none, is, few)) = by_count (nat_lt so_far 64) refl none is
 keeps (false ∷ items) = by_row (keeps items)
   where

@@ -14,7 +14,7 @@ use Rattle.xns_calls.specs.Naming.{Programs}
 use Rattle.xns_calls.specs.Calls.{end_count, has_refused, known_from, known_of, known_with_end, line_taken, nothing_known, text_from, text_with_end, after_body, after_bytes, after_digits, after_found, after_header, after_line}
 use Rattle.xns_calls.specs.Capture.{Known, after_end}
 use Rattle.xns_calls.specs.Files.{known_behind, last_after, last_frame, packet_end_count, packet_taken, packets_known, packets_known_with_end, packets_refused, packets_text_with_end, text_behind}
-use Rattle.xns_calls.specs.Laws.{IsSilent, are_of_other_type, is_of_other_type}
+use Rattle.xns_calls.specs.Laws.{IsPassedOver, are_of_other_type, is_of_other_type}
 use Rattle.xns_calls.specs.Origins.{line_origin}
 use Rattle.xns_calls.specs.declared.origin.Origin.{Origin}
 use Rattle.xns_calls.specs.declared.times.Times.TheVariants.{Hidden}
@@ -36,11 +36,11 @@ module _ (programs : Programs) where
   digits_silent n (Ok bytes) k e = found_silent (line_origin programs n) (packet_of bytes) k e
   digits_silent n (Err error) k e = absurd (false≢true e)
 
-  taken_silent : (n : ℕ) (line : List ℕ) (k : Known) → IsSilent line → line_taken programs n line k ≡ record k { text = [] }
+  taken_silent : (n : ℕ) (line : List ℕ) (k : Known) → IsPassedOver line → line_taken programs n line k ≡ record k { text = [] }
   unfolding after_line
   taken_silent n line k e = digits_silent n (decode_of (digits_of line)) (record k { text = [] }) e
 
-  known_same : (n : ℕ) (k : Known) (lines : List (List ℕ)) (packets : List NumberedPacket) → SpellFrom IsSilent n lines packets
+  known_same : (n : ℕ) (k : Known) (lines : List (List ℕ)) (packets : List NumberedPacket) → SpellFrom IsPassedOver n lines packets
       → known_behind programs Hidden k packets ≡ known_from programs n k lines
   known_same n k [] [] h = refl
   known_same n k [] (packet ∷ packets) h = absurd h
@@ -52,7 +52,7 @@ module _ (programs : Programs) where
       known_same (n + 1) (record k { text = [] }) lines (packet ∷ packets) h.1
       ∙ ap (λ known. known_from programs (n + 1) known lines) (sym (taken_silent n line k h.0))
 
-  text_same : (n : ℕ) (k : Known) (lines : List (List ℕ)) (packets : List NumberedPacket) → SpellFrom IsSilent n lines packets
+  text_same : (n : ℕ) (k : Known) (lines : List (List ℕ)) (packets : List NumberedPacket) → SpellFrom IsPassedOver n lines packets
       → text_behind programs Hidden k packets ≡ text_from programs n k lines
   text_same n k [] [] h = refl
   text_same n k [] (packet ∷ packets) h = absurd h
@@ -65,7 +65,7 @@ module _ (programs : Programs) where
       ∙ ap (λ (known : Known). known.text ++ text_from programs (n + 1) known lines) (sym (taken_silent n line k h.0))
 
   -- the last packet has the number of the last line
-  last_same : (n : ℕ) (lines : List (List ℕ)) (packets : List NumberedPacket) → SpellFrom IsSilent (n + 1) lines packets
+  last_same : (n : ℕ) (lines : List (List ℕ)) (packets : List NumberedPacket) → SpellFrom IsPassedOver (n + 1) lines packets
       → last_after programs Hidden (line_origin programs n) packets ≡ line_origin programs (n + length lines)
   last_same n [] [] h = ap (line_origin programs) (let e : n ≡ n + 0 = omega arith in e)
   last_same n [] (packet ∷ packets) h = absurd h
@@ -77,7 +77,7 @@ module _ (programs : Programs) where
       last_same (n + 1) lines (packet ∷ packets) h.1
       ∙ ap (line_origin programs) (let e : (n + 1) + length lines ≡ n + length (line ∷ lines) = omega arith in e)
 
-  module _ (lines : List (List ℕ)) (packets : List NumberedPacket) (h : SpellFrom IsSilent 1 lines packets) where
+  module _ (lines : List (List ℕ)) (packets : List NumberedPacket) (h : SpellFrom IsPassedOver 1 lines packets) where
     known_all : packets_known programs Hidden packets ≡ known_of programs lines
     known_all = known_same 1 nothing_known lines packets h
 

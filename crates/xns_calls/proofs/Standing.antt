@@ -9,7 +9,7 @@ use Rattle.xns_dump.specs.Flows.{flow_of}
 use Rattle.xns_dump.specs.declared.flows.flow.Flow.{Flow}
 use Rattle.xns_calls.specs.Anew.{begins_anew}
 use Rattle.xns_calls.specs.Capture.{IsThereOrBegins, Known, after_at, after_new_flow, after_place, after_sequenced, begins_anew_in, forgotten, forgotten_in, is_behind_in, known, new_connection, place_of, renewed, renewed_there, wants_at, wants_in, wants_place, wants_sequenced, wants_there, with_new}
-use Rattle.xns_calls.specs.Over.{closes, is_over}
+use Rattle.xns_calls.specs.Over.{closes, is_closed_both_ways}
 use Rattle.xns_calls.specs.declared.connection.Connection.{Connection}
 use Rattle.xns_calls.specs.declared.origin.Origin.{Origin}
 use Rattle.xns_calls.proofs.Others.{get_last}
@@ -34,7 +34,7 @@ wants_there_at packet f k flow at is e =
 
 -- a system packet begins nothing anew
 never_anew : (f : Header) (connection : Connection) → is_system f ≡ true → begins_anew f connection ≡ false
-never_anew f connection e = ap (λ p. (not p && f.sequence == 0 && not (closes f.stream)) && is_over connection) e
+never_anew f connection e = ap (λ p. (not p && f.sequence == 0 && not (closes f.stream)) && is_closed_both_ways connection) e
 
 pub system_same : (n : Origin) (at : ℕ) (flow : Flow) (f : Header) (k : Known) → is_system f ≡ true → renewed n at flow f k ≡ k
 unfolding renewed

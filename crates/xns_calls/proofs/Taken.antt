@@ -5,7 +5,7 @@ use Rattle.xns_idp.specs.Packet.{PacketModel}
 use Rattle.xns_lines.specs.declared.page.Page.{Page}
 use Rattle.xns_spp.specs.declared.header.Header.{Header}
 use Rattle.xns_dump.specs.declared.flows.flow.Flow.{Flow}
-use Rattle.xns_calls.specs.Acknowledged.{due_in, noted}
+use Rattle.xns_calls.specs.Acknowledged.{due_in, noted_beside}
 use Rattle.xns_calls.specs.Capture.{Known, after_at, after_in, after_scene, after_there, heading_at, is_behind_in, known, repeats_told, scene_in, settled_at, settled_there, taken_in, wants_at, wants_in, with_scene}
 use Rattle.xns_calls.specs.Read.{handled, settled}
 use Rattle.xns_calls.specs.Repeats.{repeats_text, tells_repeats}
@@ -29,21 +29,21 @@ read_there n i b k c there = ap (λ o. settled_there n i b o k) there
 
 pub fused : (n : Origin) (i : ℕ) (b : Bool) (packet : PacketModel) (f : Header) (content : List ℕ) (c : Connection) (k : Known) → slice_get k.connections i ≡ Some c
     → after_in n i b packet f content c k
-    ≡ after_scene i b (noted b f c) (handled (heading_at n c.number b) (due_in b f c) packet f content (scene_in b c (repeats_told n b f c k))) (repeats_told n b f c k)
+    ≡ after_scene i b (noted_beside b f c) (handled (heading_at n c.number b) (due_in b f c) packet f content (scene_in b c (repeats_told n b f c k))) (repeats_told n b f c k)
 fused n i true packet f content c k there =
     let told = repeats_told n true f c k in
     let s = after_packet (heading_at n c.number true) (due_in true f c) packet f content (scene_in true c told) in
-    let c' = with_scene true s (noted true f c) in
+    let c' = with_scene true s (noted_beside true f c) in
     let z = settled (heading_at n c.number true) (due_in true f c).given s in
     read_there n i true (taken_in n i true packet f content c told) c' (get_same k.connections i c c' there)
-    ∙ ap (λ cs. record k { connections = cs; text = z.text; is_refused = z.is_refused }) (set_set k.connections i c' (with_scene true z (noted true f c)))
+    ∙ ap (λ cs. record k { connections = cs; text = z.text; is_refused = z.is_refused }) (set_set k.connections i c' (with_scene true z (noted_beside true f c)))
 fused n i false packet f content c k there =
     let told = repeats_told n false f c k in
     let s = after_packet (heading_at n c.number false) (due_in false f c) packet f content (scene_in false c told) in
-    let c' = with_scene false s (noted false f c) in
+    let c' = with_scene false s (noted_beside false f c) in
     let z = settled (heading_at n c.number false) (due_in false f c).given s in
     read_there n i false (taken_in n i false packet f content c told) c' (get_same k.connections i c c' there)
-    ∙ ap (λ cs. record k { connections = cs; text = z.text; is_refused = z.is_refused }) (set_set k.connections i c' (with_scene false z (noted false f c)))
+    ∙ ap (λ cs. record k { connections = cs; text = z.text; is_refused = z.is_refused }) (set_set k.connections i c' (with_scene false z (noted_beside false f c)))
 
 -- the line that tells of repeats is printed first, if there is one
 told_is : (n : Origin) (b : Bool) (f : Header) (c : Connection) (cs : List Connection) (count : ℕ) (page page' : Page)
@@ -54,7 +54,7 @@ told_is n b f c cs count page page' text refused =
     ap (λ x. record k { text = x }) text
     ∙ ap (λ x. record k { text = page.text.line ++ repeats_text (heading_at n c.number b) (tells_repeats b f c); is_refused = x }) refused
 
-noted_scene : (b : Bool) (f : Header) (c : Connection) (k : Known) → scene_in b (noted b f c) k ≡ scene_in b c k
+noted_scene : (b : Bool) (f : Header) (c : Connection) (k : Known) → scene_in b (noted_beside b f c) k ≡ scene_in b c k
 noted_scene true f c k = refl
 noted_scene false f c k = refl
 
@@ -62,7 +62,7 @@ noted_scene false f c k = refl
 side_taken : (n : Origin) (i : ℕ) (flow : Flow) (packet : PacketModel) (f : Header) (content : List ℕ) (cs : List Connection) (count : ℕ) (page page' : Page) (c note : Connection) (due : Due) (s : Scene) (b : Bool)
     → slice_get cs i ≡ Some c → b ≡ is_behind_in flow c
     → page'.text.line ≡ page.text.line ++ repeats_text (heading_at n c.number b) (tells_repeats b f c) → page'.is_refused ≡ page.is_refused
-    → note ≡ noted b f c → due ≡ due_in b f c
+    → note ≡ noted_beside b f c → due ≡ due_in b f c
     → s ≡ handled (heading_at n c.number b) due packet f content (scene_in b note (known cs count page'))
     → after_scene i b note s (known cs count page) ≡ after_at n i flow packet f content (known cs count page)
 unfolding after_at
@@ -71,11 +71,11 @@ side_taken n i flow packet f content cs count page page' c note due s b there si
     let k' = known cs count page' in
     let h = heading_at n c.number b in
     ap (λ (x : Connection). after_scene i b x s k) noted_is
-    ∙ ap (λ (z : Scene). after_scene i b (noted b f c) z k)
+    ∙ ap (λ (z : Scene). after_scene i b (noted_beside b f c) z k)
     (e ∙ ap (λ d. handled h d packet f content (scene_in b note k')) due_is
     ∙ ap (λ (x : Connection). handled h (due_in b f c) packet f content (scene_in b x k')) noted_is
     ∙ ap (λ (x : Scene). handled h (due_in b f c) packet f content x) (noted_scene b f c k'))
-    ∙ ap (λ (x : Known). after_scene i b (noted b f c) (handled h (due_in b f c) packet f content (scene_in b c x)) x)
+    ∙ ap (λ (x : Known). after_scene i b (noted_beside b f c) (handled h (due_in b f c) packet f content (scene_in b c x)) x)
     (told_is n b f c cs count page page' text refused)
     ∙ sym (fused n i b packet f content c k there)
     ∙ ap (λ p. after_in n i p packet f content c k) side
@@ -84,7 +84,7 @@ side_taken n i flow packet f content cs count page page' c note due s b there si
 pub behind_taken : (n : Origin) (i : ℕ) (flow : Flow) (packet : PacketModel) (f : Header) (content : List ℕ) (cs : List Connection) (count : ℕ) (page page' page'' : Page) (c note : Connection) (due : Due) (first second : Side) (b : Bool)
     → slice_get cs i ≡ Some c → b ≡ is_behind_in flow c → b ≡ true
     → page'.text.line ≡ page.text.line ++ repeats_text (heading_at n c.number b) (tells_repeats b f c) → page'.is_refused ≡ page.is_refused
-    → note ≡ noted b f c → due ≡ due_in b f c
+    → note ≡ noted_beside b f c → due ≡ due_in b f c
     → scene second first page'' ≡ handled (heading_at n c.number b) due packet f content (scene note.second note.first page')
     → known (slice_set cs i (record note { first = first; second = second })) count page'' ≡ after_at n i flow packet f content (known cs count page)
 behind_taken n i flow packet f content cs count page page' page'' c note due first second false there side is text refused noted_is due_is e = (cc)
@@ -94,7 +94,7 @@ behind_taken n i flow packet f content cs count page page' page'' c note due fir
 pub first_taken : (n : Origin) (i : ℕ) (flow : Flow) (packet : PacketModel) (f : Header) (content : List ℕ) (cs : List Connection) (count : ℕ) (page page' page'' : Page) (c note : Connection) (due : Due) (first second : Side) (b : Bool)
     → slice_get cs i ≡ Some c → b ≡ is_behind_in flow c → b ≡ false
     → page'.text.line ≡ page.text.line ++ repeats_text (heading_at n c.number b) (tells_repeats b f c) → page'.is_refused ≡ page.is_refused
-    → note ≡ noted b f c → due ≡ due_in b f c
+    → note ≡ noted_beside b f c → due ≡ due_in b f c
     → scene first second page'' ≡ handled (heading_at n c.number b) due packet f content (scene note.first note.second page')
     → known (slice_set cs i (record note { first = first; second = second })) count page'' ≡ after_at n i flow packet f content (known cs count page)
 first_taken n i flow packet f content cs count page page' page'' c note due first second true there side is text refused noted_is due_is e = (cc)
@@ -102,7 +102,7 @@ first_taken n i flow packet f content cs count page page' page'' c note due firs
     side_taken n i flow packet f content cs count page page' c note due (scene first second page'') false there side text refused noted_is due_is e
 
 pub behind_packet_wants : (i : ℕ) (flow : Flow) (f : Header) (cs : List Connection) (count : ℕ) (page : Page) (c note : Connection) (due : Due) (b : Bool)
-    → slice_get cs i ≡ Some c → b ≡ is_behind_in flow c → b ≡ true → note ≡ noted b f c → due ≡ due_in b f c
+    → slice_get cs i ≡ Some c → b ≡ is_behind_in flow c → b ≡ true → note ≡ noted_beside b f c → due ≡ due_in b f c
     → wants_memory due f (scene note.second note.first page) ≡ true → wants_at i flow f (known cs count page) ≡ true
 behind_packet_wants i flow f cs count page c note due false there side is noted_is due_is wants = (cc)
 behind_packet_wants i flow f cs count page c note due true there side is noted_is due_is wants =
@@ -113,7 +113,7 @@ behind_packet_wants i flow f cs count page c note due true there side is noted_i
     in_wants i flow f c k there (sym (ap (λ p. wants_in p f c k) side) ∙ memory_wants true f c k (sym before ∙ wants))
 
 pub first_packet_wants : (i : ℕ) (flow : Flow) (f : Header) (cs : List Connection) (count : ℕ) (page : Page) (c note : Connection) (due : Due) (b : Bool)
-    → slice_get cs i ≡ Some c → b ≡ is_behind_in flow c → b ≡ false → note ≡ noted b f c → due ≡ due_in b f c
+    → slice_get cs i ≡ Some c → b ≡ is_behind_in flow c → b ≡ false → note ≡ noted_beside b f c → due ≡ due_in b f c
     → wants_memory due f (scene note.first note.second page) ≡ true → wants_at i flow f (known cs count page) ≡ true
 first_packet_wants i flow f cs count page c note due true there side is noted_is due_is wants = (cc)
 first_packet_wants i flow f cs count page c note due false there side is noted_is due_is wants =

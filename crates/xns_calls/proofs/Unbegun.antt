@@ -7,14 +7,14 @@ use Rattle.xns_calls.specs.declared.speech.Speech.TheVariants.{Hearing, Waiting}
 use Rattle.xns_idp.specs.Packet.{PacketModel}
 use Rattle.xns_spp.specs.Header.{is_system}
 use Rattle.xns_spp.specs.declared.header.Header.{Header}
-use Rattle.xns_calls.specs.Acknowledged.{acknowledged_in, aheads_in, due_in, due_of, effective, if_begun, nearer, noted}
+use Rattle.xns_calls.specs.Acknowledged.{acknowledged_in, aheads_in, due_in, due_of, effective, if_begun, nearer, noted_beside}
 use Rattle.xns_calls.specs.Capture.{Known, heading_at, scene_in, taken_in, with_scene}
 use Rattle.xns_calls.specs.Events.{Event, acknowledged_event, after_events, captured_event}
 use Rattle.xns_calls.specs.Exchange.{Scene, advance_other, advance_own, after_content, after_data, after_packet, after_told, begin_track, begun, carried, first_track, new_number, of_other, other_reached, own_reached, reached, take_number, told_of}
 use Rattle.xns_calls.specs.Input.{Part, begins, events_between, field_between, is_same, item_events, parts_text, said_texts, text_in, texts_in, told}
 use Rattle.xns_calls.specs.Numbers.{near}
 use Rattle.xns_calls.specs.Over.{side_in}
-use Rattle.xns_calls.specs.Queue.{last_number}
+use Rattle.xns_calls.specs.Queue.{last_kept_number}
 use Rattle.xns_calls.specs.Reading.{Told}
 use Rattle.xns_calls.specs.Texts.{flow_line}
 use Rattle.xns_calls.specs.Whole.{flow_text}
@@ -80,11 +80,11 @@ Met n m b before k happened field = Awaits m b before k happened field ⊎ Start
 pub waits_still : (m : ℕ) (b : Bool) (k : Known) (happened : List Event) (field : Option ℕ) → AllKeep m b k.connections None → happened ≡ [] → field ≡ None → Awaits m b k.text k happened field
 waits_still m b k happened field none nothing later = record { none = none; nothing = nothing; later = later; parts = []; text = sym (append-nil k.text); own = refl }
 
-pub track_own : (b : Bool) (f : Header) (c : Connection) (s : Scene) → (side_in b (with_scene b s (noted b f c))).track ≡ s.own.track
+pub track_own : (b : Bool) (f : Header) (c : Connection) (s : Scene) → (side_in b (with_scene b s (noted_beside b f c))).track ≡ s.own.track
 track_own true f c s = refl
 track_own false f c s = refl
 
-pub track_behind : (q : Bool) (f : Header) (c : Connection) (s : Scene) → (side_in (not q) (with_scene q s (noted q f c))).track ≡ s.other.track
+pub track_behind : (q : Bool) (f : Header) (c : Connection) (s : Scene) → (side_in (not q) (with_scene q s (noted_beside q f c))).track ≡ s.other.track
 track_behind true f c s = refl
 track_behind false f c s = refl
 
@@ -98,7 +98,7 @@ none_reached h s = by_track s.own.track
   where
     by_track : (o : Option Track) → advance_own h (reached o None) s ≡ s
     by_track None = refl
-    by_track (Some track) = ap (λ o. advance_own h o s) (up_to_none (last_number track.early))
+    by_track (Some track) = ap (λ o. advance_own h o s) (up_to_none (last_kept_number track.early))
 
 abbrev item_field : Header → Option ℕ
 item_field f = cond (is_system f) None (Some f.sequence)
@@ -121,7 +121,7 @@ own_waits n i b packet f content c k all none e =
     let new = after_packet h due packet f content s in
     let nothing : due.own ≡ None = none_due_of b c (sym (side_track b c k) ∙ none) in
     let same : new ≡ known = system_same h due packet f content s nothing e in record {
-      none = keep_set m b k.connections i (with_scene b new (noted b f c)) None all
+      none = keep_set m b k.connections i (with_scene b new (noted_beside b f c)) None all
           (λ is. track_own b f c new ∙ ap (λ (x : Scene). x.own.track) same ∙ reached_own h due.other s ∙ none);
       nothing = ap (λ p. cond p [] (captured_event h (near (first_track f.sequence).next f.sequence) (carried h due.acknowledged f content)) ++ acknowledged_event h due.own) e ∙ ap (acknowledged_event h) nothing;
       later = ap (λ p. cond p None (Some f.sequence)) e;
@@ -218,7 +218,7 @@ behind_waits n i q packet f content c k all none =
     let new = after_packet h due packet f content s in
     let same : other_reached h due.other s ≡ s = reached_same h due.other s none in
     let P = flow_at m (not q) in record {
-      none = keep_set m (not q) k.connections i (with_scene q new (noted q f c)) None all
+      none = keep_set m (not q) k.connections i (with_scene q new (noted_beside q f c)) None all
           (λ is. track_behind q f c new ∙ packet_other h due packet f content s ∙ ap (λ (x : Scene). x.other.track) same ∙ none);
       nothing = ap (acknowledged_event (heading_at n m (not q))) (none_due_of (not q) c (sym (other_track q c k) ∙ none));
       later = refl;
@@ -244,7 +244,7 @@ far_waits : (n : Origin) (m i : ℕ) (b q : Bool) (packet : PacketModel) (f : He
 far_waits n m i b q packet f content c k far other all =
     let s = scene_in q c k in
     let new = after_packet (heading_at n c.number q) (due_in q f c) packet f content s in record {
-      none = keep_set m b k.connections i (with_scene q new (noted q f c)) None all (λ is. absurd (other (sym is ∙ scene_number q new f c)));
+      none = keep_set m b k.connections i (with_scene q new (noted_beside q f c)) None all (λ is. absurd (other (sym is ∙ scene_number q new f c)));
       nothing = refl;
       later = refl;
       parts = packet_parts n c.number q (due_in q f c) packet f content s;

@@ -10,7 +10,7 @@ use Rattle.xns_spp.specs.declared.header.Header.{Header}
 use Rattle.xns_calls.specs.Acknowledged.{ahead_of, due_in}
 use Rattle.xns_calls.specs.Anew.{begins_anew}
 use Rattle.xns_calls.specs.AtEnd.{end_turn}
-use Rattle.xns_calls.specs.Capture.{Known, is_behind_in, scene_in, wants_at, wants_end, wants_in, wants_there}
+use Rattle.xns_calls.specs.Capture.{Known, is_behind_in, scene_in, wants_at, end_wants_memory, wants_in, wants_there}
 use Rattle.xns_calls.specs.Exchange.{Scene, advance_other, advance_own, after_content, after_data, after_number, after_packet, begin_track, begun, brings_data, brings_new, brings_on, carried, new_number, other_reached, own_reached, reached, scene, wants_memory, wants_to_take}
 use Rattle.xns_calls.specs.Repeats.{tells_repeats}
 use Rattle.xns_calls.specs.Turns.{next_turn}
@@ -77,8 +77,8 @@ memory_wants b f connection k e =
     (or_right (is_some (ahead_of b f connection)) (wants_memory (due_in b f connection) f (scene_in b connection k)) e)
 
 -- the end of a connection of which a flow keeps items wants memory
-pub end_wants : (connection : Connection) (o : Option Connection) → o ≡ Some connection → is_some (end_turn connection.first.track connection.second.track) ≡ true → wants_end o ≡ true
-end_wants connection o at e = ap wants_end at ∙ e
+pub end_wants : (connection : Connection) (o : Option Connection) → o ≡ Some connection → is_some (end_turn connection.first.track connection.second.track) ≡ true → end_wants_memory o ≡ true
+end_wants connection o at e = ap end_wants_memory at ∙ e
 
 -- what is new behind that was new before
 pub content_wants : (h : Heading) (due : Due) (f : Header) (own other own' other' : Side) (page page' : Page) → scene own' other' page' ≡ other_reached h due.other (scene own other page)

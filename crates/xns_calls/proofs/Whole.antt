@@ -16,11 +16,11 @@ use Rattle.courier_messages.specs.declared.message.Message.{Message}
 use Rattle.xns_calls.specs.Events.{AreWithinReach, Event, IsAmong, IsLate, acknowledged, after_event, after_events, captured, meanwhile, read, read_below, read_below_if, read_below_over, read_first_over, with_captured}
 use Rattle.xns_calls.specs.Exchange.{first_track, is_repeat, up_to}
 use Rattle.xns_calls.specs.Numbers.{most_early}
-use Rattle.xns_calls.specs.Queue.{kept, last_number}
+use Rattle.xns_calls.specs.Queue.{kept, last_kept_number}
 use Rattle.xns_calls.specs.Reading.{Told, after_heard, read_next, said_item, with_kept_item}
-use Rattle.xns_calls.specs.Speech.{after_item, heard_at, heard_of, speech_at}
+use Rattle.xns_calls.specs.Speech.{speech_after, heard_at, heard_of, speech_at}
 use Rattle.xns_calls.specs.Telling.{heard_text}
-use Rattle.xns_calls.specs.Whole.{AreOf, IsOf, IsWhole, SaysConversation, ToldHeard, ToldMessage, flow_heard, flow_text, heard_below, heard_below_if, heard_first, heard_lines, heard_with, new_heard, new_text, of_courier, told_lines, told_message, told_messages}
+use Rattle.xns_calls.specs.Whole.{AreOf, HasItsItem, IsWhole, SaysConversation, ToldHeard, ToldMessage, flow_heard, flow_text, heard_below, heard_below_if, heard_first, heard_lines, heard_with, new_heard, new_text, of_courier, told_lines, told_message, told_messages}
 use Rattle.xns_calls.specs.declared.carried.Carried.{Carried}
 use Rattle.xns_calls.specs.declared.early.Early.{Early}
 use Rattle.xns_calls.specs.declared.heading.Heading.{Heading}
@@ -29,7 +29,7 @@ use Rattle.xns_calls.specs.declared.heard.Heard.TheVariants as heard
 use Rattle.xns_calls.specs.declared.speech.Speech.{Speech}
 use Rattle.xns_calls.specs.declared.speech.Speech.TheVariants.{Hearing, Waiting}
 use Rattle.xns_calls.specs.declared.track.Track.{Track}
-use Rattle.xns_calls.specs.Unanswered.{Calls}
+use Rattle.xns_calls.specs.Unanswered.{UnansweredCalls}
 use Rattle.xns_calls.proofs.Comparing.{by_both, by_test, le_tells, lt_tells, not_less}
 use Rattle.xns_calls.proofs.Gaps.{AreKept, event_whole, kept_next, late_kept, rest_kept}
 use Rattle.xns_calls.proofs.Known.{captured_in_known, event_ordered, kept_cases, known_step, event_known, new_ordered}
@@ -43,19 +43,19 @@ start = Hearing (opening [])
 
 abbrev pub speech_behind : Speech → List Item → Speech
 speech_behind s [] = s
-speech_behind s (x ∷ xs) = speech_behind (after_item s x) xs
+speech_behind s (x ∷ xs) = speech_behind (speech_after s x) xs
 
 abbrev pub heard_in : Speech → List Item → List Heard
 heard_in s [] = []
-heard_in s (x ∷ xs) = heard_of s x ∷ heard_in (after_item s x) xs
+heard_in s (x ∷ xs) = heard_of s x ∷ heard_in (speech_after s x) xs
 
 speech_append : (s : Speech) (xs ys : List Item) → speech_behind s (xs ++ ys) ≡ speech_behind (speech_behind s xs) ys
 speech_append s [] ys = refl
-speech_append s (x ∷ xs) ys = speech_append (after_item s x) xs ys
+speech_append s (x ∷ xs) ys = speech_append (speech_after s x) xs ys
 
 heard_append : (s : Speech) (xs ys : List Item) → heard_in s (xs ++ ys) ≡ heard_in s xs ++ heard_in (speech_behind s xs) ys
 heard_append s [] ys = refl
-heard_append s (x ∷ xs) ys = ap (λ t. heard_of s x ∷ t) (heard_append (after_item s x) xs ys)
+heard_append s (x ∷ xs) ys = ap (λ t. heard_of s x ∷ t) (heard_append (speech_after s x) xs ys)
 
 abbrev pub what : List ToldHeard → List Heard
 what told = map (λ x. x.2) told
@@ -120,7 +120,7 @@ read_one items h item t hs is kept s = by_both (λ u told. Went items t u hs tol
         let more : of_courier (take (next_of t + 1) items) ≡ before ++ item ∷ [] = ap of_courier (take_one items (next_of t) item is) ∙ courier_one (take (next_of t) items) item e in record {
           text = ap (λ x. t.text ++ x) (sym (append-nil (heard_text h t.calls (heard_of t.track.speech item))));
           stands = record {
-            speech = ap (λ x. after_item x item) s.speech ∙ sym (speech_append start before (item ∷ [])) ∙ ap (speech_behind start) (sym more);
+            speech = ap (λ x. speech_after x item) s.speech ∙ sym (speech_append start before (item ∷ [])) ∙ ap (speech_behind start) (sym more);
             heard = ap (λ x. x ++ heard_of t.track.speech item ∷ []) s.heard ∙ ap (λ x. heard_in start before ++ heard_of x item ∷ []) s.speech
                 ∙ sym (heard_append start before (item ∷ [])) ∙ ap (heard_in start) (sym more);
           };
@@ -216,7 +216,7 @@ acknowledged_went items h None n t hs ordered all are s = stayed items t hs are 
 acknowledged_went items h (Some last) n t hs ordered all are s = brought_went items h (min n (last + 1)) t hs ordered (λ m le lt. all m le (omega (arith, lt))) are s
 
 event_went : (items : List Item) (first : ℕ) (before : List ℕ) (e : Event) (t : Told) (hs : List Heard) → IsOrdered t → ((n : ℕ) → n < first → IsKnown n t) → ((n : ℕ) → IsAmong n before → IsKnown n t)
-    → ((n : ℕ) → first ≤ n → IsLate e n → IsAmong n before) → IsOf items e → AreItems items (early_of t) → Stands items t hs
+    → ((n : ℕ) → first ≤ n → IsLate e n → IsAmong n before) → HasItsItem items e → AreItems items (early_of t) → Stands items t hs
     → Printed items (new_text e t) (after_event e t) hs (new_heard e t)
 event_went items first before (captured h k item) t hs ordered low known late is are s =
     of_went items t (after_event (captured h k item) t) hs (new_heard (captured h k item) t)
@@ -231,7 +231,7 @@ event_went items first before (captured h k item) t hs ordered low known late is
 event_went items first before (acknowledged h n) t hs ordered low known late is are s =
     of_went items t (after_event (acknowledged h n) t) hs (new_heard (acknowledged h n) t)
     (subst (λ u. Went items t u hs (new_heard (acknowledged h n) t)) (sym (event_whole first before (acknowledged h n) t ordered low known late))
-    (acknowledged_went items h (last_number t.track.early) n t hs ordered (λ m le lt. late_kept first before t low known (λ i. i < n) late m le lt) are s))
+    (acknowledged_went items h (last_kept_number t.track.early) n t hs ordered (λ m le lt. late_kept first before t low known (λ i. i < n) late m le lt) are s))
 event_went items first before (read h) t hs ordered low known late is are s =
     of_went items t (after_event (read h) t) hs (new_heard (read h) t)
     (subst (λ u. Went items t u hs (new_heard (read h) t)) (sym (event_whole first before (read h) t ordered low known late)) (first_went items h t.track.early t hs refl ordered are s))
@@ -317,7 +317,7 @@ record Says (ms : List Message) (r : Result Phase SessionFault) (told : List Tol
   heard : told_messages told ≡ messages ++ others
   whole : IfOk r (λ q. (more ≡ []) × (others ≡ []))
 
-one_heard : (r : Result Phase SessionFault) (ms : List Message) (h : Heading) (calls : Calls) (x : Heard) (fed : List Item) (rest : List ToldHeard) → length ms ≤ 1
+one_heard : (r : Result Phase SessionFault) (ms : List Message) (h : Heading) (calls : UnansweredCalls) (x : Heard) (fed : List Item) (rest : List ToldHeard) → length ms ≤ 1
     → ((e : SessionFault) → r ≡ Err e → ms ≡ []) → x ≡ heard_at ms r
     → ((q : Phase) → r ≡ Ok q → Says (said q (written fed)) (run q (written fed)) rest)
     → Says (ms ++ onwards r (λ q. said q (written fed))) (r then λ q. run q (written fed)) ((h, calls, x) ∷ rest)
@@ -362,9 +362,9 @@ all_said runs law p [] (y ∷ told) e = (cc)
 all_said runs law p (x ∷ fed) [] e = (cc)
 all_said runs law p (x ∷ fed) (y ∷ told) e =
     rw (runs.said_on p (signs x) (written fed), runs.run_on p (signs x) (written fed))
-    (one_heard (run p (signs x)) (said p (signs x)) y.0 y.1 y.2 fed told (law.single x p) (λ f h. law.silent x p f h) (head_is y.2 (heard_of (Hearing p) x) (what told) (heard_in (after_item (Hearing p) x) fed) e)
+    (one_heard (run p (signs x)) (said p (signs x)) y.0 y.1 y.2 fed told (law.single x p) (λ f h. law.silent x p f h) (head_is y.2 (heard_of (Hearing p) x) (what told) (heard_in (speech_after (Hearing p) x) fed) e)
     (λ q leads. all_said runs law q fed told
-    (tail_is y.2 (heard_of (Hearing p) x) (what told) (heard_in (after_item (Hearing p) x) fed) e ∙ ap (λ r. heard_in (speech_at x.last r) fed) leads)))
+    (tail_is y.2 (heard_of (Hearing p) x) (what told) (heard_in (speech_after (Hearing p) x) fed) e ∙ ap (λ r. heard_in (speech_at x.last r) fed) leads)))
 
 -- of a flow of which nothing is kept any more
 pub whole_said : (runs : SignsRunOn) (law : OneItemMore) → ((fed : List Item) → conversation fed ≡ said (opening []) (written fed)) → ((fed : List Item) → ending fed ≡ run (opening []) (written fed))

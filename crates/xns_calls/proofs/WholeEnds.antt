@@ -9,9 +9,9 @@ use Rattle.courier_messages.specs.Phases.{run, said}
 use Rattle.courier_messages.specs.Text.{written}
 use Rattle.xns_calls.specs.Events.{AreWithinReach, Event, IsAmong, acknowledged, acknowledged_event, after_events, captured_in, with_captured}
 use Rattle.xns_calls.specs.Exchange.{behind_last, first_track}
-use Rattle.xns_calls.specs.Queue.{last_number}
+use Rattle.xns_calls.specs.Queue.{last_kept_number}
 use Rattle.xns_calls.specs.Reading.{Told}
-use Rattle.xns_calls.specs.Whole.{AreOf, IsWhole, SaysConversation, flow_heard, flow_text, of_courier, with_end}
+use Rattle.xns_calls.specs.Whole.{AreOf, IsWhole, SaysConversation, flow_heard, flow_text, of_courier, with_end_read}
 use Rattle.xns_calls.specs.declared.early.Early.{Early}
 use Rattle.xns_calls.specs.declared.heading.Heading.{Heading}
 use Rattle.xns_calls.specs.declared.track.Track.{Track}
@@ -53,12 +53,12 @@ last_item items (e ∷ es) (suc i) last are is = last_item items es i last are.1
 
 end_bound : (items : List Item) (events : List Event) (t : Told) → t.track ≡ record { next = 0; early = []; speech = start } → IsWhole items events
     → IfSome (behind_last (Some (after_events events t).track)) (λ n. n ≤ length items)
-end_bound items events t first w = by_last (last_number u.track.early) refl
+end_bound items events t first w = by_last (last_kept_number u.track.early) refl
   where
     u : Told
     u = after_events events t
 
-    by_last : (o : Option ℕ) → last_number u.track.early ≡ o → IfSome (option_map (λ number. number + 1) o) (λ n. n ≤ length items)
+    by_last : (o : Option ℕ) → last_kept_number u.track.early ≡ o → IfSome (option_map (λ number. number + 1) o) (λ n. n ≤ length items)
     by_last None is = tt
     by_last (Some last) is =
         let below : last < length items = last_item items u.track.early (length u.track.early - 1) last (whole_printed items events t first w).kept is in omega (arith, below)
@@ -66,7 +66,7 @@ end_bound items events t first w = by_last (last_number u.track.early) refl
 -- what is said of a flow whose end comes is its conversation
 pub whole_end_said : (runs : SignsRunOn) (law : OneItemMore) → ((fed : List Item) → conversation fed ≡ said (opening []) (written fed)) → ((fed : List Item) → ending fed ≡ run (opening []) (written fed))
     → (items : List Item) (events : List Event) (field : ℕ) (t : Told) (h : Heading) → field < 64 → t.track ≡ first_track field → IsWhole items events
-    → SaysConversation (of_courier items) (flow_heard (with_end h events t) t) (flow_text (with_end h events t) t)
+    → SaysConversation (of_courier items) (flow_heard (with_end_read h events t) t) (flow_text (with_end_read h events t) t)
 whole_end_said runs law messages ends items events field t h small at w =
     let u = after_events events t in
     let acks = acknowledged_event h (behind_last (Some u.track)) in

@@ -121,8 +121,8 @@ with_number true number connection = record connection { first_ahead = with_ahea
 with_number false number connection = record connection { second_ahead = with_ahead number connection.second_ahead }
 
 -- what is kept beside the flows once a packet of one of them was captured
-abbrev pub noted : Bool → Header → Connection → Connection
-noted is_behind f connection =
+abbrev pub noted_beside : Bool → Header → Connection → Connection
+noted_beside is_behind f connection =
     with_repeats is_behind (repeats_with is_behind f connection)
     (with_closing is_behind (closing_with is_behind f connection)
     (with_number is_behind (ahead_of is_behind f connection) (nearer_by_one connection)))

@@ -1,7 +1,7 @@
 -- How what a connection keeps is read at the end of the input.
 use Rattle.std.specs.Prelude.{ℕ, zero, suc, ◌+◌, nat_lt, Bool, true, false, if◌then◌else◌, List, [], ◌∷◌, Option, Some, None, option_map}
 use Rattle.xns_calls.specs.Exchange.{Scene, advanced, of_other, other_reached, seen_from_other}
-use Rattle.xns_calls.specs.Read.{kept_count}
+use Rattle.xns_calls.specs.Read.{kept_item_count}
 use Rattle.xns_calls.specs.Turns.{first_kept, first_line}
 use Rattle.xns_calls.specs.declared.early.Early.{Early}
 use Rattle.xns_calls.specs.declared.first_kept.FirstKept.{FirstKept}
@@ -61,4 +61,4 @@ ended_times (suc n) heading s = ended_times n heading (one_ended heading s)
 -- all that two flows keep is read, in the order in which it was captured, each item behind those before it and those that its packet
 -- acknowledges
 unfoldable pub both_ended : Heading → Scene → Scene
-both_ended heading s = ended_times (kept_count s.own.track + kept_count s.other.track) heading s
+both_ended heading s = ended_times (kept_item_count s.own.track + kept_item_count s.other.track) heading s

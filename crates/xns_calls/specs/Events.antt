@@ -5,13 +5,13 @@ use Rattle.xns_spp.specs.declared.header.Header.{Header}
 use Rattle.xns_calls.specs.declared.carried.Carried.{Carried}
 use Rattle.xns_calls.specs.Exchange.{Scene, carried, is_repeat, up_to}
 use Rattle.xns_calls.specs.Numbers.{most_early, near}
-use Rattle.xns_calls.specs.Queue.{last_number}
+use Rattle.xns_calls.specs.Queue.{last_kept_number}
 use Rattle.xns_calls.specs.Reading.{Told, brought, first_read, item_taken, read_next, with_kept_item}
 use Rattle.xns_calls.specs.declared.early.Early.{Early}
 use Rattle.xns_calls.specs.declared.due.Due.{Due}
 use Rattle.xns_calls.specs.declared.heading.Heading.{Heading}
 use Rattle.xns_calls.specs.declared.track.Track.{Track}
-use Rattle.xns_calls.specs.Unanswered.{Calls}
+use Rattle.xns_calls.specs.Unanswered.{UnansweredCalls}
 
 -- an item of the flow is captured, or takes effect what acknowledges all its items below a number, or the next item is read if it is kept;
 -- or what other packets and lines do meanwhile, by which the calls without an answer, the text of the line, and whether something was refused, are others
@@ -19,9 +19,9 @@ pub data Event : Type 0 where
   captured : Heading → ℕ → Carried → Event
   acknowledged : Heading → ℕ → Event
   read : Heading → Event
-  meanwhile : Calls → List ℕ → Bool → Event
+  meanwhile : UnansweredCalls → List ℕ → Bool → Event
 
-abbrev pub with_others : Calls → List ℕ → Bool → Told → Told
+abbrev pub with_others : UnansweredCalls → List ℕ → Bool → Told → Told
 with_others calls text is_refused t = record t { calls = calls; text = text; is_refused = is_refused }
 
 abbrev pub brought_if : Heading → Option ℕ → Told → Told
@@ -31,7 +31,7 @@ brought_if heading (Some number) t = brought heading number t
 -- what an event does to the flow
 abbrev pub after_event : Event → Told → Told
 after_event (captured heading number item) t = if is_repeat number t.track then t else item_taken heading number item t
-after_event (acknowledged heading number) t = brought_if heading (up_to (last_number t.track.early) (Some number)) t
+after_event (acknowledged heading number) t = brought_if heading (up_to (last_kept_number t.track.early) (Some number)) t
 after_event (read heading) t = first_read heading t
 after_event (meanwhile calls text is_refused) t = with_others calls text is_refused t
 
@@ -82,7 +82,7 @@ read_first_over heading (early ∷ rest) t =
 abbrev pub after_whole_event : Event → Told → Told
 after_whole_event (captured heading number item) t =
     if is_repeat number t.track then t else with_kept_item number item (read_below heading (number - most_early) t)
-after_whole_event (acknowledged heading number) t = read_below_if heading (up_to (last_number t.track.early) (Some number)) t
+after_whole_event (acknowledged heading number) t = read_below_if heading (up_to (last_kept_number t.track.early) (Some number)) t
 after_whole_event (read heading) t = read_first_over heading t.track.early t
 after_whole_event (meanwhile calls text is_refused) t = with_others calls text is_refused t
 

@@ -17,7 +17,7 @@ use Rattle.xns_calls.specs.declared.side.Side.{Side}
 use Rattle.xns_calls.specs.declared.speech.Speech.TheVariants.{Hearing, Waiting}
 use Rattle.xns_calls.specs.declared.track.Track.{Track}
 use Rattle.xns_calls.specs.Numbers.{near}
-use Rattle.xns_calls.specs.Queue.{last_number}
+use Rattle.xns_calls.specs.Queue.{last_kept_number}
 use Rattle.xns_calls.specs.Reading.{Told, brought, item_taken}
 use Rattle.xns_calls.specs.Texts.{flow_line}
 use Rattle.xns_calls.specs.Turns.{next_turn}
@@ -73,7 +73,7 @@ up_to (Some last) None = None
 -- the number to which a flow is brought where this one takes effect: what lies behind the last item that is kept may still come
 abbrev pub reached : Option Track → Option ℕ → Option ℕ
 reached None number = None
-reached (Some track) number = up_to (last_number track.early) number
+reached (Some track) number = up_to (last_kept_number track.early) number
 
 abbrev pub advance_own : Heading → Option ℕ → Scene → Scene
 advance_own heading None s = s
@@ -184,4 +184,4 @@ wants_memory due f s = wants_to_take due f s || is_some (next_turn due.given s.o
 -- the number behind the last item that a flow keeps
 abbrev pub behind_last : Option Track → Option ℕ
 behind_last None = None
-behind_last (Some track) = option_map (λ number. number + 1) (last_number track.early)
+behind_last (Some track) = option_map (λ number. number + 1) (last_kept_number track.early)

@@ -6,7 +6,7 @@ use Rattle.xns_spp.specs.Header.{is_system}
 use Rattle.xns_spp.specs.declared.header.Header.{Header}
 use Rattle.xns_dump.specs.Flows.{flow_of}
 use Rattle.xns_dump.specs.declared.flows.flow.Flow.{Flow}
-use Rattle.xns_calls.specs.Acknowledged.{acknowledged_in, due_in, given_in, most_waited, noted}
+use Rattle.xns_calls.specs.Acknowledged.{acknowledged_in, due_in, given_in, most_waited, noted_beside}
 use Rattle.xns_calls.specs.Anew.{begins_anew}
 use Rattle.xns_calls.specs.Calls.{known_of, line_taken, nothing_known}
 use Rattle.xns_calls.specs.Capture.{Known, after_in, forgotten, heading_at, is_behind_in, new_connection, place_of, repeats_told, scene_in, with_new}
@@ -53,7 +53,7 @@ pub record Handled : Type 0 where
 
 -- a connection once a packet was handled
 abbrev pub with_handled : Handled → Connection → Connection
-with_handled packet connection = record (noted packet.is_behind packet.header connection) { first = packet.first; second = packet.second }
+with_handled packet connection = record (noted_beside packet.is_behind packet.header connection) { first = packet.first; second = packet.second }
 
 abbrev pub with_all : List Handled → Connection → Connection
 with_all [] connection = connection
@@ -108,8 +108,8 @@ AreHandled [] connection = Unit {0}
 AreHandled (packet ∷ more) connection = IsHandled packet connection × AreHandled more (with_handled packet connection)
 
 -- the item of a packet, with what the packet acknowledges and the line or frame that brought it
-abbrev pub item_of : Handled → Connection → Carried
-item_of packet connection =
+abbrev pub carried_item : Handled → Connection → Carried
+carried_item packet connection =
     carried (heading_at packet.origin connection.number packet.is_behind) (acknowledges packet connection) packet.header packet.content
 
 -- an item of a flow came with one of the packets that were handled as those of a connection, which is a packet of the flow
@@ -119,7 +119,7 @@ pub record CameWith (is_behind : Bool) (packets : List Handled) (connection : Co
   pub more : List Handled
   pub are : packets ≡ before ++ packet ∷ more
   pub own : packet.is_behind ≡ is_behind
-  pub brought : item ≡ item_of packet (with_all before connection)
+  pub brought : item ≡ carried_item packet (with_all before connection)
 
 -- ---- the packets of the lines of an input
 
@@ -145,14 +145,14 @@ abbrev pub packets_at : ℕ → Origin → Option Arrival → Known → List Han
 packets_at i n None k packets = packets
 packets_at i n (Some a) k packets = packets_place i n (flow_of a.0 a.1) a (place_of (flow_of a.0 a.1) k.connections) k packets
 
-abbrev pub packets_from : Programs → ℕ → ℕ → Known → List Handled → List (List ℕ) → List Handled
-packets_from programs i n k packets [] = packets
-packets_from programs i n k packets (line ∷ lines) =
-    packets_from programs i (n + 1) (line_taken programs n line k) (packets_at i (line_origin programs n) (arrival line) (record k { text = [] }) packets) lines
+abbrev pub handled_from : Programs → ℕ → ℕ → Known → List Handled → List (List ℕ) → List Handled
+handled_from programs i n k packets [] = packets
+handled_from programs i n k packets (line ∷ lines) =
+    handled_from programs i (n + 1) (line_taken programs n line k) (packets_at i (line_origin programs n) (arrival line) (record k { text = [] }) packets) lines
 
 -- the packets of the connection at place i behind all lines, in order: those since it began, each of a line of the input
-abbrev pub packets_in : Programs → ℕ → List (List ℕ) → List Handled
-packets_in programs i lines = packets_from programs i 1 nothing_known [] lines
+abbrev pub handled_packets : Programs → ℕ → List (List ℕ) → List Handled
+handled_packets programs i lines = handled_from programs i 1 nothing_known [] lines
 
 -- ---- what holds of them
 
@@ -160,7 +160,7 @@ packets_in programs i lines = packets_from programs i 1 nothing_known [] lines
 -- the packets of the connection are; what is read with one goes by what is given behind it
 pub record PacketsAreHandled : Type 0 where
   pub known : (programs : Programs) (lines : List (List ℕ)) (i : ℕ) (c : Connection) → slice_get (known_of programs lines).connections i ≡ Some c
-      → AreHandled (packets_in programs i lines) (new_connection c.number c.flow) × (c ≡ behind_all c.number c.flow (packets_in programs i lines))
+      → AreHandled (handled_packets programs i lines) (new_connection c.number c.flow) × (c ≡ behind_all c.number c.flow (handled_packets programs i lines))
   pub connection : (n : Origin) (i : ℕ) (is_behind : Bool) (packet : PacketModel) (f : Header) (content : List ℕ) (c : Connection) (k : Known) → slice_get k.connections i ≡ Some c
       → slice_get (after_in n i is_behind packet f content c k).connections i ≡ Some (with_handled (handled_in n is_behind packet f content c k) c)
   pub given : (n : Origin) (is_behind : Bool) (packet : PacketModel) (f : Header) (content : List ℕ) (c : Connection) (s : Scene)
@@ -187,4 +187,4 @@ pub record NextItemsAreNotHeldLonger : Type 0 where
   pub lines : (programs : Programs) (lines : List (List ℕ)) (i : ℕ) (c : Connection) (is_behind : Bool) (track : Track) (early : Early) (rest : List Early)
       → slice_get (known_of programs lines).connections i ≡ Some c → (side_in is_behind c).track ≡ Some track
       → track.early ≡ early ∷ rest → early.number ≤ track.next
-      → (came : CameWith is_behind (packets_in programs i lines) (new_connection c.number c.flow) early.item) × (length came.more < most_waited)
+      → (came : CameWith is_behind (handled_packets programs i lines) (new_connection c.number c.flow) early.item) × (length came.more < most_waited)

@@ -12,17 +12,17 @@ use Rattle.xns_calls.specs.declared.track.Track.{Track}
 
 -- what an item's packet acknowledges of the flow behind was read, or is waited for no longer; or the number lies more than 64 past the
 -- next one, as none of a window of 64 does
-abbrev pub IsFree : Option Track → ℕ → Option ℕ → Type 0
-IsFree None given acknowledged = Unit {0}
-IsFree (Some behind) given None = Unit {0}
-IsFree (Some behind) given (Some number) = (number ≤ behind.next) ⊎ ((number ≤ given) ⊎ (behind.next + most_pending < number))
+abbrev pub WaitsForNone : Option Track → ℕ → Option ℕ → Type 0
+WaitsForNone None given acknowledged = Unit {0}
+WaitsForNone (Some behind) given None = Unit {0}
+WaitsForNone (Some behind) given (Some number) = (number ≤ behind.next) ⊎ ((number ≤ given) ⊎ (behind.next + most_pending < number))
 
 -- the item is the first that a flow keeps, it comes next, and it waits for nothing of the flow behind
 pub record CanBeRead (track : Track) (behind : Option Track) (given : ℕ) (early : Early) : Type 0 where
   pub rest : List Early
   pub first : track.early ≡ early ∷ rest
   pub next : early.number ≤ track.next
-  pub free : IsFree behind given early.item.acknowledged
+  pub free : WaitsForNone behind given early.item.acknowledged
 
 -- an item has its turn only where it can be read: of a flow, or of the one behind it; of two that can be, the one that was captured first has
 -- it; what is still kept then can't be read, of neither flow; and at the end of the input nothing is still kept

@@ -36,7 +36,7 @@ use Rattle.xns_dump.specs.declared.flows.flow.Flow.{Flow}
 use Rattle.xns_calls.specs.declared.heading.Heading.{Heading}
 use Rattle.xns_calls.specs.declared.origin.Origin.{Origin}
 use Rattle.xns_calls.specs.declared.track.Track.{Track}
-use Rattle.xns_calls.specs.Unanswered.{Calls}
+use Rattle.xns_calls.specs.Unanswered.{UnansweredCalls}
 
 -- ---- the packets of the lines
 
@@ -44,12 +44,12 @@ use Rattle.xns_calls.specs.Unanswered.{Calls}
 abbrev pub Arrival : Type 0
 Arrival = PacketModel × Header × List ℕ
 
-abbrev pub with_header : PacketModel → Result (Header × List ℕ) SppFault → Option Arrival
-with_header packet (Ok found) = if found.0.target_id == 0 then None else Some (packet, found.0, found.1)
-with_header packet (Err fault) = None
+abbrev pub arrival_with_header : PacketModel → Result (Header × List ℕ) SppFault → Option Arrival
+arrival_with_header packet (Ok found) = if found.0.target_id == 0 then None else Some (packet, found.0, found.1)
+arrival_with_header packet (Err fault) = None
 
 abbrev pub in_packet : Result (PacketModel × ℕ) IdpFault → Option Arrival
-in_packet (Ok found) = if found.0.kind == 5 then with_header found.0 (header_of found.0.body) else None
+in_packet (Ok found) = if found.0.kind == 5 then arrival_with_header found.0 (header_of found.0.body) else None
 in_packet (Err fault) = None
 
 abbrev pub in_bytes : Result (List ℕ) FromHexError → Option Arrival
@@ -75,13 +75,13 @@ next_name k = record { connection = k.count + 1; is_behind = false }
 abbrev pub name_in : Flow → Connection → FlowName
 name_in flow connection = record { connection = connection.number; is_behind = is_behind_in flow connection }
 
-abbrev pub connection_at : Option ℕ → List Connection → Option Connection
-connection_at None connections = None
-connection_at (Some i) connections = slice_get connections i
+abbrev pub known_connection : Option ℕ → List Connection → Option Connection
+known_connection None connections = None
+known_connection (Some i) connections = slice_get connections i
 
 -- the connection that there is of a packet's flow
 abbrev pub connection_of : PacketModel → Header → List Connection → Option Connection
-connection_of packet f connections = connection_at (place_of (flow_of packet f) connections) connections
+connection_of packet f connections = known_connection (place_of (flow_of packet f) connections) connections
 
 abbrev pub is_same : Bool → Bool → Bool
 is_same true b = b
@@ -161,24 +161,24 @@ first_field programs p lines = first_field_from programs p 1 nothing_known lines
 
 -- what one line of the output says of a flow: it begins, the items from a number up to that before another had not come, a message is
 -- whole, or a fault
-pub data Said : Type 0 where
-  begins : PacketModel → Header → Said
-  lacks : ℕ → ℕ → Said
-  message : Calls → Message → Said
-  refuses : SessionFault → Said
+pub data FlowSaid : Type 0 where
+  begins : PacketModel → Header → FlowSaid
+  lacks : ℕ → ℕ → FlowSaid
+  message : UnansweredCalls → Message → FlowSaid
+  refuses : SessionFault → FlowSaid
 
-abbrev pub said_text : Heading → Said → List ℕ
-said_text h (begins packet f) = flow_line h packet f
-said_text h (lacks first behind) = missing_line h first behind
-said_text h (message calls m) = message_line h calls m
-said_text h (refuses fault) = refused_line h fault
+abbrev pub flow_said_text : Heading → FlowSaid → List ℕ
+flow_said_text h (begins packet f) = flow_line h packet f
+flow_said_text h (lacks first behind) = missing_line h first behind
+flow_said_text h (message calls m) = message_line h calls m
+flow_said_text h (refuses fault) = refused_line h fault
 
-abbrev pub said_texts : Heading → List Said → List ℕ
-said_texts h said = flat_map (said_text h) said
+abbrev pub said_texts : Heading → List FlowSaid → List ℕ
+said_texts h said = flat_map (flow_said_text h) said
 
 -- what is said of a flow at a line of the input, that 64 repeats of it came in a row, or why that line or its packet was refused
 pub data Part : Type 0 where
-  told : Origin → FlowName → List Said → Part
+  told : Origin → FlowName → List FlowSaid → Part
   repeated : Origin → FlowName → Part
   bad_hex : ℕ → FromHexError → Part
   bad_packet : Origin → IdpFault → Part

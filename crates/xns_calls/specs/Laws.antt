@@ -34,7 +34,7 @@ use Rattle.xns_calls.specs.Naming.{Programs}
 use Rattle.xns_calls.specs.Numbers.{near}
 use Rattle.xns_calls.specs.Reading.{Told}
 use Rattle.xns_calls.specs.Repeats.{has_row, repeats_of, tells_next}
-use Rattle.xns_calls.specs.Whole.{IsWhole, SaysConversation, flow_heard, flow_text, of_courier, with_end}
+use Rattle.xns_calls.specs.Whole.{IsWhole, SaysConversation, flow_heard, flow_text, of_courier, with_end_read}
 use Rattle.xns_calls.specs.declared.carried.Carried.{Carried}
 use Rattle.xns_calls.specs.declared.connection.Connection.{Connection}
 use Rattle.xns_calls.specs.declared.due.Due.{Due}
@@ -128,7 +128,7 @@ pub record MissingItemsAreBeforeCapturedOnes : Type 0 where
 abbrev pub WholeFlowsSayTheirConversation : Type 0
 WholeFlowsSayTheirConversation = (items : List Item) (events : List Event) (field : ℕ) (t : Told) (h : Heading) → field < most_pending
     → t.track ≡ first_track field → IsWhole items events
-    → SaysConversation (of_courier items) (flow_heard (with_end h events t) t) (flow_text (with_end h events t) t)
+    → SaysConversation (of_courier items) (flow_heard (with_end_read h events t) t) (flow_text (with_end_read h events t) t)
 
 -- of an input with whatever lines and flows: where each item of a flow stands in it whole, its text tells of that flow that it begins, then
 -- tells the flow's conversation, and up to the first fault nothing else but that repeats came in a row
@@ -181,12 +181,12 @@ are_of_other_type (Ok bytes) = is_of_other_type (packet_of bytes)
 are_of_other_type (Err error) = false
 
 -- the line spells such a packet, of which nothing is said
-abbrev pub IsSilent : List ℕ → Type 0
-IsSilent line = are_of_other_type (decode_of (digits_of line)) ≡ true
+abbrev pub IsPassedOver : List ℕ → Type 0
+IsPassedOver line = are_of_other_type (decode_of (digits_of line)) ≡ true
 
 -- a capture says what lines say that spell its packets, among others that say nothing, where no times are wanted
 pub record CapturesSayWhatLinesSay : Type 0 where
-  pub text : (programs : Programs) (input file : List ℕ) → SpellsPackets IsSilent input file
+  pub text : (programs : Programs) (input file : List ℕ) → SpellsPackets IsPassedOver input file
       → calls_capture_text programs Hidden file ≡ calls_text programs input
-  pub refused : (programs : Programs) (input file : List ℕ) → SpellsPackets IsSilent input file
+  pub refused : (programs : Programs) (input file : List ℕ) → SpellsPackets IsPassedOver input file
       → has_file_refusal programs Hidden file ≡ has_refusal programs input

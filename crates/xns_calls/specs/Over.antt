@@ -13,14 +13,14 @@ use Rattle.xns_calls.specs.Exchange.{brings_new}
 abbrev pub closes : ℕ → Bool
 closes stream = stream == 254 || stream == 255
 
-abbrev pub with_end : Closing → Closing
-with_end Open = End
-with_end End = End
-with_end EndReply = EndReply
+abbrev pub with_end_said : Closing → Closing
+with_end_said Open = End
+with_end_said End = End
+with_end_said EndReply = EndReply
 
 -- with what a flow has closed its connection, once one more such item has come
 abbrev pub closed_with : ℕ → Closing → Closing
-closed_with stream closing = if stream == 255 then EndReply else with_end closing
+closed_with stream closing = if stream == 255 then EndReply else with_end_said closing
 
 abbrev pub has_closed : Closing → Bool
 has_closed Open = false
@@ -42,8 +42,8 @@ closing_in true connection = connection.second_closing
 closing_in false connection = connection.first_closing
 
 -- a data packet of the flow begins it, or brings an item that is no repeat
-abbrev pub brings_item : Bool → Header → Connection → Bool
-brings_item is_behind f connection = not (is_system f) && brings_new (side_in is_behind connection).track f.sequence
+abbrev pub brings_new_item : Bool → Header → Connection → Bool
+brings_new_item is_behind f connection = not (is_system f) && brings_new (side_in is_behind connection).track f.sequence
 
 abbrev pub with_closing : Bool → Closing → Connection → Connection
 with_closing true closing connection = record connection { second_closing = closing }
@@ -52,7 +52,7 @@ with_closing false closing connection = record connection { first_closing = clos
 -- with what the flow has closed the connection, once this packet of it was captured
 abbrev pub closing_with : Bool → Header → Connection → Closing
 closing_with is_behind f connection =
-    if closes f.stream && brings_item is_behind f connection then closed_with f.stream (closing_in is_behind connection)
+    if closes f.stream && brings_new_item is_behind f connection then closed_with f.stream (closing_in is_behind connection)
     else closing_in is_behind connection
 
 -- a flow has closed the connection, or nothing of it was captured
@@ -60,7 +60,7 @@ abbrev pub has_ended : Side → Closing → Bool
 has_ended side closing = not (is_some side.track) || has_closed closing
 
 -- each of the flows that were captured has closed the connection, and one of them with EndReply
-abbrev pub is_over : Connection → Bool
-is_over connection =
+abbrev pub is_closed_both_ways : Connection → Bool
+is_closed_both_ways connection =
     has_ended connection.first connection.first_closing && has_ended connection.second connection.second_closing
     && (has_replied connection.first_closing || has_replied connection.second_closing)

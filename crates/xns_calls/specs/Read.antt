@@ -8,7 +8,7 @@ use Rattle.xns_spp.specs.declared.header.Header.{Header}
 use Rattle.xns_calls.specs.Exchange.{Scene, after_packet, after_told, of_other, seen_from_other, told_of}
 use Rattle.xns_calls.specs.Numbers.{near}
 use Rattle.xns_calls.specs.Reading.{first_read, read_next}
-use Rattle.xns_calls.specs.Turns.{is_free, next_turn}
+use Rattle.xns_calls.specs.Turns.{waits_for_none, next_turn}
 use Rattle.xns_calls.specs.declared.due.Due.{Due}
 use Rattle.xns_calls.specs.declared.given.Given.{Given}
 use Rattle.xns_calls.specs.declared.heading.Heading.{Heading}
@@ -39,13 +39,13 @@ abbrev pub read_times : ℕ → Heading → Given → Scene → Scene
 read_times zero heading given s = s
 read_times (suc n) heading given s = read_times n heading given (one_read heading given s)
 
-abbrev pub kept_count : Option Track → ℕ
-kept_count None = 0
-kept_count (Some track) = length track.early
+abbrev pub kept_item_count : Option Track → ℕ
+kept_item_count None = 0
+kept_item_count (Some track) = length track.early
 
 -- items are read until neither flow has one that can be: no more are read than are kept
 unfoldable pub settled : Heading → Given → Scene → Scene
-settled heading given s = read_times (kept_count s.own.track + kept_count s.other.track) heading given s
+settled heading given s = read_times (kept_item_count s.own.track + kept_item_count s.other.track) heading given s
 
 -- what a packet does, and what is read then
 abbrev pub handled : Heading → Due → PacketModel → Header → List ℕ → Scene → Scene
@@ -62,7 +62,7 @@ keeps_none (Some track) = length track.early == 0
 abbrev pub is_alone : Due → Header → ℕ → Track → Option Track → Bool
 is_alone due f number own other =
     ((not (is_system f) && not (is_some due.own)) && (number == own.next && length own.early == 0))
-    && (keeps_none other && is_free other due.given.other due.acknowledged)
+    && (keeps_none other && waits_for_none other due.given.other due.acknowledged)
 
 abbrev pub alone_number : Due → Header → Option ℕ → Track → Option Track → Option ℕ
 alone_number due f None own other = None

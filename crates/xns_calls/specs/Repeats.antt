@@ -18,9 +18,9 @@ abbrev pub tells_next : Repeats → Bool
 tells_next Told = false
 tells_next (InARow count) = not (nat_lt (count + 1) most_pending)
 
-abbrev pub one_more : Repeats → Repeats
-one_more Told = Told
-one_more (InARow count) = if nat_lt (count + 1) most_pending then InARow (count + 1) else Told
+abbrev pub one_repeat_more : Repeats → Repeats
+one_repeat_more Told = Told
+one_repeat_more (InARow count) = if nat_lt (count + 1) most_pending then InARow (count + 1) else Told
 
 -- an item that is no repeat ends the row
 abbrev pub row_ended : Repeats → Repeats
@@ -28,7 +28,7 @@ row_ended Told = Told
 row_ended (InARow count) = InARow 0
 
 abbrev pub repeats_behind : Bool → Repeats → Repeats
-repeats_behind is_repeat repeats = if is_repeat then one_more repeats else row_ended repeats
+repeats_behind is_repeat repeats = if is_repeat then one_repeat_more repeats else row_ended repeats
 
 -- ---- the two flows of a connection
 

@@ -23,9 +23,9 @@ speech_at last (Ok phase) = Hearing phase
 speech_at last (Err fault) = behind last
 
 -- what a flow says after an item of datastream 0; while it waits, a mark alone changes something
-abbrev pub after_item : Speech → Item → Speech
-after_item Waiting item = behind item.last
-after_item (Hearing phase) item = speech_at item.last (run phase (signs item))
+abbrev pub speech_after : Speech → Item → Speech
+speech_after Waiting item = behind item.last
+speech_after (Hearing phase) item = speech_at item.last (run phase (signs item))
 
 abbrev pub first_message : List Message → Heard
 first_message [] = heard.Nothing

@@ -4,7 +4,7 @@ use Rattle.std.specs.Fmt.{decimal}
 use Rattle.courier_messages.specs.declared.message.Message.{Message}
 use Rattle.courier_messages.specs.declared.message.Message.TheVariants.{Call, Reject, Return, Abort}
 use Rattle.xns_dump.specs.Layers.Courier.{callee_text}
-use Rattle.xns_calls.specs.Unanswered.{Calls}
+use Rattle.xns_calls.specs.Unanswered.{UnansweredCalls}
 use Rattle.xns_calls.specs.declared.heading.Heading.{Heading}
 use Rattle.xns_calls.specs.declared.heard.Heard.{Heard}
 use Rattle.xns_calls.specs.declared.heard.Heard.TheVariants as heard
@@ -16,9 +16,9 @@ abbrev pub call_if : ℕ → Waiting → Option Waiting
 call_if transaction waiting = if waiting.transaction == transaction then Some waiting else None
 
 -- the call that an answer of this transaction is for, if one waits
-abbrev pub call_of : Option Waiting → ℕ → Option Waiting
-call_of None transaction = None
-call_of (Some waiting) transaction = call_if transaction waiting
+abbrev pub asked_call : Option Waiting → ℕ → Option Waiting
+asked_call None transaction = None
+asked_call (Some waiting) transaction = call_if transaction waiting
 
 -- the call has its answer then
 abbrev pub call_left : Option Waiting → ℕ → Option Waiting
@@ -34,26 +34,26 @@ abbrev pub call_line : Heading → ℕ → List ℕ → ShownModel → List ℕ
 call_line heading transaction numbers shown = call_front heading transaction ++ named_or numbers shown ++ call_end shown
 
 -- the line of a message; a reject has no name
-abbrev pub message_line : Heading → Calls → Message → List ℕ
+abbrev pub message_line : Heading → UnansweredCalls → Message → List ℕ
 message_line heading calls (Call transaction program version procedure words) =
     call_line heading transaction (callee_text program version procedure ++ words_behind (codes " args ") words)
     (named_call heading.origin.programs program version procedure words)
 message_line heading calls (Reject transaction reason words) =
-    answer_line heading (codes " reject ") transaction (call_of calls.asked transaction)
+    answer_line heading (codes " reject ") transaction (asked_call calls.asked transaction)
     (codes " reason " ++ decimal reason ++ words_behind (codes " words ") words) None
 message_line heading calls (Return transaction words) =
-    answer_line heading (codes " return ") transaction (call_of calls.asked transaction) (words_behind (codes " results ") words)
-    (named_return heading.origin.programs (call_of calls.asked transaction) words)
+    answer_line heading (codes " return ") transaction (asked_call calls.asked transaction) (words_behind (codes " results ") words)
+    (named_return heading.origin.programs (asked_call calls.asked transaction) words)
 message_line heading calls (Abort transaction error words) =
-    answer_line heading (codes " abort ") transaction (call_of calls.asked transaction)
+    answer_line heading (codes " abort ") transaction (asked_call calls.asked transaction)
     (codes " error " ++ decimal error ++ words_behind (codes " args ") words)
-    (named_abort heading.origin.programs (call_of calls.asked transaction) error words)
+    (named_abort heading.origin.programs (asked_call calls.asked transaction) error words)
 
-abbrev pub after_answer : Calls → ℕ → Calls
+abbrev pub after_answer : UnansweredCalls → ℕ → UnansweredCalls
 after_answer calls transaction = record calls { asked = call_left calls.asked transaction }
 
 -- a call is the flow's call without an answer, and an answer answers that of the flow behind
-abbrev pub after_message : Heading → Calls → Message → Calls
+abbrev pub after_message : Heading → UnansweredCalls → Message → UnansweredCalls
 after_message heading calls (Call transaction program version procedure words) = record calls {
   own = Some (record {
     transaction = transaction;
@@ -69,12 +69,12 @@ after_message heading calls (Return transaction words) = after_answer calls tran
 after_message heading calls (Abort transaction error words) = after_answer calls transaction
 
 -- the line of what is heard
-abbrev pub heard_text : Heading → Calls → Heard → List ℕ
+abbrev pub heard_text : Heading → UnansweredCalls → Heard → List ℕ
 heard_text heading calls heard.Nothing = []
 heard_text heading calls (heard.Message message) = message_line heading calls message
 heard_text heading calls (heard.Fault fault) = refused_line heading fault
 
-abbrev pub calls_after : Heading → Calls → Heard → Calls
+abbrev pub calls_after : Heading → UnansweredCalls → Heard → UnansweredCalls
 calls_after heading calls heard.Nothing = calls
 calls_after heading calls (heard.Message message) = after_message heading calls message
 calls_after heading calls (heard.Fault fault) = calls

@@ -17,16 +17,16 @@ abbrev pub is_behind : ℕ → ℕ → ℕ → Bool
 is_behind next given number = not (nat_lt (max next given) number) || nat_lt most_pending (number - next)
 
 -- an item waits for nothing of the flow behind: that flow has not begun, or its packet acknowledges no number, or such items
-abbrev pub is_free : Option Track → ℕ → Option ℕ → Bool
-is_free None given acknowledged = true
-is_free (Some behind) given None = true
-is_free (Some behind) given (Some number) = is_behind behind.next given number
+abbrev pub waits_for_none : Option Track → ℕ → Option ℕ → Bool
+waits_for_none None given acknowledged = true
+waits_for_none (Some behind) given None = true
+waits_for_none (Some behind) given (Some number) = is_behind behind.next given number
 
 -- the line of the first item, where it comes next and waits for nothing
 abbrev pub readable_first : ℕ → Option Track → ℕ → Option FirstKept → Option ℕ
 readable_first next behind given None = None
 readable_first next behind given (Some first) =
-    if not (nat_lt next first.number) && is_free behind given first.acknowledged then Some first.line else None
+    if not (nat_lt next first.number) && waits_for_none behind given first.acknowledged then Some first.line else None
 
 -- the line of the item of a flow that can be read
 abbrev pub readable : Option Track → Option Track → ℕ → Option ℕ

@@ -8,25 +8,25 @@ use Rattle.xns_calls.specs.Events.{AreWithinReach, Event, IsAmong, acknowledged,
 use Rattle.xns_calls.specs.Exchange.{behind_last, is_repeat, up_to}
 use Rattle.xns_calls.specs.Listening.{messages_in}
 use Rattle.xns_calls.specs.Numbers.{most_early}
-use Rattle.xns_calls.specs.Queue.{last_number}
+use Rattle.xns_calls.specs.Queue.{last_kept_number}
 use Rattle.xns_calls.specs.Reading.{Told, read_next}
 use Rattle.xns_calls.specs.Speech.{heard_of}
 use Rattle.xns_calls.specs.Telling.{heard_text, message_line}
 use Rattle.xns_calls.specs.declared.early.Early.{Early}
 use Rattle.xns_calls.specs.declared.heading.Heading.{Heading}
 use Rattle.xns_calls.specs.declared.heard.Heard.{Heard}
-use Rattle.xns_calls.specs.Unanswered.{Calls}
+use Rattle.xns_calls.specs.Unanswered.{UnansweredCalls}
 
 -- an item that is captured is the one of its number
-abbrev pub IsOf : List Item → Event → Type 0
-IsOf items (captured heading number item) = slice_get items number ≡ Some item.item
-IsOf items (acknowledged heading number) = Unit {0}
-IsOf items (read heading) = Unit {0}
-IsOf items (meanwhile calls text is_refused) = Unit {0}
+abbrev pub HasItsItem : List Item → Event → Type 0
+HasItsItem items (captured heading number item) = slice_get items number ≡ Some item.item
+HasItsItem items (acknowledged heading number) = Unit {0}
+HasItsItem items (read heading) = Unit {0}
+HasItsItem items (meanwhile calls text is_refused) = Unit {0}
 
 abbrev pub AreOf : List Item → List Event → Type 0
 AreOf items [] = Unit {0}
-AreOf items (e ∷ more) = IsOf items e × AreOf items more
+AreOf items (e ∷ more) = HasItsItem items e × AreOf items more
 
 -- each item of the flow is captured, in whatever order within 63 numbers of its place, and before what acknowledges it takes effect;
 -- repeats may come at any time
@@ -36,8 +36,8 @@ pub record IsWhole (items : List Item) (events : List Event) : Type 0 where
   pub reach : AreWithinReach 0 [] events
 
 -- the events, and behind them that all that the flow keeps is read, as at the end of the input
-abbrev pub with_end : Heading → List Event → Told → List Event
-with_end heading events t = events ++ acknowledged_event heading (behind_last (Some (after_events events t).track))
+abbrev pub with_end_read : Heading → List Event → Told → List Event
+with_end_read heading events t = events ++ acknowledged_event heading (behind_last (Some (after_events events t).track))
 
 -- what an event of the flow prints behind the text that there is; what others do meanwhile is not the flow's
 abbrev pub new_text : Event → Told → List ℕ
@@ -58,7 +58,7 @@ of_courier items = filter (λ item. item.stream == 0) items
 
 -- what is heard of an item, at the line at which it is read, and the calls without an answer before it
 abbrev pub ToldHeard : Type 0
-ToldHeard = Heading × Calls × Heard
+ToldHeard = Heading × UnansweredCalls × Heard
 
 -- only items of datastream 0 are heard
 abbrev pub heard_with : Heading → Item → Told → List ToldHeard
@@ -83,7 +83,7 @@ heard_first heading (early ∷ rest) t = if nat_lt t.track.next early.number the
 -- what is heard as an event has items read: at the line of the event
 abbrev pub new_heard : Event → Told → List ToldHeard
 new_heard (captured heading number item) t = if is_repeat number t.track then [] else heard_below heading (number - most_early) t.track.early t
-new_heard (acknowledged heading number) t = heard_below_if heading (up_to (last_number t.track.early) (Some number)) t
+new_heard (acknowledged heading number) t = heard_below_if heading (up_to (last_kept_number t.track.early) (Some number)) t
 new_heard (read heading) t = heard_first heading t.track.early t
 new_heard (meanwhile calls text is_refused) t = []
 
@@ -99,7 +99,7 @@ heard_lines told = flat_map (λ x. heard_text x.0 x.1 x.2) told
 
 -- a message, at the line at which it is whole, and the calls without an answer before it
 abbrev pub ToldMessage : Type 0
-ToldMessage = Heading × Calls × Message
+ToldMessage = Heading × UnansweredCalls × Message
 
 abbrev pub told_message : ToldHeard → List ToldMessage
 told_message x = map (λ message. (x.0, x.1, message)) (messages_in x.2)

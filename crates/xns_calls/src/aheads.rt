@@ -75,7 +75,7 @@ impl Aheads {
     }
 
     /// The greatest number that is kept, or 0 where none is.
-    pub fn last_number(&self) -> u64
+    pub fn last_kept_number(&self) -> u64
         ensures { result ≡ last_ahead self.now }
     {
         match &self.kept {

@@ -1,7 +1,7 @@
 //! `calls`: the calls that a capture has, and what came back.
 ghost use Rattle.std.specs.Prelude.{◌≡◌, None, IfErr, IfOk, IfSome, OnOk};
 ghost use Rattle.std.specs.Io.KnownBytes.{Appends};
-ghost use Rattle.xns_captures.specs.Captures.{fault_of};
+ghost use Rattle.xns_captures.specs.Captures.{capture_fault};
 ghost use Rattle.xns_calls.specs.Files.{FileStopsIn, calls_capture_text, has_file_refusal};
 ghost use Rattle.xns_lines.specs.Lines.{IsWithinLimits};
 ghost use Rattle.xns_calls.specs.Calls.{StopsIn, calls_text, has_refusal, most_numbered_lines};
@@ -109,7 +109,7 @@ pub fn calls_capture<R: Read, W: Write>(
     ensures text { IfOk result (λ refused. IfSome (R.remaining reader.old) (λ file.
         Appends (W.contents writer.old) (W.contents writer.new) (calls_capture_text programs.entry times file))) }
     ensures refused { IfOk result (λ refused. IfSome (R.remaining reader.old) (λ file. refused ≡ has_file_refusal programs.entry times file)) }
-    ensures whole { OnOk result (IfSome (R.remaining reader.old) (λ file. fault_of file ≡ None)) }
+    ensures whole { OnOk result (IfSome (R.remaining reader.old) (λ file. capture_fault file ≡ None)) }
 
     // After a fault the text of the packets before it is written; one of the capture comes behind all its packets.
     ensures fault { IfErr result (λ fault. IfSome (R.remaining reader.old) (λ file.
@@ -152,7 +152,7 @@ fn print_styled<D: Described, S: TimeStyle, R: Read, W: Write>(
     ensures text { IfOk result (λ refused. IfSome (R.remaining reader.old) (λ file.
         Appends (W.contents writer.old) (W.contents writer.new) (calls_capture_text D.programs S.style file))) }
     ensures refused { IfOk result (λ refused. IfSome (R.remaining reader.old) (λ file. refused ≡ has_file_refusal D.programs S.style file)) }
-    ensures whole { OnOk result (IfSome (R.remaining reader.old) (λ file. fault_of file ≡ None)) }
+    ensures whole { OnOk result (IfSome (R.remaining reader.old) (λ file. capture_fault file ≡ None)) }
     ensures fault { IfErr result (λ fault. IfSome (R.remaining reader.old) (λ file.
         FileStopsIn D.programs S.style fault file (W.contents writer.old) (W.contents writer.new))) }
 {

@@ -3,7 +3,7 @@ ghost use Rattle.std.specs.Prelude.{◌≡◌, [], ◌==◌, ◌<◌, length, On
 ghost use Rattle.std.specs.List.{list_any};
 ghost use Rattle.xns_calls.specs.AtEnd.{first_at_end};
 ghost use Rattle.xns_calls.specs.Numbers.{most_numbers};
-ghost use Rattle.xns_calls.specs.Queue.{HasNoDue, HasNoneBelow, IsFirstBelow, IsFirstDue, kept, last_number};
+ghost use Rattle.xns_calls.specs.Queue.{HasNoDue, HasNoneBelow, IsFirstBelow, IsFirstDue, kept, last_kept_number};
 ghost use Rattle.xns_calls.specs.Turns.{first_kept};
 
 use crate::carried::Carried;
@@ -62,13 +62,13 @@ impl EarlyItems {
     }
 
     /// The number of the last item, or none where none is kept.
-    pub fn last_number(&self) -> Option<u64>
-        ensures value { result ≡ last_number self.now }
+    pub fn last_kept_number(&self) -> Option<u64>
+        ensures value { result ≡ last_kept_number self.now }
         ensures bound { IfSome result (λ number. number < most_numbers) }
     {
         match &self.queue {
             None => None,
-            Some(queue) => queue.as_ref().last_number(),
+            Some(queue) => queue.as_ref().last_kept_number(),
         }
     }
 

@@ -59,7 +59,7 @@ fn reached(side: &Side, number: Option<u64>) -> Option<u64>
 {
     let number = number?;
     let track = side.track.as_ref()?;
-    let last = track.early.last_number()?;
+    let last = track.early.last_kept_number()?;
     Some(number.min(last + 1))
 }
 

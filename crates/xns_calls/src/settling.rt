@@ -3,7 +3,7 @@ ghost use Rattle.std.specs.Prelude.{◌≡◌, OnErr, OnOk, Some, true};
 ghost use Rattle.std.specs.Option.{is_some};
 ghost use Rattle.xns_calls.specs.Exchange.{scene};
 ghost use Rattle.xns_calls.specs.Read.{own_read, read_of, settled};
-ghost use Rattle.xns_calls.specs.Turns.{first_line as first_line_of, is_behind as is_behind_of, is_free as is_free_of, next_turn as next_turn_of};
+ghost use Rattle.xns_calls.specs.Turns.{first_line as first_line_of, is_behind as is_behind_of, waits_for_none as waits_for_none_of, next_turn as next_turn_of};
 ghost use Rattle.xns_calls.specs.Turns.{readable as readable_of};
 
 use crate::bringing::read_first;
@@ -24,8 +24,8 @@ fn is_behind(next: u64, given: u64, number: u64) -> bool
 }
 
 /// Whether an item whose packet acknowledges so much waits for nothing of the flow behind.
-pub fn is_free(behind: &Side, given: u64, acknowledged: Option<u64>) -> bool
-    ensures { result ≡ is_free_of behind.now.track given acknowledged }
+pub fn waits_for_none(behind: &Side, given: u64, acknowledged: Option<u64>) -> bool
+    ensures { result ≡ waits_for_none_of behind.now.track given acknowledged }
 {
     match (&behind.track, acknowledged) {
         (Some(track), Some(number)) => is_behind(track.next, given, number),
@@ -40,7 +40,7 @@ fn readable(own: &Side, behind: &Side, given: u64) -> Option<usize>
 {
     let track = own.track.as_ref()?;
     let first = track.early.first()?;
-    if first.number <= track.next && is_free(behind, given, first.acknowledged) {
+    if first.number <= track.next && waits_for_none(behind, given, first.acknowledged) {
         Some(first.line)
     } else {
         None

@@ -2,7 +2,7 @@
 ghost use Rattle.std.specs.Prelude.{◌≡◌, true, None, IfOk, IfSome, OnErr};
 ghost use Rattle.courier_messages.specs.Text.{item_of};
 ghost use Rattle.xns_calls.specs.declared.heard.Heard.TheVariants.{Message};
-ghost use Rattle.xns_calls.specs.Speech.{MayRefuse, after_item, behind as behind_of, heard_of};
+ghost use Rattle.xns_calls.specs.Speech.{MayRefuse, speech_after, behind as behind_of, heard_of};
 
 use crate::heard::Heard;
 use courier_messages::{Incoming, SessionFault, WholeMessage};
@@ -34,7 +34,7 @@ impl Speech {
     /// before. `None`, which changes nothing: [`hear`](Speech::hear) says what it brings.
     #[inline(always)]
     pub fn hear_whole<'a>(&mut self, body: &'a [u8]) -> Option<WholeMessage<'a>>
-        ensures speech { IfSome result (λ message. self.new ≡ after_item self.old (item_of 0 true body.now)) }
+        ensures speech { IfSome result (λ message. self.new ≡ speech_after self.old (item_of 0 true body.now)) }
         ensures heard { IfSome result (λ message. heard_of self.old (item_of 0 true body.now) ≡ Message message) }
         ensures same { result ≡ None → self.new ≡ self.old }
     {
@@ -47,7 +47,7 @@ impl Speech {
     /// Hears one more item of datastream 0. The only error is want of memory, for bytes that are to be kept and with which
     /// nothing is wrong; it is then as it was.
     pub fn hear(&mut self, alloc: Global, item: Item) -> Result<Heard, AllocError>
-        ensures speech { IfOk result (λ heard. self.new ≡ after_item self.old item) }
+        ensures speech { IfOk result (λ heard. self.new ≡ speech_after self.old item) }
         ensures heard { IfOk result (λ heard. heard ≡ heard_of self.old item) }
         ensures memory { OnErr result (MayRefuse self.old item) }
         ensures same { OnErr result (self.new ≡ self.old) }

@@ -12,7 +12,7 @@ use crate::exchange::{begin, take_kept};
 use crate::heading::Heading;
 use crate::near::near;
 use crate::scratch::Scratch;
-use crate::settling::{is_free, settle};
+use crate::settling::{settle, waits_for_none};
 use crate::side::Side;
 use crate::track::Track;
 use std::alloc::AllocError;
@@ -38,7 +38,7 @@ fn is_alone(number: u64, own: &Track, other: &Side, due: Due, header: &Header) -
 {
     let is_plain = header.control & SYSTEM == 0 && !due.own.is_some();
     let is_first = number == own.next && own.early.is_empty();
-    let is_unheld = keeps_none(other) && is_free(other, due.given.other, due.acknowledged);
+    let is_unheld = keeps_none(other) && waits_for_none(other, due.given.other, due.acknowledged);
     (is_plain && is_first) && is_unheld
 }
 

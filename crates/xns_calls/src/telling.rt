@@ -5,7 +5,7 @@ ghost use Rattle.xns_dump.specs.Layers.Courier.{callee_text};
 ghost use Rattle.courier_messages.specs.Head.{with_words};
 ghost use Rattle.xns_lines.specs.Report.{Adds};
 ghost use Rattle.xns_calls.specs.Naming.{named_abort, named_call, named_return};
-ghost use Rattle.xns_calls.specs.Telling.{after_message, answer_line, call_left, call_line, calls_after, heard_text, is_fault, call_of, message_line};
+ghost use Rattle.xns_calls.specs.Telling.{after_message, answer_line, call_left, call_line, calls_after, heard_text, is_fault, asked_call, message_line};
 ghost use Rattle.xns_calls.specs.Texts.{words_behind};
 ghost use Rattle.xns_calls.specs.Unanswered.{waiting_calls};
 
@@ -246,7 +246,7 @@ fn tell_abort(
 
 /// The call that waits for an answer of this transaction, which no longer waits then.
 fn answer(asked: &mut Option<Waiting>, transaction: u16) -> Option<Waiting>
-    ensures call { result ≡ call_of asked.old transaction }
+    ensures call { result ≡ asked_call asked.old transaction }
     ensures left { asked.new ≡ call_left asked.old transaction }
 {
     match *asked {

@@ -2,9 +2,9 @@
 use Rattle.std.proofs.Common.{◌≡◌, refl, ap, arith, ℕ, zero, suc, ◌+◌, ◌≤◌, min, Bool, cond, nat_lt, ◌||◌, ◌==◌, ◌%◌, not, lit≤, List, [], ◌∷◌, ◌++◌, length, take, drop, length-drop, Ok, Err, Option, Some, None}
 use Rattle.std.proofs.Math.Nat.{le-max_left}
 use Rattle.std.proofs.lemmas.Bool.{cond_both, ltb-false, or_parts}
-use Rattle.xns_captures.specs.Places.{long_at}
-use Rattle.xns_captures.specs.Captures.{More, behind_head, behind_part, behind_size, behind_whole, contents, contents_in, empty_frame, end_of, ends_with, frame_in, with_frame}
-use Rattle.xns_captures.specs.Parts.{Holds, Size, head_count, part_of, size_of, block_size, block_size_in, size_in_order, classic_size, is_read, long_size, most_passed_bytes, rest_size, section_order, classic_order, section_type, most_block_bytes, most_frame_bytes}
+use Rattle.xns_captures.specs.Places.{long_in_order}
+use Rattle.xns_captures.specs.Captures.{More, behind_head, behind_part, behind_size, behind_whole, contents, contents_in, empty_frame, fault_at_end, ends_with, frame_in, with_frame}
+use Rattle.xns_captures.specs.Parts.{PartContent, Size, head_count, part_of, size_of, block_size, block_size_in, size_in_order, classic_size, is_read, long_size, most_passed_bytes, rest_size, section_order, classic_order, section_type, most_block_bytes, most_frame_bytes}
 use Rattle.xns_captures.specs.declared.byte_order.ByteOrder.{ByteOrder}
 use Rattle.xns_captures.specs.declared.byte_order.ByteOrder.TheVariants.{Big}
 use Rattle.xns_captures.specs.declared.fault.CaptureFault.TheVariants as fault
@@ -32,7 +32,7 @@ sized kind total t =
     (λ few. let h = or_parts (nat_lt total 12) t e in (ltb-false total 12 h.0, ltb-false most_block_bytes total few)))
 
 block_has_bytes : (order : ByteOrder) (head : List ℕ) → HasBytes 12 (block_size_in order head)
-block_has_bytes order head = sized (long_at order head 0) (long_at order head 4) (not (long_at order head 4 % 4 == 0))
+block_has_bytes order head = sized (long_in_order order head 0) (long_in_order order head 4) (not (long_in_order order head 4 % 4 == 0))
 
 section_has_bytes : (order : Option ByteOrder) (head : List ℕ) → HasBytes 12 (size_in_order order head)
 section_has_bytes None head = tt
@@ -40,7 +40,7 @@ section_has_bytes (Some order) head = block_has_bytes order head
 
 any_block_has_bytes : (order : ByteOrder) (head : List ℕ) → HasBytes 12 (block_size order head)
 any_block_has_bytes order head =
-    cond_both (long_at order head 0 == section_type) (size_in_order (section_order head) head) (block_size_in order head) (HasBytes 12)
+    cond_both (long_in_order order head 0 == section_type) (size_in_order (section_order head) head) (block_size_in order head) (HasBytes 12)
     (λ _. section_has_bytes (section_order head) head) (λ _. block_has_bytes order head)
 
 classic_has_bytes : (order : Option ByteOrder) → HasBytes 12 (classic_size order)
@@ -54,11 +54,11 @@ rest_has_bytes left = (le-max_left 4 (min left most_passed_bytes), omega arith)
 pub part_has_bytes : (f : Format) (head : List ℕ) → HasBytes (head_count f) (size_of f head)
 unfolding size_of
 part_has_bytes Unread head =
-    cond_both (long_at Big head 0 == section_type) (block_size Big head) (classic_size (classic_order head)) (HasBytes 12)
+    cond_both (long_in_order Big head 0 == section_type) (block_size Big head) (classic_size (classic_order head)) (HasBytes 12)
     (λ _. any_block_has_bytes Big head) (λ _. classic_has_bytes (classic_order head))
 part_has_bytes (Records order link is_nano) head =
-    cond_both (nat_lt most_frame_bytes (long_at order head 8)) (Err fault.TooLong) (Ok (16 + long_at order head 8)) (HasBytes 16)
-    (λ _. tt) (λ e. (omega arith, omega (arith, ltb-false most_frame_bytes (long_at order head 8) e)))
+    cond_both (nat_lt most_frame_bytes (long_in_order order head 8)) (Err fault.TooLong) (Ok (16 + long_in_order order head 8)) (HasBytes 16)
+    (λ _. tt) (λ e. (omega arith, omega (arith, ltb-false most_frame_bytes (long_in_order order head 8) e)))
 part_has_bytes (Blocks order) head = any_block_has_bytes order head
 part_has_bytes (Passing order left total) head = rest_has_bytes left
 
@@ -78,7 +78,7 @@ module _ (more more' : More) (n : ℕ) (same : (f : Format) (is : List Interface
   same_part f is bytes rest (part.Continues next) h = same next is rest h
   same_part f is bytes rest (part.Counted next) h = ap (with_frame empty_frame) (same next is rest h)
 
-  same_whole : (f : Format) (is : List Interface) (bytes rest : List ℕ) (p : Holds) → length rest ≤ n
+  same_whole : (f : Format) (is : List Interface) (bytes rest : List ℕ) (p : PartContent) → length rest ≤ n
       → behind_whole more f is bytes rest p ≡ behind_whole more' f is bytes rest p
   same_whole f is bytes rest (Ok p) h = same_part f is bytes rest p h
   same_whole f is bytes rest (Err fault) h = refl
@@ -117,6 +117,6 @@ contents-head f is (b ∷ bytes) h =
     same_head (contents_in (length bytes)) contents (length bytes) (λ g is' rest short. fuel (length bytes) (length rest) g is' rest short (omega arith)) f is (b ∷ bytes)
     (part_has_bytes f (take (head_count f) (b ∷ bytes))) (omega arith)
 
-pub contents-none : (f : Format) (is : List Interface) → contents f is [] ≡ ends_with (end_of f)
+pub contents-none : (f : Format) (is : List Interface) → contents f is [] ≡ ends_with (fault_at_end f)
 unfolding contents contents_in
 contents-none f is = refl

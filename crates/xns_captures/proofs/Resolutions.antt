@@ -4,7 +4,7 @@ use Rattle.std.proofs.Math.Nat.{mod-eq_of_lt, pow-suc}
 use Rattle.std.proofs.lemmas.Nat.{pow_below}
 use Rattle.std.proofs.lemmas.Bool.{cond-true, cond-false, eq-eqb, eqb-true, le-ltb, lt-ltb}
 use Rattle.std.specs.Prelude.{slice_index}
-use Rattle.xns_captures.specs.Places.{word_at}
+use Rattle.xns_captures.specs.Places.{word_in_order}
 use Rattle.xns_captures.specs.Times.{by_option, resolution_of, resolution_within, units_of_second}
 use Rattle.xns_captures.specs.declared.byte_order.ByteOrder.{ByteOrder}
 
@@ -78,30 +78,30 @@ gives-option order options given long (suc more, few, is) = (
 )
 
 pub gives-end : (order : ByteOrder) (options : List ℕ) (given : ℕ) → 4 ≤ length options → Gives order options given
-    → word_at order options 0 ≡ 0 → 6 ≡ given
+    → word_in_order order options 0 ≡ 0 → 6 ≡ given
 gives-end order options given long g end =
     let o = gives-option order options given long g in
-    sym (ap (λ p. cond p 6 (cond (word_at order options 0 == 9 && word_at order options 2 == 1) (slice_index options 4)
-    (resolution_within o.0 order (drop (4 + (word_at order options 2 + 3) / 4 * 4) options)))) (eq-eqb (word_at order options 0) 0 end)) ∙ o.2
+    sym (ap (λ p. cond p 6 (cond (word_in_order order options 0 == 9 && word_in_order order options 2 == 1) (slice_index options 4)
+    (resolution_within o.0 order (drop (4 + (word_in_order order options 2 + 3) / 4 * 4) options)))) (eq-eqb (word_in_order order options 0) 0 end)) ∙ o.2
 
 pub gives-value : (order : ByteOrder) (options : List ℕ) (given : ℕ) → 4 ≤ length options → Gives order options given
-    → (word_at order options 0 ≡ 0 → ⊥) → (word_at order options 0 == 9 && word_at order options 2 == 1) ≡ true
+    → (word_in_order order options 0 ≡ 0 → ⊥) → (word_in_order order options 0 == 9 && word_in_order order options 2 == 1) ≡ true
     → slice_index options 4 ≡ given
 gives-value order options given long g end value =
     let o = gives-option order options given long g in
-    let rest = resolution_within o.0 order (drop (4 + (word_at order options 2 + 3) / 4 * 4) options) in
-    sym (ap (λ p. cond p 6 (cond (word_at order options 0 == 9 && word_at order options 2 == 1) (slice_index options 4) rest)) (ne-eqb (word_at order options 0) 0 end)
+    let rest = resolution_within o.0 order (drop (4 + (word_in_order order options 2 + 3) / 4 * 4) options) in
+    sym (ap (λ p. cond p 6 (cond (word_in_order order options 0 == 9 && word_in_order order options 2 == 1) (slice_index options 4) rest)) (ne-eqb (word_in_order order options 0) 0 end)
     ∙ ap (λ p. cond p (slice_index options 4) rest) value) ∙ o.2
 
 pub gives-rest : (order : ByteOrder) (options : List ℕ) (given : ℕ) → 4 ≤ length options → Gives order options given
-    → (word_at order options 0 ≡ 0 → ⊥) → (word_at order options 0 == 9 && word_at order options 2 == 1) ≡ false
-    → Gives order (drop (4 + (word_at order options 2 + 3) / 4 * 4) options) given
+    → (word_in_order order options 0 ≡ 0 → ⊥) → (word_in_order order options 0 == 9 && word_in_order order options 2 == 1) ≡ false
+    → Gives order (drop (4 + (word_in_order order options 2 + 3) / 4 * 4) options) given
 gives-rest order options given long g end value =
     let o = gives-option order options given long g in
-    let count = 4 + (word_at order options 2 + 3) / 4 * 4 in
+    let count = 4 + (word_in_order order options 2 + 3) / 4 * 4 in
     let rest = resolution_within o.0 order (drop count options) in (
       o.0,
       omega (arith, o.1, length-drop count options),
-      sym (ap (λ p. cond p 6 (cond (word_at order options 0 == 9 && word_at order options 2 == 1) (slice_index options 4) rest)) (ne-eqb (word_at order options 0) 0 end)
+      sym (ap (λ p. cond p 6 (cond (word_in_order order options 0 == 9 && word_in_order order options 2 == 1) (slice_index options 4) rest)) (ne-eqb (word_in_order order options 0) 0 end)
           ∙ ap (λ p. cond p (slice_index options 4) rest) value) ∙ o.2,
     )

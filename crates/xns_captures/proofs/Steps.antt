@@ -4,7 +4,7 @@ use Rattle.std.proofs.lemmas.List.{take-append-le, take_at, drop_at}
 use Rattle.std.proofs.lemmas.Bool.{cond-true, cond-false, lt-ltb, le-ltb}
 use Rattle.xns_captures.specs.Captures.{behind_size, behind_whole, contents, ends_with}
 use Rattle.xns_captures.specs.Reading.{end_in}
-use Rattle.xns_captures.specs.Parts.{Holds, head_count, most_block_bytes, part_of, size_of}
+use Rattle.xns_captures.specs.Parts.{PartContent, head_count, most_block_bytes, part_of, size_of}
 use Rattle.xns_captures.specs.declared.fault.CaptureFault.{CaptureFault}
 use Rattle.xns_captures.specs.declared.fault.CaptureFault.TheVariants as fault
 use Rattle.xns_captures.specs.declared.format.Format.{Format}
@@ -70,7 +70,7 @@ at_part f is bytes rest h e =
     ∙ ap (λ front. behind_whole contents f is front (drop (length bytes) (bytes ++ rest)) (part_of f is front)) (take_at bytes rest (length bytes) refl)
     ∙ ap (λ more. behind_whole contents f is bytes more (part_of f is bytes)) (drop_at bytes rest (length bytes) refl)
 
-pub at_part_as : (f : Format) (is : List Interface) (bytes rest : List ℕ) (p : Holds) → head_count f ≤ length bytes
+pub at_part_as : (f : Format) (is : List Interface) (bytes rest : List ℕ) (p : PartContent) → head_count f ≤ length bytes
     → size_of f (take (head_count f) bytes) ≡ Ok (length bytes) → part_of f is bytes ≡ p
     → contents f is (bytes ++ rest) ≡ behind_whole contents f is bytes rest p
 at_part_as f is bytes rest p h e is_part = at_part f is bytes rest h e ∙ ap (behind_whole contents f is bytes rest) is_part

@@ -2,7 +2,7 @@
 use Rattle.std.proofs.Common.{◌≡◌, refl, arith, ℕ, ◌<◌, ◌≤◌, true, false, List, [], ◌∷◌, length, drop, Option, None}
 use Rattle.std.proofs.lemmas.Bool.Decides.{nat_tests}
 use Rattle.xns_captures.specs.Links.{behind_number, by_number, is_tag}
-use Rattle.xns_captures.specs.Places.{word_at}
+use Rattle.xns_captures.specs.Places.{word_in_order}
 use Rattle.xns_captures.specs.declared.byte_order.ByteOrder.TheVariants.{Big}
 
 -- a tag's number is not the type
@@ -10,12 +10,12 @@ tag_is_no_type : (number : ℕ) (bytes : List ℕ) (tagged : Option (List ℕ)) 
 tag_is_no_type number bytes tagged tag = grind (arith, nat_tests)
 
 pub behind_tag : (number : ℕ) (bytes : List ℕ) → is_tag number ≡ true → 4 ≤ length bytes
-    → behind_number number bytes ≡ behind_number (word_at Big bytes 2) (drop 4 bytes)
+    → behind_number number bytes ≡ behind_number (word_in_order Big bytes 2) (drop 4 bytes)
 behind_tag number [] tag long = absurd (omega arith)
 behind_tag number (a ∷ []) tag long = absurd (omega arith)
 behind_tag number (a ∷ b ∷ []) tag long = absurd (omega arith)
 behind_tag number (a ∷ b ∷ c ∷ []) tag long = absurd (omega arith)
-behind_tag number (a ∷ b ∷ c ∷ d ∷ bytes) tag long = tag_is_no_type number (a ∷ b ∷ c ∷ d ∷ bytes) (behind_number (word_at Big (a ∷ b ∷ c ∷ d ∷ bytes) 2) bytes) tag
+behind_tag number (a ∷ b ∷ c ∷ d ∷ bytes) tag long = tag_is_no_type number (a ∷ b ∷ c ∷ d ∷ bytes) (behind_number (word_in_order Big (a ∷ b ∷ c ∷ d ∷ bytes) 2) bytes) tag
 
 pub behind_cut_tag : (number : ℕ) (bytes : List ℕ) → is_tag number ≡ true → length bytes < 4 → behind_number number bytes ≡ None
 behind_cut_tag number [] tag short = tag_is_no_type number [] None tag
@@ -35,4 +35,4 @@ behind_no_tag number (a ∷ []) tag = refl
 behind_no_tag number (a ∷ b ∷ []) tag = refl
 behind_no_tag number (a ∷ b ∷ c ∷ []) tag = refl
 behind_no_tag number (a ∷ b ∷ c ∷ d ∷ bytes) tag =
-    by_no_tag number (a ∷ b ∷ c ∷ d ∷ bytes) (behind_number (word_at Big (a ∷ b ∷ c ∷ d ∷ bytes) 2) bytes) tag
+    by_no_tag number (a ∷ b ∷ c ∷ d ∷ bytes) (behind_number (word_in_order Big (a ∷ b ∷ c ∷ d ∷ bytes) 2) bytes) tag

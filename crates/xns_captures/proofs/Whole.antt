@@ -4,7 +4,7 @@ use Rattle.std.specs.Prelude.{IfSome}
 use Rattle.std.specs.Io.KnownBytes.{Consumes, IsAtEnd}
 use Rattle.std.proofs.lemmas.Bool.{eqb-false, eqb-true}
 use Rattle.std.specs.Option.{option_or}
-use Rattle.xns_captures.specs.Captures.{Contents, FrameBytes, NumberedPacket, contents, contents_of, ends_with, fault_of, frames_of, packets_in, packets_of, stamp_of, with_packet}
+use Rattle.xns_captures.specs.Captures.{Contents, FrameBytes, NumberedPacket, contents, contents_of, ends_with, capture_fault, frames_of, packets_in, packets_of, stamp_of, with_packet}
 use Rattle.xns_captures.specs.Links.{packet_of_frame}
 use Rattle.xns_captures.specs.Reading.{HasRead, HasStopped, Says, StandsAfter, StopsBy, behind_frames, end_in, first_among, most_frames}
 use Rattle.xns_captures.specs.declared.fault.CaptureFault.{CaptureFault}
@@ -45,7 +45,7 @@ packets-of file frames more e =
     ap (λ c. packets_in None 1 c.frames) e ∙ ap (packets_in None 1) (frames-behind frames more) ∙ packets-join None 1 frames more.frames
 
 fault-of : (file : List ℕ) (frames : List FrameBytes) (more : Contents) → contents_of file ≡ behind_frames frames more
-    → fault_of file ≡ more.fault
+    → capture_fault file ≡ more.fault
 fault-of file frames more e = ap (λ c. c.fault) e ∙ fault-behind frames more
 
 -- where nothing is behind these frames
@@ -98,9 +98,9 @@ pub ended : (left after : Option (List ℕ)) (reading : Reading) (read kept : Li
     → Consumes left after read → IsAtEnd after
     → rest_of reading kept ≡ ends_with None
     → ((before : Option (List ℕ)) → first before [] → HasRead reading read kept (stands before))
-    → IfSome left (λ file. (before : Option (List ℕ)) → first before [] → (fault_of file ≡ None) × stands before (packets_of file))
+    → IfSome left (λ file. (before : Option (List ℕ)) → first before [] → (capture_fault file ≡ None) × stands before (packets_of file))
 ended left after reading read kept first stands consumed end rest has =
-    whole_file left after read (λ file. (before : Option (List ℕ)) → first before [] → (fault_of file ≡ None) × stands before (packets_of file)) consumed end
+    whole_file left after read (λ file. (before : Option (List ℕ)) → first before [] → (capture_fault file ≡ None) × stands before (packets_of file)) consumed end
     (λ before said.
     let h = has before said in
     let e = at_end reading read kept (stands before) None rest h in

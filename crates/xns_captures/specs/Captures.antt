@@ -3,7 +3,7 @@ use Rattle.std.specs.Prelude.{ℕ, zero, suc, ◌+◌, nat_lt, if◌then◌else�
 use Rattle.std.specs.Prelude.{Option, Some, None, Ok, Err}
 use Rattle.std.specs.Option.{option_or}
 use Rattle.xns_captures.specs.Links.{packet_of_frame}
-use Rattle.xns_captures.specs.Parts.{Holds, Size, head_count, part_of, size_of}
+use Rattle.xns_captures.specs.Parts.{PartContent, Size, head_count, part_of, size_of}
 use Rattle.xns_captures.specs.declared.fault.CaptureFault.{CaptureFault}
 use Rattle.xns_captures.specs.declared.fault.CaptureFault.TheVariants as fault
 use Rattle.xns_captures.specs.declared.format.Format.{Format}
@@ -50,7 +50,7 @@ behind_part more format interfaces bytes rest (part.Frame frame) = with_frame (f
 behind_part more format interfaces bytes rest (part.Continues next) = more next interfaces rest
 behind_part more format interfaces bytes rest (part.Counted next) = with_frame empty_frame (more next interfaces rest)
 
-abbrev pub behind_whole : More → Format → List Interface → List ℕ → List ℕ → Holds → Contents
+abbrev pub behind_whole : More → Format → List Interface → List ℕ → List ℕ → PartContent → Contents
 behind_whole more format interfaces bytes rest (Ok part) = behind_part more format interfaces bytes rest part
 behind_whole more format interfaces bytes rest (Err fault) = ends_with (Some fault)
 
@@ -66,13 +66,13 @@ behind_head more format interfaces bytes =
     else behind_size more format interfaces bytes (size_of format (take (head_count format) bytes))
 
 -- a file may end behind each part, but not within a long block
-abbrev pub end_of : Format → Option CaptureFault
-end_of (Passing order left total) = Some fault.Cut
-end_of _ = None
+abbrev pub fault_at_end : Format → Option CaptureFault
+fault_at_end (Passing order left total) = Some fault.Cut
+fault_at_end _ = None
 
 -- what a capture holds from here on, within so many parts
 unfoldable pub contents_in : ℕ → More
-contents_in parts format interfaces [] = ends_with (end_of format)
+contents_in parts format interfaces [] = ends_with (fault_at_end format)
 contents_in zero format interfaces (byte ∷ bytes) = ends_with None
 contents_in (suc parts) format interfaces (byte ∷ bytes) = behind_head (contents_in parts) format interfaces (byte ∷ bytes)
 
@@ -88,8 +88,8 @@ contents_of file = contents Unread [] file
 abbrev pub frames_of : List ℕ → List FrameBytes
 frames_of file = (contents_of file).frames
 
-abbrev pub fault_of : List ℕ → Option CaptureFault
-fault_of file = (contents_of file).fault
+abbrev pub capture_fault : List ℕ → Option CaptureFault
+capture_fault file = (contents_of file).fault
 
 -- the number and the time of its frame, and a packet
 abbrev pub NumberedPacket : Type 0

@@ -1,7 +1,7 @@
 -- The internet packet that a frame carries, by its link type.
 use Rattle.std.specs.Prelude.{ℕ, ◌+◌, ◌*◌, ◌==◌, ◌||◌, ◌&&◌, nat_lt, ◌%◌, not, Bool, if◌then◌else◌, List, ◌∷◌, length, take, drop}
 use Rattle.std.specs.Prelude.{slice_index, Option, Some, None, is_some, option_and_then}
-use Rattle.xns_captures.specs.Places.{word_at}
+use Rattle.xns_captures.specs.Places.{word_in_order}
 use Rattle.xns_captures.specs.declared.byte_order.ByteOrder.TheVariants.{Big}
 
 -- the type of frames that carry internet packets
@@ -18,8 +18,8 @@ is_tag kind = kind == 0x8100 || kind == 0x88a8 || kind == 0x9100
 
 -- a header of SNAP (RFC 1042, 802.1H) that has the type
 abbrev pub is_snap : List ℕ → Bool
-is_snap bytes = not (nat_lt (length bytes) 8) && word_at Big bytes 0 == 0xaaaa && word_at Big bytes 2 == 0x0300
-    && (word_at Big bytes 4 == 0x0000 || word_at Big bytes 4 == 0x00f8) && word_at Big bytes 6 == xns_type
+is_snap bytes = not (nat_lt (length bytes) 8) && word_in_order Big bytes 0 == 0xaaaa && word_in_order Big bytes 2 == 0x0300
+    && (word_in_order Big bytes 4 == 0x0000 || word_in_order Big bytes 4 == 0x00f8) && word_in_order Big bytes 6 == xns_type
 
 -- the bytes of a header of LLC, by its control field: an unnumbered one, whose low two bits are 1, has one byte
 abbrev pub llc_count : ℕ → ℕ
@@ -55,19 +55,19 @@ behind_protocol protocol bytes =
 
 -- Ethernet: two hosts of six bytes, and a type or a length
 abbrev pub of_ethernet : List ℕ → Option (List ℕ)
-of_ethernet frame = if nat_lt (length frame) 14 then None else behind_number (word_at Big frame 12) (drop 14 frame)
+of_ethernet frame = if nat_lt (length frame) 14 then None else behind_number (word_in_order Big frame 12) (drop 14 frame)
 
 -- the 3 Mb/s Ethernet: two hosts of one byte, and a type
 abbrev pub of_old_ethernet : List ℕ → Option (List ℕ)
 of_old_ethernet frame =
-    if nat_lt (length frame) 4 then None else if word_at Big frame 2 == xns_type then Some (drop 4 frame) else None
+    if nat_lt (length frame) 4 then None else if word_in_order Big frame 2 == xns_type then Some (drop 4 frame) else None
 
 -- Linux cooked captures: the protocol ends a header of 16 bytes, and begins one of 20
 abbrev pub of_cooked : List ℕ → Option (List ℕ)
-of_cooked frame = if nat_lt (length frame) 16 then None else behind_protocol (word_at Big frame 14) (drop 16 frame)
+of_cooked frame = if nat_lt (length frame) 16 then None else behind_protocol (word_in_order Big frame 14) (drop 16 frame)
 
 abbrev pub of_cooked_2 : List ℕ → Option (List ℕ)
-of_cooked_2 frame = if nat_lt (length frame) 20 then None else behind_protocol (word_at Big frame 0) (drop 20 frame)
+of_cooked_2 frame = if nat_lt (length frame) 20 then None else behind_protocol (word_in_order Big frame 0) (drop 20 frame)
 
 -- how a frame of this link type is read; none where it is not read
 abbrev pub reader_of : ℕ → Option (List ℕ → Option (List ℕ))

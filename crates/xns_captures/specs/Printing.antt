@@ -4,7 +4,7 @@ use Rattle.std.specs.Io.KnownBytes.{Appends}
 use Rattle.xns_lines.specs.Faults.{HasWritten}
 use Rattle.xns_lines.specs.Printing.{EndCount, HasFailed, Output, Stands, TextWithEnd}
 use Rattle.xns_lines.specs.declared.pages.Pages.{Pages}
-use Rattle.xns_captures.specs.Captures.{NumberedPacket, fault_of, packets_of}
+use Rattle.xns_captures.specs.Captures.{NumberedPacket, capture_fault, packets_of}
 use Rattle.xns_captures.specs.Reading.{IsJustified, StandsAfter}
 use Rattle.xns_captures.specs.declared.file_fault.FileFault.{FileFault}
 use Rattle.xns_captures.specs.declared.file_fault.FileFault.TheVariants.{Run, Capture}
@@ -39,7 +39,7 @@ StopsIn text_of end_count fault file before after =
 -- the packets were taken to the end of a file without a fault, and its end
 abbrev pub TakesAll : {P : Type 0} → Output P NumberedPacket → Pages P → Pages P → Option (List ℕ) → Option (List ℕ) → List ℕ → Type 0
 TakesAll output old new held after file = (before : Option (List ℕ)) → Stands output 0 old before held []
-    → (fault_of file ≡ None) × Stands output (output.end_count (packets_of file)) new before after (packets_of file)
+    → (capture_fault file ≡ None) × Stands output (output.end_count (packets_of file)) new before after (packets_of file)
 
 -- the packets were taken up to a fault
 abbrev pub TakesSome : {P : Type 0} → Output P NumberedPacket → FileFault → Pages P → Pages P → Option (List ℕ) → Option (List ℕ) → List ℕ → Type 0

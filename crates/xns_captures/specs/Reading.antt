@@ -4,8 +4,8 @@ use Rattle.xns_lines.specs.Faults.{StandsAfterThing}
 use Rattle.xns_lines.specs.declared.fault.RunFault.{RunFault}
 use Rattle.xns_lines.specs.declared.fault.RunFault.TheVariants as run
 use Rattle.std.specs.Option.{option_or}
-use Rattle.xns_captures.specs.Captures.{Contents, FrameBytes, NumberedPacket, contents, contents_of, end_of, ends_with, frames_of, packets_in, packets_of, with_frame}
-use Rattle.xns_captures.specs.Captures.{fault_of}
+use Rattle.xns_captures.specs.Captures.{Contents, FrameBytes, NumberedPacket, contents, contents_of, fault_at_end, ends_with, frames_of, packets_in, packets_of, with_frame}
+use Rattle.xns_captures.specs.Captures.{capture_fault}
 use Rattle.xns_captures.specs.declared.fault.CaptureFault.{CaptureFault}
 use Rattle.xns_captures.specs.declared.fault.CaptureFault.TheVariants.{Cut}
 use Rattle.xns_captures.specs.declared.file_fault.FileFault.{FileFault}
@@ -42,7 +42,7 @@ StandsAfter _ stands fails packets = stands packets
 
 -- why a file that ends in these bytes, of no whole part, is not whole: one that ends in some bytes of a part is cut
 abbrev pub end_in : Format → List ℕ → Option CaptureFault
-end_in format [] = end_of format
+end_in format [] = fault_at_end format
 end_in format (byte ∷ bytes) = Some Cut
 
 -- a part with so many bytes stands first in these
@@ -93,7 +93,7 @@ pub record HasStopped (fault : FileFault) (read : List ℕ) (left : Says) : Type
 
 -- why it stopped: the capture can't be read on, or has too many frames
 abbrev pub IsJustified : FileFault → List ℕ → Type 0
-IsJustified (Capture fault) file = fault_of file ≡ Some fault
+IsJustified (Capture fault) file = capture_fault file ≡ Some fault
 IsJustified (Run fault) file = IsOfNoLine fault
 IsJustified TooManyFrames file = most_frames < length (frames_of file)
 

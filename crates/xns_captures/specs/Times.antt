@@ -1,7 +1,7 @@
 -- When frames were captured.
 use Rattle.std.specs.Prelude.{ℕ, zero, suc, ◌+◌, ◌-◌, ◌*◌, ◌/◌, ◌^◌, ◌==◌, ◌&&◌, min, nat_lt, if◌then◌else◌, List, length, drop, slice_index}
 use Rattle.std.specs.Prelude.{Option, Some, None, option_and_then}
-use Rattle.xns_captures.specs.Places.{word_at}
+use Rattle.xns_captures.specs.Places.{word_in_order}
 use Rattle.xns_captures.specs.declared.byte_order.ByteOrder.{ByteOrder}
 use Rattle.xns_captures.specs.declared.frame_time.FrameTime.{FrameTime}
 
@@ -31,9 +31,9 @@ digits_of time = min time.resolution 9
 -- an option has a code, the length of its value, and the value, which is filled up to a multiple of four bytes; code 0 ends them
 abbrev pub by_option : ByteOrder → List ℕ → (List ℕ → ℕ) → ℕ
 by_option order options more =
-    if word_at order options 0 == 0 then 6
-    else if word_at order options 0 == 9 && word_at order options 2 == 1 then slice_index options 4
-    else more (drop (4 + (word_at order options 2 + 3) / 4 * 4) options)
+    if word_in_order order options 0 == 0 then 6
+    else if word_in_order order options 0 == 9 && word_in_order order options 2 == 1 then slice_index options 4
+    else more (drop (4 + (word_in_order order options 2 + 3) / 4 * 4) options)
 
 -- within so many options
 abbrev pub resolution_within : ℕ → ByteOrder → List ℕ → ℕ

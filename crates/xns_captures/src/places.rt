@@ -1,13 +1,13 @@
 //! Numbers at a place of a capture.
 ghost use Rattle.std.specs.Prelude.{◌≡◌, ◌+◌, ◌≤◌, drop, length, slice_index};
-ghost use Rattle.xns_captures.specs.Places.{count_at, long_at, word_at};
+ghost use Rattle.xns_captures.specs.Places.{count_at, long_in_order, word_in_order};
 
 use crate::byte_order::ByteOrder;
 
 /// The number of the two bytes at a place.
 pub fn read_word(order: ByteOrder, bytes: &[u8], at: usize) -> u16
     requires { at + 2 ≤ length bytes.now }
-    ensures { result ≡ word_at order bytes.now at }
+    ensures { result ≡ word_in_order order bytes.now at }
 {
     let pair = [bytes[at], bytes[at + 1]];
     match order {
@@ -19,7 +19,7 @@ pub fn read_word(order: ByteOrder, bytes: &[u8], at: usize) -> u16
 /// The number of the four bytes at a place.
 pub fn read_long(order: ByteOrder, bytes: &[u8], at: usize) -> u32
     requires { at + 4 ≤ length bytes.now }
-    ensures { result ≡ long_at order bytes.now at }
+    ensures { result ≡ long_in_order order bytes.now at }
 {
     let four = [bytes[at], bytes[at + 1], bytes[at + 2], bytes[at + 3]];
     match order {

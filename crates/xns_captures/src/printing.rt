@@ -1,7 +1,7 @@
 //! Prints what the packets of a capture say.
 ghost use Rattle.std.specs.Prelude.{◌≡◌, [], None, IfErr, IfOk, IfSome, OnOk};
 ghost use Rattle.std.specs.Io.KnownBytes.{Appends};
-ghost use Rattle.xns_captures.specs.Captures.{fault_of, packets_of};
+ghost use Rattle.xns_captures.specs.Captures.{capture_fault, packets_of};
 ghost use Rattle.xns_lines.specs.Printing.{text_to_end};
 ghost use Rattle.xns_captures.specs.Printing.{StopsIn, TakesAll, TakesSome};
 
@@ -33,7 +33,7 @@ pub fn print_packets<R: Read, W: Write, P: PacketPrinter + Drop>(
         Appends (W.contents writer.old) (W.contents writer.new) (text_to_end P.packets_text P.packet_ends (packets_of file)))) }
     ensures refused { IfOk result (λ refused. IfSome (R.remaining reader.old) (λ file.
         refused ≡ P.refuses (packets_of file) (P.packet_ends (packets_of file)))) }
-    ensures whole { OnOk result (IfSome (R.remaining reader.old) (λ file. fault_of file ≡ None)) }
+    ensures whole { OnOk result (IfSome (R.remaining reader.old) (λ file. capture_fault file ≡ None)) }
 
     // After a fault the text of the packets before it is written; one of the capture comes behind all its packets.
     ensures fault { IfErr result (λ fault. IfSome (R.remaining reader.old) (λ file.

@@ -1,7 +1,7 @@
 //! Reads a capture to its end, packet by packet.
 ghost use Rattle.std.specs.Prelude.{◌≡◌, ◌≤◌, ℕ, List, [], Option, None, Some, IfErr, IfSome, OnOk, drop, vec_len};
 ghost use Rattle.std.specs.Io.KnownBytes.{Consumes};
-ghost use Rattle.xns_captures.specs.Captures.{fault_of, packets_of};
+ghost use Rattle.xns_captures.specs.Captures.{capture_fault, packets_of};
 ghost use Rattle.xns_captures.specs.Reading.{StandsAfter, StopsBy};
 
 use crate::file_fault::FileFault;
@@ -30,7 +30,7 @@ pub fn take_packets<R: Read, T: PacketTaker, W: Write>(
 ) -> Result<(), FileFault>
     ensures ok { OnOk result (IfSome (R.remaining reader.old) (λ file.
         (before : Option (List ℕ)) → T.stands taker.old before (W.contents writer.old) []
-        → (fault_of file ≡ None) × T.stands taker.new before (W.contents writer.new) (packets_of file))) }
+        → (capture_fault file ≡ None) × T.stands taker.new before (W.contents writer.new) (packets_of file))) }
     ensures err { IfErr result (λ fault. IfSome (R.remaining reader.old) (λ file.
         (before : Option (List ℕ)) → T.stands taker.old before (W.contents writer.old) []
         → StopsBy fault file (StandsAfter fault (T.stands taker.new before (W.contents writer.new))

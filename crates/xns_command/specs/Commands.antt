@@ -9,16 +9,16 @@ use Rattle.xns_lines.specs.declared.fault.RunFault.{RunFault}
 use Rattle.xns_sim.specs.Sim as sim
 
 -- what is printed for an input; the programs name the calls of `calls`
-abbrev pub text_of : Programs → Mode → List ℕ → List ℕ
-text_of programs Dump = dump.dump_text
-text_of programs Calls = calls.calls_text programs
-text_of programs Sim = sim.sim_text
+abbrev pub printed_text : Programs → Mode → List ℕ → List ℕ
+printed_text programs Dump = dump.dump_text
+printed_text programs Calls = calls.calls_text programs
+printed_text programs Sim = sim.sim_text
 
 -- whether a line of the input is refused, or what one says
-abbrev pub is_refused : Programs → Mode → List ℕ → Bool
-is_refused programs Dump = dump.has_refused_line
-is_refused programs Calls = calls.has_refusal programs
-is_refused programs Sim = sim.is_script_refused
+abbrev pub line_is_refused : Programs → Mode → List ℕ → Bool
+line_is_refused programs Dump = dump.has_refused_line
+line_is_refused programs Calls = calls.has_refusal programs
+line_is_refused programs Sim = sim.is_script_refused
 
 -- after a fault: the input, what is left of it, what the writer had before and has after
 abbrev pub StopsIn : Programs → Mode → List ℕ → Option (List ℕ) → Option (List ℕ) → Option (List ℕ) → RunFault → Type 0

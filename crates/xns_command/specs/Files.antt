@@ -6,7 +6,7 @@ use Rattle.xns_calls.specs.declared.times.Times.{Times}
 use Rattle.xns_captures.specs.Parts.{is_capture}
 use Rattle.xns_captures.specs.declared.file_fault.FileFault.{FileFault}
 use Rattle.xns_captures.specs.declared.file_fault.FileFault.TheVariants.{Run}
-use Rattle.xns_command.specs.Commands.{StopsIn, is_refused, text_of}
+use Rattle.xns_command.specs.Commands.{StopsIn, line_is_refused, printed_text}
 use Rattle.xns_command.specs.declared.mode.Mode.{Mode}
 use Rattle.xns_command.specs.declared.mode.Mode.TheVariants.{Calls, Dump}
 use Rattle.xns_dump.specs.Dump.Capture as dump
@@ -15,13 +15,13 @@ use Rattle.xns_dump.specs.Dump.Capture as dump
 abbrev pub text_as : Programs → Bool → Times → Mode → List ℕ → List ℕ
 text_as programs true times Dump = dump.dump_capture_text
 text_as programs true times Calls = calls.calls_capture_text programs times
-text_as programs _ times mode = text_of programs mode
+text_as programs _ times mode = printed_text programs mode
 
 -- whether something in it is refused
 abbrev pub is_refused_as : Programs → Bool → Times → Mode → List ℕ → Bool
 is_refused_as programs true times Dump = dump.has_refused_packet
 is_refused_as programs true times Calls = calls.has_file_refusal programs times
-is_refused_as programs _ times mode = is_refused programs mode
+is_refused_as programs _ times mode = line_is_refused programs mode
 
 -- after a fault of lines
 abbrev pub StopsInLines : Programs → Mode → List ℕ → Option (List ℕ) → Option (List ℕ) → Option (List ℕ) → FileFault → Type 0

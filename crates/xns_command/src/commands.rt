@@ -1,7 +1,7 @@
 //! The commands of the program.
 ghost use Rattle.std.specs.Prelude.{◌≡◌, IfErr, IfOk, IfSome};
 ghost use Rattle.std.specs.Io.KnownBytes.{Appends};
-ghost use Rattle.xns_command.specs.Commands.{StopsIn, is_refused, text_of};
+ghost use Rattle.xns_command.specs.Commands.{StopsIn, line_is_refused, printed_text};
 
 use crate::mode::Mode;
 use courier_programs::Program;
@@ -25,8 +25,8 @@ pub fn perform<R: Read, W: Write>(
     writer: &mut W,
 ) -> Result<bool, RunFault>
     ensures text { IfOk result (λ refused. IfSome (R.remaining reader.old) (λ input.
-        Appends (W.contents writer.old) (W.contents writer.new) (text_of programs.entry mode input))) }
-    ensures refused { IfOk result (λ refused. IfSome (R.remaining reader.old) (λ input. refused ≡ is_refused programs.entry mode input)) }
+        Appends (W.contents writer.old) (W.contents writer.new) (printed_text programs.entry mode input))) }
+    ensures refused { IfOk result (λ refused. IfSome (R.remaining reader.old) (λ input. refused ≡ line_is_refused programs.entry mode input)) }
     ensures fault { IfErr result (λ fault. IfSome (R.remaining reader.old) (λ input.
         StopsIn programs.entry mode input (R.remaining reader.new) (W.contents writer.old) (W.contents writer.new) fault)) }
 {

@@ -18,7 +18,7 @@ use Rattle.xns_connection.specs.Closing.{closing_item, drains, end_reply_stream,
 use Rattle.xns_connection.specs.Connecting.{is_dead, why_over}
 use Rattle.xns_connection.specs.Deeds.{heard, shut}
 use Rattle.xns_connection.specs.Giving.{Giving, GivesAs, giving, next_unless}
-use Rattle.xns_connection.specs.Moving.{Moves, Scene, closed_up, converses, drained_out, drains_only, ended, may_end, may_reply, noting, replied, settled_by, taken_many}
+use Rattle.xns_connection.specs.Moving.{Moves, ConversationScene, closed_up, converses, drained_out, drains_only, with_end_out, may_end, may_reply, noting, replied, settled_by, taken_many}
 use Rattle.xns_connection.specs.Step.{GivesNext, MovesOwed, Step, TheDeadAreSilent}
 use Rattle.xns_connection.specs.declared.connection.Connection.{Connection}
 use Rattle.xns_connection.specs.declared.conversation.Conversation.{Conversation}
@@ -62,44 +62,44 @@ dead_gives now r old new dead g =
 
 -- ---- the side is as it was
 
-ended_side : (x : Scene) → (ended x).side ≡ x.side
+ended_side : (x : ConversationScene) → (with_end_out x).side ≡ x.side
 ended_side x = by (may_end x && is_ok (send_answer x.state (closing_item end_stream))) where
   by : (b : Bool)
       → (if b then record x { closing = record x.closing { end_sent = true }; state = after_send x.state (closing_item end_stream) } else x).side ≡ x.side
   by true = refl
   by false = refl
 
-replied_side : (x : Scene) → (replied x).side ≡ x.side
+replied_side : (x : ConversationScene) → (replied x).side ≡ x.side
 replied_side x = by (may_reply x && is_ok (send_answer x.state (closing_item end_reply_stream))) where
   by : (b : Bool)
       → (if b then record x { closing = record x.closing { reply_sent = true }; state = after_send x.state (closing_item end_reply_stream) } else x).side ≡ x.side
   by true = refl
   by false = refl
 
-noting_side : (o : Option Item) (x : Scene) → (noting o x).side ≡ x.side
+noting_side : (o : Option Item) (x : ConversationScene) → (noting o x).side ≡ x.side
 noting_side None x = refl
 noting_side (Some item) x = refl
 
-taken_side : (n : ℕ) (x : Scene) → (taken_many n x).side ≡ x.side
+taken_side : (n : ℕ) (x : ConversationScene) → (taken_many n x).side ≡ x.side
 unfolding taken_many
 taken_side zero x = refl
-taken_side (suc n) x = let y : Scene = taken_many n x in noting_side (take_answer y.state) y ∙ taken_side n x
+taken_side (suc n) x = let y : ConversationScene = taken_many n x in noting_side (take_answer y.state) y ∙ taken_side n x
 
-drained_side : (x : Scene) → (drained_out x).side ≡ x.side
+drained_side : (x : ConversationScene) → (drained_out x).side ≡ x.side
 drained_side x = by (drains x.side x.closing) where
   by : (b : Bool) → (if b then taken_many (waiting_count x.state) x else x).side ≡ x.side
   by true = taken_side (waiting_count x.state) x
   by false = refl
 
-closed_side : (x : Scene) → (closed_up x).side ≡ x.side
-closed_side x = replied_side (drained_out (ended x)) ∙ (drained_side (ended x) ∙ ended_side x)
+closed_side : (x : ConversationScene) → (closed_up x).side ≡ x.side
+closed_side x = replied_side (drained_out (with_end_out x)) ∙ (drained_side (with_end_out x) ∙ ended_side x)
 
-settled_side : {x mid to : Scene} {r : Result (Unit {0}) FeedRefusal} → drains x.side x.closing ≡ true → Moves x r mid → to ≡ settled_by r mid
+settled_side : {x mid to : ConversationScene} {r : Result (Unit {0}) FeedRefusal} → drains x.side x.closing ≡ true → Moves x r mid → to ≡ settled_by r mid
     → to.side ≡ x.side
-settled_side {x} drain (drains_only d) is = ap (λ (y : Scene). y.side) is ∙ closed_side x
+settled_side {x} drain (drains_only d) is = ap (λ (y : ConversationScene). y.side) is ∙ closed_side x
 settled_side drain (converses free c) is = absurd (cc)
 
-shut_side : (was closed : Option Why) (x : Scene) → (shut was closed x).side ≡ x.side
+shut_side : (was closed : Option Why) (x : ConversationScene) → (shut was closed x).side ≡ x.side
 shut_side (Some w) closed x = refl
 shut_side None None x = refl
 shut_side None (Some w) x = refl

@@ -24,7 +24,7 @@ use Rattle.xns_spp.specs.State.{State}
 use Rattle.xns_spp.specs.declared.item.Item.{Item}
 use Rattle.xns_connection.specs.Closing.{drains, closing_items, Knows}
 use Rattle.xns_connection.specs.Deeds.{Deed, nothing, asked, made, gave, took, heard, answered_for, done, handed_by, side_answered, side_called, side_taken, told_by, wanted_by, with_answer, with_taken}
-use Rattle.xns_connection.specs.Moving.{Scene, scene}
+use Rattle.xns_connection.specs.Moving.{ConversationScene, conversation_scene}
 use Rattle.xns_connection.specs.Refusing.{answer_fault, call_fault, side_answer_fault, side_call_fault}
 use Rattle.xns_connection.specs.Step.{May}
 use Rattle.xns_connection.specs.Story.{Story, SideHas, CallerHas, ServerHas, asked_of, is_called, is_stopped, listed_call, out_of, waiting_message, with_handed}
@@ -58,7 +58,7 @@ pub record Underneath : Type 0 where
   pub stays : OtherStepsAcceptAndHandUpNothing
 
 -- the side is another, and the story too, but for what its end did
-says_other : (x : Scene) (h m : Story) (side : Side) → Says x h → SideHas m side → m.fed ≡ h.fed → m.given ≡ h.given
+says_other : (x : ConversationScene) (h m : Story) (side : Side) → Says x h → SideHas m side → m.fed ≡ h.fed → m.given ≡ h.given
     → (x.closing.end_sent ≡ true → x.closing.wanted ≡ true → out_of side ≡ out_of x.side)
     → (drains side x.closing ≡ false → drains x.side x.closing ≡ false) → Says (record x { side = side }) m
 says_other x h m side s has fed given out still =
@@ -117,7 +117,7 @@ given_to laws a None h kind words is may has = absurd (cc)
 given_to laws a (Some k) h kind words is may has =
     let none = no_reason (answer_refusal (Some k) kind words) may in
     let right : answer_refusal a.asked kind words ≡ None = ap (λ (o : Option ℕ). answer_refusal o kind words) is ∙ none in
-    record { has = answers laws.gives h a (answering.answered a (answer_message kind k words)) kind k words is right refl has; fed = refl; given = refl }
+    record { has = answers laws.gives h a (answering.with_answer_out a (answer_message kind k words)) kind k words is right refl has; fed = refl; given = refl }
 
 given : Underneath → (side : Side) (h : Story) (kind : Answer) (words : List ℕ) → side_answer_fault side kind words ≡ None → SideHas h side
     → Gives (side_answered side kind words) h (with_answer (asked_of side) kind words h)
@@ -213,7 +213,7 @@ same_reads side other c stops calls =
     ∙ ap (λ (b : Bool). is_stopped side || ((c.end_sent && b) || (c.reply_sent || c.deaf))) calls
 
 -- a deed does not change whether what comes is read
-pub done_drains : (deed : Deed) (x : Scene) → drains (done deed x).side (done deed x).closing ≡ drains x.side x.closing
+pub done_drains : (deed : Deed) (x : ConversationScene) → drains (done deed x).side (done deed x).closing ≡ drains x.side x.closing
 done_drains nothing x = refl
 done_drains asked x = refl
 done_drains (made call) x = same_reads x.side (side_called x.side call) x.closing (called_stops x.side call) (called_calls x.side call)
@@ -222,7 +222,7 @@ done_drains (gave kind words) x =
 done_drains took x = same_reads x.side (side_taken x.side) x.closing (taken_stops x.side) (taken_calls x.side)
 done_drains (heard bytes) x = refl
 
-pub done_sent : (deed : Deed) (x : Scene) → (done deed x).closing.end_sent ≡ x.closing.end_sent
+pub done_sent : (deed : Deed) (x : ConversationScene) → (done deed x).closing.end_sent ≡ x.closing.end_sent
 done_sent nothing x = refl
 done_sent asked x = refl
 done_sent (made call) x = refl
@@ -230,7 +230,7 @@ done_sent (gave kind words) x = refl
 done_sent took x = refl
 done_sent (heard bytes) x = refl
 
-pub done_wanted : (deed : Deed) (x : Scene) → (done deed x).closing.wanted ≡ wanted_by deed x.closing.wanted
+pub done_wanted : (deed : Deed) (x : ConversationScene) → (done deed x).closing.wanted ≡ wanted_by deed x.closing.wanted
 done_wanted nothing x = refl
 done_wanted asked x = refl
 done_wanted (made call) x = refl
@@ -250,7 +250,7 @@ taken_state : (o : Option Message) (side : Side) (h : Story) → (with_taken o s
 taken_state None side h = refl
 taken_state (Some m) side h = handed_state side h m
 
-pub told_state : (deed : Deed) (t : Conversation) (h : Story) → (done deed (scene t h.state)).state ≡ (told_by deed t.side h).state
+pub told_state : (deed : Deed) (t : Conversation) (h : Story) → (done deed (conversation_scene t h.state)).state ≡ (told_by deed t.side h).state
 told_state nothing t h = refl
 told_state asked t h = refl
 told_state (made call) t h = refl
@@ -260,7 +260,7 @@ told_state (heard bytes) t h = refl
 
 -- as many items wait to be read, or more
 pub done_waits : Underneath → (deed : Deed) (t : Conversation) (s : State) → StandsFor t.endpoint s
-    → waiting_count s ≤ waiting_count (done deed (scene t s)).state
+    → waiting_count s ≤ waiting_count (done deed (conversation_scene t s)).state
 done_waits laws nothing t s stands = omega arith
 done_waits laws asked t s stands = omega arith
 done_waits laws (made call) t s stands = omega arith
@@ -272,13 +272,13 @@ done_waits laws (heard bytes) t s stands =
     let same = (laws.stays.receive s bytes).handed in
     omega (arith, size, same)
 
-pub took_says : CallerHands → ServerHands → (t : Conversation) (h : Story) → Tells t h → Says (done took (scene t h.state)) (told_by took t.side h)
+pub took_says : CallerHands → ServerHands → (t : Conversation) (h : Story) → Tells t h → Says (done took (conversation_scene t h.state)) (told_by took t.side h)
 took_says outcome call t h tells =
     let g = taken outcome call t.side h tells.has in
-    says_other (scene t h.state) h (with_taken (waiting_message t.side) t.side h) (side_taken t.side) (says_of tells) g.has g.fed g.given (λ sent wanted. taken_out t.side)
-    (λ z. sym (done_drains took (scene t h.state)) ∙ z)
+    says_other (conversation_scene t h.state) h (with_taken (waiting_message t.side) t.side h) (side_taken t.side) (says_of tells) g.has g.fed g.given (λ sent wanted. taken_out t.side)
+    (λ z. sym (done_drains took (conversation_scene t h.state)) ∙ z)
 
-pub did : Underneath → (deed : Deed) (t : Conversation) (h : Story) → May t deed → Tells t h → Says (done deed (scene t h.state)) (told_by deed t.side h)
+pub did : Underneath → (deed : Deed) (t : Conversation) (h : Story) → May t deed → Tells t h → Says (done deed (conversation_scene t h.state)) (told_by deed t.side h)
 did laws nothing t h may tells = says_of tells
 did laws asked t h may tells = record {
   has = tells.has;
@@ -290,12 +290,12 @@ did laws asked t h may tells = record {
 }
 did laws (made call) t h may tells =
     let k = may_call (drains t.side t.closing) t.closing.wanted (side_call_fault t.side call) may in
-    says_other (scene t h.state) h (record h { made = h.made ++ call ∷ [] }) (side_called t.side call) (says_of tells)
+    says_other (conversation_scene t h.state) h (record h { made = h.made ++ call ∷ [] }) (side_called t.side call) (says_of tells)
     (called laws t.side h call (reads_on t.side t.closing k.0).going k.2 tells.has) refl refl (λ sent wanted. let never = k.1 in absurd (cc)) (λ z. k.0)
 did laws (gave kind words) t h may tells =
     let k = may_answer (drains t.side t.closing) (side_answer_fault t.side kind words) may in
     let g = given laws t.side h kind words k.1 tells.has in
-    says_other (scene t h.state) h (with_answer (asked_of t.side) kind words h) (side_answered t.side kind words) (says_of tells) g.has g.fed g.given
+    says_other (conversation_scene t h.state) h (with_answer (asked_of t.side) kind words h) (side_answered t.side kind words) (says_of tells) g.has g.fed g.given
     (λ sent wanted. answered_out t.side t.closing kind words k.0 sent) (λ z. k.0)
 did laws took t h may tells = took_says laws.hands_up laws.hands_call t h tells
 did laws (heard bytes) t h may tells =

@@ -30,8 +30,8 @@ use Rattle.xns_connection.specs.Closing.{closing_item, drains, end_reply_stream,
 use Rattle.xns_connection.specs.Connecting.{is_dead}
 use Rattle.xns_connection.specs.Deeds.{Deed, Parts, acted, acted_by, asked, done, gave, heard, made, nothing, shut, took, unserved}
 use Rattle.xns_connection.specs.Ends.{AConnectionKeepsItsEnd, IsSameEnd, KeepsEnd, opener_by, opener_of}
-use Rattle.xns_connection.specs.Giving.{Giving, GivesAs, IsGiving, IsShort, at_first, at_flush, at_word, else_newer, flushed, giving, if_again, newer_of, next_unless, older, older_of}
-use Rattle.xns_connection.specs.Moving.{Converses, Moves, Pumps, Rounds, Scene, again, calms, closed_up, converses, deafened, drained_out, drains_only, ended, may_end, may_reply, noting, once, refuses, refuses_on, replied, scene, settled_by, starves, taken_many}
+use Rattle.xns_connection.specs.Giving.{Giving, GivesAs, IsGiving, MayStopAt, at_first, at_flush, at_word, else_newer, flushed, giving, if_again, newer_of, next_unless, older, older_of}
+use Rattle.xns_connection.specs.Moving.{Converses, Moves, Pumps, Rounds, ConversationScene, again, calms, closed_up, converses, deafened, drained_out, drains_only, with_end_out, may_end, may_reply, noting, once, refuses, refuses_on, replied, conversation_scene, settled_by, starves, taken_many}
 use Rattle.xns_connection.specs.Step.{GivesNext, Hands, MovesOwed, Step, calmly, moving_on, none_waits, parts_of}
 use Rattle.xns_connection.specs.Story.{Runs, flushes, resends, sends, start, takes, tells}
 use Rattle.xns_connection.specs.declared.closing.Closing.{Closing}
@@ -79,7 +79,7 @@ decided_end : (s : State) (r : Result Arrival Dropped) → IsSameEnd s.ends (aft
 decided_end s (Err d) = same_end s.ends s.ends refl
 decided_end s (Ok a) = learned_end s.ends a.packet (is_open s.ends) refl
 
-done_end : (deed : Deed) (x : Scene) → IsSameEnd x.state.ends (done deed x).state.ends
+done_end : (deed : Deed) (x : ConversationScene) → IsSameEnd x.state.ends (done deed x).state.ends
 done_end nothing x = same_end x.state.ends x.state.ends refl
 done_end asked x = same_end x.state.ends x.state.ends refl
 done_end (made call) x = same_end x.state.ends x.state.ends refl
@@ -105,54 +105,54 @@ conversed_ends (starves rounds unlisted) = rounds_ends rounds
 conversed_ends {side} {s} {next} {v} (refuses e p) = pumps_ends side next s v (Err e) p
 conversed_ends (refuses_on {free = other} {next = next} {v = v} {w = w} e rounds still rejected p) = pumps_ends other next v w (Err e) p ∙ rounds_ends rounds
 
-moves_ends : {x y : Scene} {r : Result (Unit {0}) FeedRefusal} → Moves x r y → y.state.ends ≡ x.state.ends
+moves_ends : {x y : ConversationScene} {r : Result (Unit {0}) FeedRefusal} → Moves x r y → y.state.ends ≡ x.state.ends
 moves_ends (drains_only drain) = refl
 moves_ends (converses free c) = conversed_ends c
 
 -- ---- the closing exchange
 
 -- where an item is put out, and where none is, the ends stay as they were
-put_ends : (b : Bool) (x : Scene) (c : Closing) (item : Item)
+put_ends : (b : Bool) (x : ConversationScene) (c : Closing) (item : Item)
     → (if b then record x { closing = c; state = after_send x.state item } else x).state.ends ≡ x.state.ends
 put_ends true x c item = sent_ends (send_fault x.state item) x.state item
 put_ends false x c item = refl
 
-ended_ends : (x : Scene) → (ended x).state.ends ≡ x.state.ends
+ended_ends : (x : ConversationScene) → (with_end_out x).state.ends ≡ x.state.ends
 ended_ends x =
     put_ends (may_end x && is_ok (send_answer x.state (closing_item end_stream))) x (record x.closing { end_sent = true }) (closing_item end_stream)
 
-replied_ends : (x : Scene) → (replied x).state.ends ≡ x.state.ends
+replied_ends : (x : ConversationScene) → (replied x).state.ends ≡ x.state.ends
 replied_ends x =
     put_ends (may_reply x && is_ok (send_answer x.state (closing_item end_reply_stream))) x (record x.closing { reply_sent = true })
     (closing_item end_reply_stream)
 
-noting_ends : (o : Option Item) (x : Scene) → (noting o x).state.ends ≡ x.state.ends
+noting_ends : (o : Option Item) (x : ConversationScene) → (noting o x).state.ends ≡ x.state.ends
 noting_ends None x = refl
 noting_ends (Some item) x = took_ends (take_answer x.state) x.state
 
-taken_ends : (n : ℕ) (x : Scene) → (taken_many n x).state.ends ≡ x.state.ends
+taken_ends : (n : ℕ) (x : ConversationScene) → (taken_many n x).state.ends ≡ x.state.ends
 unfolding taken_many
 taken_ends zero x = refl
-taken_ends (suc n) x = let y : Scene = taken_many n x in noting_ends (take_answer y.state) y ∙ taken_ends n x
+taken_ends (suc n) x = let y : ConversationScene = taken_many n x in noting_ends (take_answer y.state) y ∙ taken_ends n x
 
-drained_ends : (x : Scene) → (drained_out x).state.ends ≡ x.state.ends
+drained_ends : (x : ConversationScene) → (drained_out x).state.ends ≡ x.state.ends
 drained_ends x = by (drains x.side x.closing) where
   by : (b : Bool) → (if b then taken_many (waiting_count x.state) x else x).state.ends ≡ x.state.ends
   by true = taken_ends (waiting_count x.state) x
   by false = refl
 
-closed_ends : (x : Scene) → (closed_up x).state.ends ≡ x.state.ends
-closed_ends x = replied_ends (drained_out (ended x)) ∙ (drained_ends (ended x) ∙ ended_ends x)
+closed_ends : (x : ConversationScene) → (closed_up x).state.ends ≡ x.state.ends
+closed_ends x = replied_ends (drained_out (with_end_out x)) ∙ (drained_ends (with_end_out x) ∙ ended_ends x)
 
-how_ends : {r : Result (Unit {0}) FeedRefusal} {mid to : Scene} → How r mid to → to.state.ends ≡ mid.state.ends
+how_ends : {r : Result (Unit {0}) FeedRefusal} {mid to : ConversationScene} → How r mid to → to.state.ends ≡ mid.state.ends
 how_ends (outcomes.good u mid) = closed_ends mid
 how_ends (outcomes.short mid) = refl
 how_ends (outcomes.bad e mid other) = closed_ends (deafened mid)
 
-settled_ends : (r : Result (Unit {0}) FeedRefusal) (x : Scene) → (settled_by r x).state.ends ≡ x.state.ends
+settled_ends : (r : Result (Unit {0}) FeedRefusal) (x : ConversationScene) → (settled_by r x).state.ends ≡ x.state.ends
 settled_ends r x = how_ends (how r x)
 
-shut_ends : (was closed : Option Why) (x : Scene) → (shut was closed x).state.ends ≡ x.state.ends
+shut_ends : (was closed : Option Why) (x : ConversationScene) → (shut was closed x).state.ends ≡ x.state.ends
 shut_ends (Some why) closed x = refl
 shut_ends None None x = refl
 shut_ends None (Some why) x = refl
@@ -166,13 +166,13 @@ record HasEnds (c : Connection) (e : Ends) : Type 0 where
   ends : state.ends ≡ e
 
 step_ends : (now : ℕ) (deed : Deed) (old new : Connection) (s : State) → StandsFor old.conversation.endpoint s → Step now deed old new
-    → HasEnds new (done deed (scene old.conversation s)).state.ends
+    → HasEnds new (done deed (conversation_scene old.conversation s)).state.ends
 step_ends now deed old new s stands step =
     let m = step.on s stands in
     record {
       state = (shut old.closed new.closed m.to).state;
       stands = m.at.stands;
-      ends = shut_ends old.closed new.closed m.to ∙ (ap (λ (x : Scene). x.state.ends) m.settles.is
+      ends = shut_ends old.closed new.closed m.to ∙ (ap (λ (x : ConversationScene). x.state.ends) m.settles.is
           ∙ (settled_ends step.moved m.settles.mid ∙ moves_ends m.settles.moves));
     }
 
@@ -236,7 +236,7 @@ still_kept old new same = kept old new (λ s stands. same_end s.ends new.convers
 step_keeps : (now : ℕ) (deed : Deed) (old new : Connection) → Step now deed old new → KeepsEnd old new
 step_keeps now deed old new step = kept old new (λ s stands.
     let has = step_ends now deed old new s stands step in
-    subst (λ (e : Ends). IsSameEnd s.ends e) (sym (has_ends new (done deed (scene old.conversation s)).state.ends has)) (done_end deed (scene old.conversation s)))
+    subst (λ (e : Ends). IsSameEnd s.ends e) (sym (has_ends new (done deed (conversation_scene old.conversation s)).state.ends has)) (done_end deed (conversation_scene old.conversation s)))
 
 -- ---- a message that is handed
 
@@ -292,7 +292,7 @@ next_ends : (dead : Bool) (x : Giving) → (next_unless dead x).1.state.ends ≡
 next_ends true x = refl
 next_ends false x = else_ends (older x).0 (older x).1 ∙ older_ends x.packets x
 
-short_ends : {x y : Giving} → IsShort x y → y.state.ends ≡ x.state.ends
+short_ends : {x y : Giving} → MayStopAt x y → y.state.ends ≡ x.state.ends
 short_ends at_first = refl
 short_ends {x} (at_flush none) = older_ends x.packets x
 short_ends {x} (at_word none) = flushed_ends (older x).1 ∙ older_ends x.packets x
@@ -305,7 +305,7 @@ moved_ends false now old mid s stands same =
 given_ends : (r : Result (Option (List ℕ)) AllocError) (mid new : Connection) (s : State) → StandsFor mid.conversation.endpoint s
     → IfOk r (λ p. (v : State) → StandsFor mid.conversation.endpoint v
     → GivesAs (next_unless (is_dead mid.closed) (giving mid.conversation mid.owed v)) p new.conversation new.owed)
-    → OnErr r ((v : State) → StandsFor mid.conversation.endpoint v → (y : Giving) × IsShort (giving mid.conversation mid.owed v) y
+    → OnErr r ((v : State) → StandsFor mid.conversation.endpoint v → (y : Giving) × MayStopAt (giving mid.conversation mid.owed v) y
     × IsGiving new.conversation new.owed y)
     → new.conversation.endpoint.ends ≡ s.ends
 given_ends (Ok p) mid new s stands gives short =

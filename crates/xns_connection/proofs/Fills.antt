@@ -12,7 +12,7 @@ use Rattle.xns_spp.specs.Sending.{take_answer}
 use Rattle.xns_spp.specs.State.{State}
 use Rattle.xns_spp.specs.declared.item.Item.{Item}
 use Rattle.xns_connection.specs.Moving.{Led, Pumps, Rejects, rejects, Rounds, once, again, Converses, calms, starves, refuses, refuses_on}
-use Rattle.xns_connection.specs.Story.{Story, SideHas, CallerHas, ServerHas, GoesOn, Runs, start, IsMoved, IsListed, IsRefused, IsHeld, refused, unrejected, is_called, is_stopped}
+use Rattle.xns_connection.specs.Story.{Story, SideHas, CallerHas, ServerHas, ProgramDoesNothing, Runs, start, IsMoved, IsListed, IsNextRefused, IsHeldBack, refused, unrejected, is_called, is_stopped}
 use Rattle.xns_connection.specs.declared.side.Side.{Side}
 use Rattle.xns_connection.specs.declared.side.Side.TheVariants.{Calls, Answers}
 use Rattle.xns_connection.proofs.Leading.{CallerDone, CallerGives, CallerFeeds, ServerGives, ServerFeeds, ServerRejects, caller_leads, quiet_leads, server_leads, leads_run, same_messages, goes_on, going, gone, stopped_at, server_going, server_gone, server_stopped_at, ends_at, short_at}
@@ -47,14 +47,14 @@ pub record Fills (said : List Item) (side : Side) (s : State) (h : Story) : Type
 -- where a pump stopped: the side is the last one, unless it refused an item
 abbrev pub Stops : Result (Unit {0}) FeedRefusal → (last : Side) → State → (next : Side) → Type 0
 Stops (Ok u) last v next = (next ≡ last) × IsMoved last v
-Stops (Err e) last v next = IsRefused last v e × (e ≡ NoMemory → next ≡ last)
+Stops (Err e) last v next = IsNextRefused last v e × (e ≡ NoMemory → next ≡ last)
 
 pub record HasPumped (said : List Item) (s v : State) (result : Result (Unit {0}) FeedRefusal) (next : Side) (h : Story) : Type 0 where
   pub last : Side
   pub story : Story
   pub before : Fills said last v story
   pub fills : Fills said next v story
-  pub goes : GoesOn (at_end s h) (at_end v story)
+  pub goes : ProgramDoesNothing (at_end s h) (at_end v story)
   pub still : is_stopped last ≡ false
   pub called : is_called last ≡ is_called next
   pub stops : Stops result last v next
@@ -166,7 +166,7 @@ has_pumped below (x ∷ xs) s v r (Answers a) (Answers b) h free fills p = absur
 record HasRejected (said : List Item) (s : State) (side : Side) (h : Story) : Type 0 where
   story : Story
   fills : Fills said side s story
-  goes : GoesOn (at_end s h) (at_end s story)
+  goes : ProgramDoesNothing (at_end s h) (at_end s story)
   still : is_stopped side ≡ false
 
 -- what is behind does not tell one called side from another
@@ -208,7 +208,7 @@ has_rejected below said s side next h free fills (rejects a m u call unlisted) =
 record HasRounds (said : List Item) (s v : State) (next : Side) (h : Story) : Type 0 where
   story : Story
   fills : Fills said next v story
-  goes : GoesOn (at_end s h) (at_end v story)
+  goes : ProgramDoesNothing (at_end s h) (at_end v story)
   still : is_stopped next ≡ false
   moved : IsMoved next v
 
@@ -243,15 +243,15 @@ pub record Until (said : List Item) (s : State) (h : Story) (e : FeedRefusal) (n
   pub last : Side
   pub story : Story
   pub fills : Fills said last v story
-  pub goes : GoesOn (at_end s h) (at_end v story)
+  pub goes : ProgramDoesNothing (at_end s h) (at_end v story)
   pub still : is_stopped last ≡ false
   pub called : is_called last ≡ is_called next
-  pub held : IsHeld last v e
+  pub held : IsHeldBack last v e
 
 pub record HasConversed (said : List Item) (s v : State) (result : Result (Unit {0}) FeedRefusal) (next : Side) (h : Story) : Type 0 where
   pub story : Story
   pub fills : Fills said next v story
-  pub goes : GoesOn (at_end s h) (at_end v story)
+  pub goes : ProgramDoesNothing (at_end s h) (at_end v story)
   pub calm : OnOk result ((is_stopped next ≡ false) × IsMoved next v × IsListed next)
   pub until : IfErr result (λ e. Until said s h e next v)
   pub short : result ≡ Err NoMemory → is_stopped next ≡ false
@@ -268,7 +268,7 @@ has_refused {said} {s} {v} {next} {h} e p = record {
 }
 
 -- a conversation that goes on behind what went on before
-after_all : {said : List Item} {s v w : State} {r : Result (Unit {0}) FeedRefusal} {next : Side} {h m : Story} → GoesOn (at_end s h) (at_end v m)
+after_all : {said : List Item} {s v w : State} {r : Result (Unit {0}) FeedRefusal} {next : Side} {h m : Story} → ProgramDoesNothing (at_end s h) (at_end v m)
     → HasConversed said v w r next m → HasConversed said s w r next h
 after_all {s = s} {v = v} {w = w} {r = Ok u} {h = h} {m = m} g p = record {
   story = p.story;

@@ -13,10 +13,10 @@ use Rattle.xns_spp.specs.Telling.{resend_answer, told_answer}
 use Rattle.xns_connection.specs.Closing.{drains}
 use Rattle.xns_connection.specs.Connecting.{is_dead}
 use Rattle.xns_connection.specs.Deeds.{nothing}
-use Rattle.xns_connection.specs.Giving.{Giving, GivesAs, IsGiving, IsShort, at_first, at_flush, at_word, else_newer, flushed, giving, if_again, newer, newer_of, next_of, next_unless, older, older_of}
+use Rattle.xns_connection.specs.Giving.{Giving, GivesAs, IsGiving, MayStopAt, at_first, at_flush, at_word, else_newer, flushed, giving, if_again, newer, newer_of, next_of, next_unless, older, older_of}
 use Rattle.xns_connection.specs.Step.{AConnectionGivesWhatItMade, AStepKeepsItsPromises, GivesOn, MovesOwed}
 use Rattle.xns_connection.specs.Story.{Runs, Story, flushes, made_on, resends, start, tells}
-use Rattle.xns_connection.specs.Telling.{Gives, Goes, Rested}
+use Rattle.xns_connection.specs.Telling.{GivesNextPacket, Goes, Rested}
 use Rattle.xns_connection.specs.declared.closing.Closing.{Closing}
 use Rattle.xns_connection.specs.declared.connection.Connection.{Connection}
 use Rattle.xns_connection.specs.declared.conversation.Conversation.{Conversation}
@@ -126,7 +126,7 @@ module _ (stay : OtherStepsAcceptAndHandUpNothing) (hear : OtherStepsHearNothing
 
   -- ---- up to where memory was refused
 
-  short_made : {x y : Giving} → IsShort x y → Made x None y
+  short_made : {x y : Giving} → MayStopAt x y → Made x None y
   short_made {x} at_first = made_not x
   short_made {x} (at_flush is) = older_none x is
   short_made {x} (at_word is) = made_on_then (older_none x is) (flush_made (older x).1 (older_gone x.packets x refl is))
@@ -183,7 +183,7 @@ still_free : (t u : Conversation) → u.side ≡ t.side → u.closing ≡ t.clos
 still_free t u same closing z = ap (λ (e : Closing). drains t.side e) (sym closing) ∙ ap (λ (y : Side). drains y u.closing) (sym same) ∙ z
 
 made_gives : (t u : Conversation) (o n : Owed) (packet : Option (List ℕ)) → u.side ≡ t.side → u.closing ≡ t.closing
-    → ((s : State) → StandsFor t.endpoint s → (y : Giving) × Made (giving t o s) packet y × IsGiving u n y) → Gives t u packet
+    → ((s : State) → StandsFor t.endpoint s → (y : Giving) × Made (giving t o s) packet y × IsGiving u n y) → GivesNextPacket t u packet
 made_gives t u o n packet same closing each = gives_by t u packet same closing (λ s stands.
     let k = each s stands in (
       k.0.state,
@@ -192,7 +192,7 @@ made_gives t u o n packet same closing each = gives_by t u packet same closing (
       ap (λ (bs : Packets). option_to_list packet ++ bs) k.2.packets ∙ k.1.made,
     ))
 
-gives_goes : {t u : Conversation} {packet : Option (List ℕ)} → u.side ≡ t.side → u.closing ≡ t.closing → Gives t u packet → Goes t u
+gives_goes : {t u : Conversation} {packet : Option (List ℕ)} → u.side ≡ t.side → u.closing ≡ t.closing → GivesNextPacket t u packet → Goes t u
 gives_goes {t} {u} same closing gives = record {
   still = still_free t u same closing;
   wanted = still_wanted closing;
@@ -211,8 +211,8 @@ rests_by t u o n same closing each = record {
 
 -- ---- of a connection
 
-goes_any : {E : Type 0} {t u : Conversation} (r : Result (Option (List ℕ)) E) → u.side ≡ t.side → u.closing ≡ t.closing → IfOk r (λ o. Gives t u o)
-    → OnErr r (Gives t u None) → Goes t u
+goes_any : {E : Type 0} {t u : Conversation} (r : Result (Option (List ℕ)) E) → u.side ≡ t.side → u.closing ≡ t.closing → IfOk r (λ o. GivesNextPacket t u o)
+    → OnErr r (GivesNextPacket t u None) → Goes t u
 goes_any (Ok o) same closing gives none = gives_goes same closing gives
 goes_any (Err e) same closing gives none = gives_goes same closing none
 
@@ -247,13 +247,13 @@ module _ (law : AStepKeepsItsPromises) (stay : OtherStepsAcceptAndHandUpNothing)
       let y = (next_unless dead (from s)).1 in
       (y, subst (λ (o : Option (List ℕ)). Made (from s) o y) (sym g.0) (unless_made stay hear dead (from s)), g.1)
 
-  gives : (r : Result (Option (List ℕ)) AllocError) → Beside → IfOk r (λ p. Gave p) → IfOk r (λ p. Gives mid.conversation new.conversation p)
+  gives : (r : Result (Option (List ℕ)) AllocError) → Beside → IfOk r (λ p. Gave p) → IfOk r (λ p. GivesNextPacket mid.conversation new.conversation p)
   gives (Ok p) beside gave = made_gives mid.conversation new.conversation mid.owed new.owed p beside.0 beside.1 (gave_made p gave)
   gives (Err e) beside gave = tt
 
   given_none : (r : Result (Option (List ℕ)) AllocError) → Beside
-      → OnErr r ((s : State) → StandsFor mid.conversation.endpoint s → (y : Giving) × IsShort (from s) y × IsGiving new.conversation new.owed y)
-      → OnErr r (Gives mid.conversation new.conversation None)
+      → OnErr r ((s : State) → StandsFor mid.conversation.endpoint s → (y : Giving) × MayStopAt (from s) y × IsGiving new.conversation new.owed y)
+      → OnErr r (GivesNextPacket mid.conversation new.conversation None)
   given_none (Ok p) beside short = tt
   given_none (Err e) beside short = made_gives mid.conversation new.conversation mid.owed new.owed None beside.0 beside.1
       (λ s stands. let k = short s stands in (k.0, short_made stay hear k.1, k.2))
@@ -289,7 +289,7 @@ module _ (law : AStepKeepsItsPromises) (stay : OtherStepsAcceptAndHandUpNothing)
 
   on : (r : Result (Option (List ℕ)) AllocError) → MovesOwed old.owed.moving now old mid → Beside → new.closed ≡ mid.closed
       → IfOk r (λ p. Gave p)
-      → OnErr r ((s : State) → StandsFor mid.conversation.endpoint s → (y : Giving) × IsShort (from s) y × IsGiving new.conversation new.owed y)
+      → OnErr r ((s : State) → StandsFor mid.conversation.endpoint s → (y : Giving) × MayStopAt (from s) y × IsGiving new.conversation new.owed y)
       → GivesOn r old new
   on r moved beside closed gave short =
       let first = moved_first law old.owed.moving now old mid moved in

@@ -7,7 +7,7 @@ use Rattle.xns_spp.specs.State.{State}
 use Rattle.xns_spp.specs.Telling.{resend_answer, told_answer}
 use Rattle.xns_connection.specs.Story.{Story, Runs, start, sends, takes, flushes, resends, tells, made_on}
 use Rattle.xns_connection.specs.Closing.{drains}
-use Rattle.xns_connection.specs.Telling.{Goes, Gives, MovesAndGives}
+use Rattle.xns_connection.specs.Telling.{Goes, GivesNextPacket, MovesAndGives}
 use Rattle.xns_connection.specs.declared.closing.Closing.{Closing}
 use Rattle.xns_connection.specs.declared.conversation.Conversation.{Conversation}
 use Rattle.xns_connection.specs.declared.side.Side.{Side}
@@ -27,7 +27,7 @@ made_then p (resends {v = v} q) = ap (λ (bs : Packets). bs ++ option_to_list (r
 made_then p (tells {v = v} q asks) = ap (λ (bs : Packets). bs ++ option_to_list (told_answer v asks)) (made_then p q) ∙ append_assoc (made_on p) (made_on q) (option_to_list (told_answer v asks))
 
 pub gives_by : (t u : Conversation) (o : Option (List ℕ)) → u.side ≡ t.side → u.closing ≡ t.closing
-    → ((s : State) → StandsFor t.endpoint s → (v : State) × Carries t u s v × (p : Runs s v) × (option_to_list o ++ u.packets.items ≡ t.packets.items ++ made_on p)) → Gives t u o
+    → ((s : State) → StandsFor t.endpoint s → (v : State) × Carries t u s v × (p : Runs s v) × (option_to_list o ++ u.packets.items ≡ t.packets.items ++ made_on p)) → GivesNextPacket t u o
 unfolding same_messages
 gives_by t u o same closing step = record {
   on = λ h tells.
@@ -43,10 +43,10 @@ alone old new made o none after is = ap (λ (bs : Packets). option_to_list o ++ 
 
 -- ---- where memory may be refused
 
-pub moves_and_gives : {E : Type 0} {s t : Conversation} (u : Conversation) (r : Result (Option (List ℕ)) E) → Goes s t → t.packets ≡ s.packets → IfOk r (λ o. Gives t u o) → IfOk r (λ o. MovesAndGives s u o)
+pub moves_and_gives : {E : Type 0} {s t : Conversation} (u : Conversation) (r : Result (Option (List ℕ)) E) → Goes s t → t.packets ≡ s.packets → IfOk r (λ o. GivesNextPacket t u o) → IfOk r (λ o. MovesAndGives s u o)
 moves_and_gives {t = t} u (Ok o) goes same gives = (t, goes, same, gives)
 moves_and_gives u (Err e) goes same gives = tt
 
-pub moves_and_none : {X E : Type 0} {s t : Conversation} (u : Conversation) (r : Result X E) → Goes s t → t.packets ≡ s.packets → OnErr r (Gives t u None) → OnErr r (MovesAndGives s u None)
+pub moves_and_none : {X E : Type 0} {s t : Conversation} (u : Conversation) (r : Result X E) → Goes s t → t.packets ≡ s.packets → OnErr r (GivesNextPacket t u None) → OnErr r (MovesAndGives s u None)
 moves_and_none u (Ok x) goes same gives = tt
 moves_and_none {t = t} u (Err e) goes same gives = (t, goes, same, gives)

@@ -12,9 +12,9 @@ use Rattle.xns_spp.specs.Sending.{waiting_count}
 use Rattle.xns_spp.specs.State.{State}
 use Rattle.xns_connection.specs.Closing.{drains}
 use Rattle.xns_connection.specs.Deeds.{Parts, side_taken, told_by, took}
-use Rattle.xns_connection.specs.Moving.{is_calm, scene}
+use Rattle.xns_connection.specs.Moving.{is_calm, conversation_scene}
 use Rattle.xns_connection.specs.Step.{AMessageIsHandedAsByAStep, AStepKeepsItsPromises, Promises, calmly, is_calm_then, moving_on, none_waits, parts_of}
-use Rattle.xns_connection.specs.Story.{GoesOn, IsListed, IsMoved, Story, has_message, out_of}
+use Rattle.xns_connection.specs.Story.{ProgramDoesNothing, IsListed, IsMoved, Story, has_message, out_of}
 use Rattle.xns_connection.specs.Telling.{Calm, Tells, owes_end}
 use Rattle.xns_connection.specs.declared.connection.Connection.{Connection}
 use Rattle.xns_connection.specs.declared.conversation.Conversation.{Conversation}
@@ -37,7 +37,7 @@ record IsStill (moving : Bool) (t : Conversation) (s : State) : Type 0 where
   none : has_message t.side ≡ false
   few : waiting_count s ≡ 0
 
-is_still : (moving : Bool) (t : Conversation) (s : State) → (not moving && is_calm (scene t s)) ≡ true → IsStill moving t s
+is_still : (moving : Bool) (t : Conversation) (s : State) → (not moving && is_calm (conversation_scene t s)) ≡ true → IsStill moving t s
 is_still moving t s calm = by moving (drains t.side t.closing) t.closing.wanted (has_items (out_of t.side)) (has_message t.side) (waiting_count s == 0)
     refl refl refl refl refl refl calm where
       by : (m a b c d e : Bool) → moving ≡ m → drains t.side t.closing ≡ a → t.closing.wanted ≡ b → has_items (out_of t.side) ≡ c → has_message t.side ≡ d
@@ -58,7 +58,7 @@ owes_reply_drains false b c d shut is = is
 
 -- the story goes on with the message that waits, if one does, and nothing else
 handed_goes_on : CallerHands → ServerHands → (t : Conversation) (h : Story) → Tells t h
-    → (v : Story) × Tells (record t { side = side_taken t.side }) v × GoesOn (told_by took t.side h) v
+    → (v : Story) × Tells (record t { side = side_taken t.side }) v × ProgramDoesNothing (told_by took t.side h) v
 handed_goes_on outcome call t h tells =
     let v : Story = at_end h.state (told_by took t.side h) in (
       v,
@@ -85,7 +85,7 @@ module _ (outcome : CallerHands) (call : ServerHands) (next : TheNextItemIsHande
   unmoved s stands = is_still old.owed.moving u s (calm s stands)
 
   free_before : (s : State) → StandsFor t.endpoint s → drains t.side t.closing ≡ false
-  free_before s stands = sym (done_drains took (scene t s)) ∙ (unmoved s stands).free
+  free_before s stands = sym (done_drains took (conversation_scene t s)) ∙ (unmoved s stands).free
 
   there : {s : State} → StandsFor new.conversation.endpoint s → StandsFor t.endpoint s
   there {s} stands = subst (λ (e : Held). StandsFor e s) end stands
@@ -94,7 +94,7 @@ module _ (outcome : CallerHands) (call : ServerHands) (next : TheNextItemIsHande
   abbrev base : Story → Story
   base h = told_by took t.side h
 
-  went : (h : Story) → Tells t h → (v : Story) × Tells u v × GoesOn (base h) v
+  went : (h : Story) → Tells t h → (v : Story) × Tells u v × ProgramDoesNothing (base h) v
   went h tells = handed_goes_on outcome call t h tells
 
   calm_there : (h : Story) → Tells t h → Calm u u
@@ -112,7 +112,7 @@ module _ (outcome : CallerHands) (call : ServerHands) (next : TheNextItemIsHande
           let v = went h tells in
           let k = (calm_there h tells).on v.0 v.1 in
           let on = goes_on (base h) v.0 k.0 v.2 k.2 in
-          subst (λ (c : Conversation). (m : Story) × Tells c m × GoesOn (base h) m × IsMoved c.side m.state × IsListed c.side) (sym same) (k.0, k.1, on, k.3, k.4);
+          subst (λ (c : Conversation). (m : Story) × Tells c m × ProgramDoesNothing (base h) m × IsMoved c.side m.state × IsListed c.side) (sym same) (k.0, k.1, on, k.3, k.4);
     };
     read = λ quiet kept h tells yes.
         let free = ap (λ (c : Conversation). drains c.side c.closing) same ∙ (unmoved h.state tells.stands).free in

@@ -4,7 +4,7 @@ use Rattle.std.specs.Option.{is_some}
 use Rattle.std.specs.declared.alloc.AllocError.{AllocError}
 use Rattle.courier_messages.specs.declared.message.Message.{Message}
 use Rattle.xns_spp.specs.declared.item.Item.{Item}
-use Rattle.courier_sessions.specs.Answering.{Answering, has_items, why_unlisted, after_call, after_reject, answer_message, answer_refusal, answered}
+use Rattle.courier_sessions.specs.Answering.{Answering, has_items, why_unlisted, after_call, after_reject, answer_message, answer_refusal, with_answer_out}
 use Rattle.courier_sessions.specs.Answerings.{HasAnswered}
 use Rattle.courier_sessions.specs.declared.answer.Answer.{Answer}
 use Rattle.courier_sessions.specs.declared.program.Program.{Program}
@@ -44,15 +44,15 @@ hands law h a n m call listed is has =
 
 abbrev pub ServerAnswers : Type 0
 ServerAnswers = (programs : List Program) (fed given : List Item) (taken handed answers : List Message) (a : Answering) (answer : Answer) (k : ℕ) (words : List ℕ) → HasAnswered programs fed given taken handed answers a → a.asked ≡ Some k → answer_refusal a.asked answer words ≡ None
-    → HasAnswered programs fed given taken handed (answers ++ answer_message answer k words ∷ []) (answered a (answer_message answer k words))
+    → HasAnswered programs fed given taken handed (answers ++ answer_message answer k words ∷ []) (with_answer_out a (answer_message answer k words))
 
-pub answers : ServerAnswers → (h : Story) (a n : Answering) (answer : Answer) (k : ℕ) (words : List ℕ) → a.asked ≡ Some k → answer_refusal a.asked answer words ≡ None → n ≡ answered a (answer_message answer k words) → ServerHas h a
+pub answers : ServerAnswers → (h : Story) (a n : Answering) (answer : Answer) (k : ℕ) (words : List ℕ) → a.asked ≡ Some k → answer_refusal a.asked answer words ≡ None → n ≡ with_answer_out a (answer_message answer k words) → ServerHas h a
     → ServerHas (record h { answers = h.answers ++ answer_message answer k words ∷ [] }) n
 answers law h a n answer k words asked right is has =
     let m : Message = answer_message answer k words in
     let done = law a.programs h.fed h.given h.taken h.handed h.answers (record a { failed = false; phase = has.phase }) answer k words has.done asked right in
     let rejected = one_answered a.programs h.taken h.answers (m ∷ []) has.rejected in
-    let there : ServerHas (record h { answers = h.answers ++ m ∷ [] }) (answered a m) = record { phase = has.phase; done = done; going = has.going; table = has.table; rejected = rejected } in
+    let there : ServerHas (record h { answers = h.answers ++ m ∷ [] }) (with_answer_out a m) = record { phase = has.phase; done = done; going = has.going; table = has.table; rejected = rejected } in
     subst (λ (b : Answering). ServerHas (record h { answers = h.answers ++ m ∷ [] }) b) (sym is) there
 
 -- ---- a call is rejected

@@ -16,10 +16,10 @@ use Rattle.xns_spp.specs.declared.item.Item.{Item}
 use Rattle.xns_connection.specs.Closed.{drains_by, is_closed_now}
 use Rattle.xns_connection.specs.Closing.{closing_item, drains, end_reply_stream, end_stream}
 use Rattle.xns_connection.specs.Connecting.{why_after}
-use Rattle.xns_connection.specs.Deeds.{Deed, Moved, closed_moved, done, is_refused, is_starved, owed_by, shut, told_by, wait_by, wanted_by}
-use Rattle.xns_connection.specs.Moving.{IsAt, Scene, may_end, may_reply, scene}
+use Rattle.xns_connection.specs.Deeds.{Deed, Moved, closed_moved, done, has_refused_item, is_starved, owed_by, shut, told_by, wait_after_deed, wanted_by}
+use Rattle.xns_connection.specs.Moving.{IsAt, ConversationScene, may_end, may_reply, conversation_scene}
 use Rattle.xns_connection.specs.Step.{AStepKeepsItsPromises, Promises, Step}
-use Rattle.xns_connection.specs.Story.{GoesOn, IsListed, IsMoved, Runs, Story, is_called}
+use Rattle.xns_connection.specs.Story.{ProgramDoesNothing, IsListed, IsMoved, Runs, Story, is_called}
 use Rattle.xns_connection.specs.Telling.{GoesUntil, HasLastWord, Tells, is_over, owes_end, owes_reply}
 use Rattle.xns_connection.specs.declared.closing.Closing.{Closing}
 use Rattle.xns_connection.specs.declared.connection.Connection.{Connection}
@@ -47,33 +47,33 @@ same_unacknowledged s v p q = ap (λ (h : Held). h.numbers.accepted - h.numbers.
 
 -- ---- a connection that is closed by the step reads no more
 
-shut_follows : (was closed : Option Why) (to : Scene) → Follows to (shut was closed to)
+shut_follows : (was closed : Option Why) (to : ConversationScene) → Follows to (shut was closed to)
 shut_follows (Some w) closed to = follows_not to
 shut_follows None None to = follows_not to
 shut_follows None (Some w) to = deaf_follows to
 
-shut_same : (was closed : Option Why) (to : Scene) → closed ≡ was → shut was closed to ≡ to
+shut_same : (was closed : Option Why) (to : ConversationScene) → closed ≡ was → shut was closed to ≡ to
 shut_same (Some w) closed to same = refl
 shut_same None None to same = refl
 shut_same None (Some w) to same = absurd (cc)
 
-shut_state : (was closed : Option Why) (to : Scene) → (shut was closed to).state ≡ to.state
+shut_state : (was closed : Option Why) (to : ConversationScene) → (shut was closed to).state ≡ to.state
 shut_state (Some w) closed to = refl
 shut_state None None to = refl
 shut_state None (Some w) to = refl
 
-shut_sent : (was closed : Option Why) (to : Scene) → (shut was closed to).closing.end_sent ≡ to.closing.end_sent
+shut_sent : (was closed : Option Why) (to : ConversationScene) → (shut was closed to).closing.end_sent ≡ to.closing.end_sent
 shut_sent (Some w) closed to = refl
 shut_sent None None to = refl
 shut_sent None (Some w) to = refl
 
-shut_last : (was closed : Option Why) (to : Scene) → HasLastWord to.side to.closing → HasLastWord (shut was closed to).side (shut was closed to).closing
+shut_last : (was closed : Option Why) (to : ConversationScene) → HasLastWord to.side to.closing → HasLastWord (shut was closed to).side (shut was closed to).closing
 shut_last (Some w) closed to last = last
 shut_last None None to last = last
 shut_last None (Some w) to last = record { wanted = last.wanted; answered = last.answered; out = last.out }
 
 -- whether what comes is looked at for the closing exchange alone, as `drains_by` says it of a conversation
-abbrev Reads : (before refused closed_now : Bool) → Scene → Type 0
+abbrev Reads : (before refused closed_now : Bool) → ConversationScene → Type 0
 Reads before refused closed_now y =
     drains y.side y.closing ≡ (before || (refused || (closed_now || (y.closing.end_sent && is_called y.side))))
 
@@ -82,14 +82,14 @@ closed_reads true refused rest = refl
 closed_reads false true rest = refl
 closed_reads false false rest = refl
 
-shut_reads : (was closed : Option Why) (to : Scene) (before refused : Bool)
+shut_reads : (was closed : Option Why) (to : ConversationScene) (before refused : Bool)
     → drains to.side to.closing ≡ (before || (refused || (to.closing.end_sent && is_called to.side)))
     → Reads before refused (is_closed_now was closed) (shut was closed to)
 shut_reads (Some w) closed to before refused is = is
 shut_reads None None to before refused is = is
 shut_reads None (Some w) to before refused is = deaf_drained to ∙ closed_reads before refused (to.closing.end_sent && is_called to.side)
 
-why_then : (was closed : Option Why) (moved : Result (Unit {0}) FeedRefusal) (to : Scene) (s : State) (c : Closing) → was ≡ None
+why_then : (was closed : Option Why) (moved : Result (Unit {0}) FeedRefusal) (to : ConversationScene) (s : State) (c : Closing) → was ≡ None
     → closed ≡ closed_moved was moved to → unacknowledged_count s ≡ unacknowledged_count to.state → c ≡ (shut was closed to).closing
     → closed ≡ why_after c (is_over c s) moved
 why_then (Some w) closed moved to s c none is count same = absurd (cc)
@@ -103,7 +103,7 @@ why_then None closed moved to s c none is count same = is ∙ by closed same whe
 
 -- ---- a story
 
-pub goes_from : (h m : Story) (s : State) → s ≡ h.state → GoesOn (at_end s h) m → GoesOn h m
+pub goes_from : (h m : Story) (s : State) → s ≡ h.state → ProgramDoesNothing (at_end s h) m → ProgramDoesNothing h m
 goes_from h m s same g = record {
   programs = g.programs;
   path = subst (λ (v : State). Runs v m.state) same g.path;
@@ -124,25 +124,25 @@ module _ (below : Below) (under : Underneath) (law : ItemsAreAcceptedOrChangeNot
   t = old.conversation
 
   -- from a history of the end
-  abbrev first : State → Scene
-  first s = done deed (scene t s)
+  abbrev first : State → ConversationScene
+  first s = done deed (conversation_scene t s)
 
-  abbrev moves : (s : State) → StandsFor t.endpoint s → Moved now (first s) step.moved new.conversation (owed_by deed old.owed old.wait s now) new.owed old.closed new.closed (wait_by deed old.wait s now) new.wait
+  abbrev moves : (s : State) → StandsFor t.endpoint s → Moved now (first s) step.moved new.conversation (owed_by deed old.owed old.wait s now) new.owed old.closed new.closed (wait_after_deed deed old.wait s now) new.wait
   moves s stands = step.on s stands
 
   -- the scene of the connection after the step
-  abbrev last : (s : State) → StandsFor t.endpoint s → Scene
+  abbrev last : (s : State) → StandsFor t.endpoint s → ConversationScene
   last s stands = shut old.closed new.closed (moves s stands).to
 
   settles : (s : State) (stands : StandsFor t.endpoint s) → IsSettled (first s) step.moved (moves s stands).to
   settles s stands =
       let k = (moves s stands).settles in
-      is_settled below law k.moves (subst (λ (y : Scene). How step.moved k.mid y) (sym k.is) (how step.moved k.mid))
+      is_settled below law k.moves (subst (λ (y : ConversationScene). How step.moved k.mid y) (sym k.is) (how step.moved k.mid))
 
   story : (h : Story) (tells : Tells t h) → HasSettled (first h.state) step.moved (moves h.state tells.stands).to (told_by deed t.side h)
   story h tells =
       let k = (moves h.state tells.stands).settles in
-      has_settled below law (told_by deed t.side h) (did under deed t h step.may tells) k.moves (subst (λ (y : Scene). How step.moved k.mid y) (sym k.is) (how step.moved k.mid))
+      has_settled below law (told_by deed t.side h) (did under deed t h step.may tells) k.moves (subst (λ (y : ConversationScene). How step.moved k.mid y) (sym k.is) (how step.moved k.mid))
 
   -- a story of the connection goes on so
   tells_last : (h : Story) (tells : Tells t h) → Tells new.conversation (at_end (last h.state tells.stands).state (story h tells).story)
@@ -151,7 +151,7 @@ module _ (below : Below) (under : Underneath) (law : ItemsAreAcceptedOrChangeNot
       let k = story h tells in
       tells_by m.at ((shut_follows old.closed new.closed m.to).says k.story k.says)
 
-  goes_last : (h : Story) (tells : Tells t h) → GoesOn (told_by deed t.side h) (at_end (last h.state tells.stands).state (story h tells).story)
+  goes_last : (h : Story) (tells : Tells t h) → ProgramDoesNothing (told_by deed t.side h) (at_end (last h.state tells.stands).state (story h tells).story)
   goes_last h tells =
       let m = moves h.state tells.stands in
       let k = story h tells in
@@ -174,14 +174,14 @@ module _ (below : Below) (under : Underneath) (law : ItemsAreAcceptedOrChangeNot
   free_last s stands free = (shut_follows old.closed new.closed (moves s stands).to).still (same_drain s stands ∙ free)
 
   calm : new.owed.moving ≡ false → drains new.conversation.side new.conversation.closing ≡ false → (h : Story) → Tells t h
-      → (m : Story) × Tells new.conversation m × GoesOn (told_by deed t.side h) m × IsMoved new.conversation.side m.state × IsListed new.conversation.side
+      → (m : Story) × Tells new.conversation m × ProgramDoesNothing (told_by deed t.side h) m × IsMoved new.conversation.side m.state × IsListed new.conversation.side
   calm still free h tells =
       let m = moves h.state tells.stands in
       let k = story h tells in
       let same = free_last h.state tells.stands free in
-      let moved = k.calm (well h.state tells.stands still) (subst (λ (y : Scene). drains y.side y.closing ≡ false) same (same_drain h.state tells.stands ∙ free)) in
+      let moved = k.calm (well h.state tells.stands still) (subst (λ (y : ConversationScene). drains y.side y.closing ≡ false) same (same_drain h.state tells.stands ∙ free)) in
       let there : IsMoved (last h.state tells.stands).side (last h.state tells.stands).state × IsListed (last h.state tells.stands).side =
-      subst (λ (y : Scene). IsMoved y.side y.state × IsListed y.side) (sym same) moved in (
+      subst (λ (y : ConversationScene). IsMoved y.side y.state × IsListed y.side) (sym same) moved in (
         at_end (last h.state tells.stands).state k.story,
         tells_last h tells,
         goes_last h tells,
@@ -195,10 +195,10 @@ module _ (below : Below) (under : Underneath) (law : ItemsAreAcceptedOrChangeNot
       let m = moves h.state tells.stands in
       let same = shut_same old.closed new.closed m.to kept in
       let said = (settles h.state tells.stands).said (well h.state tells.stands still) in
-      same_waiting v (last h.state tells.stands).state there m.at.stands ∙ ap (λ (y : Scene). waiting_count y.state) same
-      ∙ said.read (subst (λ (y : Scene). drains y.side y.closing ≡ true) same (same_drain h.state tells.stands ∙ drain))
+      same_waiting v (last h.state tells.stands).state there m.at.stands ∙ ap (λ (y : ConversationScene). waiting_count y.state) same
+      ∙ said.read (subst (λ (y : ConversationScene). drains y.side y.closing ≡ true) same (same_drain h.state tells.stands ∙ drain))
 
-  may_last : (may : Scene → Bool) (s : State) (stands : StandsFor t.endpoint s) → may (last s stands) ≡ may (scene new.conversation (last s stands).state)
+  may_last : (may : ConversationScene → Bool) (s : State) (stands : StandsFor t.endpoint s) → may (last s stands) ≡ may (conversation_scene new.conversation (last s stands).state)
   may_last may s stands = ap may (sym (scene_at (moves s stands).at))
 
   said : (s : State) → StandsFor t.endpoint s → new.owed.moving ≡ false → owes_end new.conversation ≡ true → (v : State)
@@ -207,7 +207,7 @@ module _ (below : Below) (under : Underneath) (law : ItemsAreAcceptedOrChangeNot
       let m = moves s stands in
       let same = free_last s stands (undrained new.conversation owes) in
       same_room v (last s stands).state (closing_item end_stream) there m.at.stands
-      ∙ ap (λ (y : Scene). is_ok (send_answer y.state (closing_item end_stream))) same
+      ∙ ap (λ (y : ConversationScene). is_ok (send_answer y.state (closing_item end_stream))) same
       ∙ ((settles s stands).said (well s stands still)).end (ap may_end (sym same) ∙ may_last may_end s stands ∙ owes)
 
   replied : (s : State) → StandsFor t.endpoint s → new.owed.moving ≡ false → new.closed ≡ old.closed → owes_reply new.conversation ≡ true → (v : State)
@@ -216,7 +216,7 @@ module _ (below : Below) (under : Underneath) (law : ItemsAreAcceptedOrChangeNot
       let m = moves s stands in
       let same = shut_same old.closed new.closed m.to kept in
       same_room v (last s stands).state (closing_item end_reply_stream) there m.at.stands
-      ∙ ap (λ (y : Scene). is_ok (send_answer y.state (closing_item end_reply_stream))) same
+      ∙ ap (λ (y : ConversationScene). is_ok (send_answer y.state (closing_item end_reply_stream))) same
       ∙ ((settles s stands).said (well s stands still)).reply (ap may_reply (sym same) ∙ may_last may_reply s stands ∙ owes)
 
   -- up to where its side refused an item
@@ -244,8 +244,8 @@ module _ (below : Below) (under : Underneath) (law : ItemsAreAcceptedOrChangeNot
   reads h tells =
       let m = moves h.state tells.stands in
       subst (λ (b : Bool). drains new.conversation.side new.conversation.closing ≡ drains_by b step.moved (is_closed_now old.closed new.closed) new.conversation)
-      (done_drains deed (scene t h.state))
-      (subst (λ (y : Scene). Reads (drains (first h.state).side (first h.state).closing) (is_refused step.moved) (is_closed_now old.closed new.closed) y) (sym (scene_at m.at))
+      (done_drains deed (conversation_scene t h.state))
+      (subst (λ (y : ConversationScene). Reads (drains (first h.state).side (first h.state).closing) (has_refused_item step.moved) (is_closed_now old.closed new.closed) y) (sym (scene_at m.at))
       (shut_reads old.closed new.closed m.to _ _ (story h tells).reads))
 
   ended : (s : State) → StandsFor t.endpoint s → t.closing.end_sent ≡ false → new.conversation.closing.end_sent ≡ true
@@ -253,8 +253,8 @@ module _ (below : Below) (under : Underneath) (law : ItemsAreAcceptedOrChangeNot
   ended s stands unsent sent =
       let m = moves s stands in
       let there : m.to.closing.end_sent ≡ true = sym (shut_sent old.closed new.closed m.to) ∙ ap (λ (c : Closing). c.end_sent) (sym m.at.closing) ∙ sent in
-      subst (λ (y : Scene). HasLastWord y.side y.closing) (sym (scene_at m.at))
-      (shut_last old.closed new.closed m.to ((settles s stands).ended (done_sent deed (scene t s) ∙ unsent) there))
+      subst (λ (y : ConversationScene). HasLastWord y.side y.closing) (sym (scene_at m.at))
+      (shut_last old.closed new.closed m.to ((settles s stands).ended (done_sent deed (conversation_scene t s) ∙ unsent) there))
 
   room : (s v : State) → StandsFor t.endpoint s → StandsFor new.conversation.endpoint v → waiting_count v < waiting_count s → new.owed.word ≡ true
   room s v stands there less =
@@ -267,7 +267,7 @@ module _ (below : Below) (under : Underneath) (law : ItemsAreAcceptedOrChangeNot
   wanted : (s : State) → StandsFor t.endpoint s → new.conversation.closing.wanted ≡ wanted_by deed old.conversation.closing.wanted
   wanted s stands =
       let m = moves s stands in
-      ap (λ (c : Closing). c.wanted) m.at.closing ∙ (shut_follows old.closed new.closed m.to).wanted ∙ (settles s stands).wanted ∙ done_wanted deed (scene t s)
+      ap (λ (c : Closing). c.wanted) m.at.closing ∙ (shut_follows old.closed new.closed m.to).wanted ∙ (settles s stands).wanted ∙ done_wanted deed (conversation_scene t s)
 
   why : (s : State) → StandsFor t.endpoint s → old.closed ≡ None → (v : State) → StandsFor new.conversation.endpoint v
       → new.closed ≡ why_after new.conversation.closing (is_over new.conversation.closing v) step.moved
@@ -278,8 +278,8 @@ module _ (below : Below) (under : Underneath) (law : ItemsAreAcceptedOrChangeNot
 
   still : (s : State) → StandsFor t.endpoint s → drains new.conversation.side new.conversation.closing ≡ false → drains t.side t.closing ≡ false
   still s stands free =
-      let there = subst (λ (y : Scene). drains y.side y.closing ≡ false) (free_last s stands free) (same_drain s stands ∙ free) in
-      sym (done_drains deed (scene t s)) ∙ (settles s stands).still there
+      let there = subst (λ (y : ConversationScene). drains y.side y.closing ≡ false) (free_last s stands free) (same_drain s stands ∙ free) in
+      sym (done_drains deed (conversation_scene t s)) ∙ (settles s stands).still there
 
   pub kept_by : Promises now deed old new
   kept_by = record {

@@ -20,8 +20,8 @@ use Rattle.xns_spp.specs.declared.send_fault.SendFault.{SendFault}
 use Rattle.courier_sessions.specs.Answering as answering
 use Rattle.courier_sessions.specs.Answering.{Answering, is_busy, transaction_in, why_unlisted, reject_message, after_reject}
 use Rattle.courier_sessions.specs.Answerings.{HasAnswered}
-use Rattle.courier_sessions.specs.Feeding.{heard, most_item}
-use Rattle.courier_sessions.specs.Pumping.{Side as PumpSide, sending, feeding, feeds, moving, caller_side, server_side, Leads, here, on, Refuses, Settles}
+use Rattle.courier_sessions.specs.Feeding.{feed_result, most_item}
+use Rattle.courier_sessions.specs.Pumping.{Side as PumpSide, sending, feeding, feeds, moving, caller_side, server_side, Leads, here, on, RefusesNext, Settles}
 use Rattle.courier_sessions.specs.Talk as talk
 use Rattle.courier_sessions.specs.Talk.{Talk}
 use Rattle.courier_sessions.specs.Talks.{HasDone}
@@ -29,7 +29,7 @@ use Rattle.courier_sessions.specs.declared.feed_refusal.FeedRefusal.{FeedRefusal
 use Rattle.courier_sessions.specs.declared.feed_refusal.FeedRefusal.TheVariants.{Stopped, Busy, TooLong, Attention, Fault, NoMemory}
 use Rattle.courier_sessions.specs.declared.program.Program.{Program}
 use Rattle.courier_sessions.specs.declared.unlisted.Unlisted.{Unlisted}
-use Rattle.xns_connection.specs.Story.{Story, CallerHas, ServerHas, AreRejected, Runs, start, sends, takes, flushes, resends, tells, GoesOn}
+use Rattle.xns_connection.specs.Story.{Story, CallerHas, ServerHas, AreRejected, Runs, start, sends, takes, flushes, resends, tells, ProgramDoesNothing}
 use Rattle.xns_connection.specs.Telling.{Goes}
 use Rattle.xns_connection.specs.declared.conversation.Conversation.{Conversation}
 
@@ -100,7 +100,7 @@ module _ (next : TheNextItemIsHandedUp) (gives : CallerGives) (feeds_one : Calle
   caller_sends t s x xs (Some f) z is h e = absurd (cc)
 
   caller_hears : (t : Talk) (s : State) (x : Item) (r : Result Talk SessionFault) (z : Talk × State) → take_answer s ≡ Some x → talk.after_item t x ≡ r → CallerOver made handed (t, s)
-      → feeding (heard r) (after_take s) ≡ Some (Ok z) → CallerOver made handed z
+      → feeding (feed_result r) (after_take s) ≡ Some (Ok z) → CallerOver made handed z
   caller_hears t s x (Ok n) z is after h e =
       let same : (n, after_take s) ≡ z = cc in
       let fed = feeds_one made (take s.handed s.taken) s.accepted handed t n x h after in
@@ -110,7 +110,7 @@ module _ (next : TheNextItemIsHandedUp) (gives : CallerGives) (feeds_one : Calle
   caller_hears t s x (Err f) z is after h e = absurd (cc)
 
   caller_goes : (t : Talk) (s : State) (x : Item) (stopped calls long : Bool) (z : Talk × State) → take_answer s ≡ Some x → CallerOver made handed (t, s)
-      → feeding (if stopped then Err Stopped else if calls then Err Attention else if long then Err TooLong else heard (talk.after_item t x)) (after_take s) ≡ Some (Ok z) → CallerOver made handed z
+      → feeding (if stopped then Err Stopped else if calls then Err Attention else if long then Err TooLong else feed_result (talk.after_item t x)) (after_take s) ≡ Some (Ok z) → CallerOver made handed z
   caller_goes t s x true calls long z is h e = absurd (cc)
   caller_goes t s x false true long z is h e = absurd (cc)
   caller_goes t s x false false true z is h e = absurd (cc)
@@ -144,7 +144,7 @@ same_out t n None m e =
     sym (ap (λ (u : Talk). u.out) same)
 same_out t n (Some f) m e = absurd (cc)
 
-said_out : (t n : Talk) (ms : List Message) → talk.answered t ms ≡ Ok n → n.out ≡ t.out
+said_out : (t n : Talk) (ms : List Message) → talk.with_ended_messages t ms ≡ Ok n → n.out ≡ t.out
 said_out t n [] e =
     let same : t ≡ n = cc in
     sym (ap (λ (u : Talk). u.out) same)
@@ -153,13 +153,13 @@ said_out t n (m ∷ ms) e = same_out t n (talk.reply_fault t.waiting t.transacti
 item_out : (t n : Talk) (x : Item) → talk.after_item t x ≡ Ok n → n.out ≡ t.out
 item_out t n x e = by (run t.phase (signs x)) e where
   by : (r : Result Phase SessionFault)
-      → (r then λ p. talk.answered (record t { phase = p }) (said t.phase (signs x))) ≡ Ok n → n.out ≡ t.out
+      → (r then λ p. talk.with_ended_messages (record t { phase = p }) (said t.phase (signs x))) ≡ Ok n → n.out ≡ t.out
   by (Ok p) is = said_out (record t { phase = p }) n (said t.phase (signs x)) is
   by (Err f) is = absurd (cc)
 
 module _ (next : TheNextItemIsHandedUp) (feeds_one : CallerFeeds) (made : List RawCall) (handed : List Message) (given accepted : List Item) where
   quiet_hears : (t : Talk) (s : State) (x : Item) (r : Result Talk SessionFault) (z : Talk × State) → take_answer s ≡ Some x → talk.after_item t x ≡ r
-      → CallerDone made handed given accepted (t, s) → feeding (heard r) (after_take s) ≡ Some (Ok z) → CallerDone made handed given accepted z
+      → CallerDone made handed given accepted (t, s) → feeding (feed_result r) (after_take s) ≡ Some (Ok z) → CallerDone made handed given accepted z
   quiet_hears t s x (Ok n) z is after h e =
       let same : (n, after_take s) ≡ z = cc in
       let more = next.some s x is in
@@ -174,7 +174,7 @@ module _ (next : TheNextItemIsHandedUp) (feeds_one : CallerFeeds) (made : List R
   quiet_hears t s x (Err f) z is after h e = absurd (cc)
 
   quiet_goes : (t : Talk) (s : State) (x : Item) (stopped calls long : Bool) (z : Talk × State) → take_answer s ≡ Some x → CallerDone made handed given accepted (t, s)
-      → feeding (if stopped then Err Stopped else if calls then Err Attention else if long then Err TooLong else heard (talk.after_item t x)) (after_take s) ≡ Some (Ok z)
+      → feeding (if stopped then Err Stopped else if calls then Err Attention else if long then Err TooLong else feed_result (talk.after_item t x)) (after_take s) ≡ Some (Ok z)
       → CallerDone made handed given accepted z
   quiet_goes t s x true calls long z is h e = absurd (cc)
   quiet_goes t s x false true long z is h e = absurd (cc)
@@ -209,7 +209,7 @@ module _ (next : TheNextItemIsHandedUp) (gives : ServerGives) (feeds_one : Serve
   server_sends a s x xs (Some f) z is h e = absurd (cc)
 
   server_hears : (a : Answering) (s : State) (x : Item) (r : Result Answering SessionFault) (z : Answering × State) → take_answer s ≡ Some x → answering.after_item a x ≡ r → is_busy a ≡ false → ServerOver programs taken handed answers (a, s)
-      → feeding (heard r) (after_take s) ≡ Some (Ok z) → ServerOver programs taken handed answers z
+      → feeding (feed_result r) (after_take s) ≡ Some (Ok z) → ServerOver programs taken handed answers z
   server_hears a s x (Ok n) z is after free h e =
       let same : (n, after_take s) ≡ z = cc in
       let fed = feeds_one programs (take s.handed s.taken) s.accepted taken handed answers a n x h free after in
@@ -219,7 +219,7 @@ module _ (next : TheNextItemIsHandedUp) (gives : ServerGives) (feeds_one : Serve
   server_hears a s x (Err f) z is after free h e = absurd (cc)
 
   server_goes : (a : Answering) (s : State) (x : Item) (stopped busy calls long : Bool) (z : Answering × State) → take_answer s ≡ Some x → is_busy a ≡ busy → ServerOver programs taken handed answers (a, s)
-      → feeding (if stopped then Err Stopped else if busy then Err Busy else if calls then Err Attention else if long then Err TooLong else heard (answering.after_item a x)) (after_take s) ≡ Some (Ok z) → ServerOver programs taken handed answers z
+      → feeding (if stopped then Err Stopped else if busy then Err Busy else if calls then Err Attention else if long then Err TooLong else feed_result (answering.after_item a x)) (after_take s) ≡ Some (Ok z) → ServerOver programs taken handed answers z
   server_goes a s x true busy calls long z is free h e = absurd (cc)
   server_goes a s x false true calls long z is free h e = absurd (cc)
   server_goes a s x false false true long z is free h e = absurd (cc)
@@ -251,7 +251,7 @@ stopped_by P Q (Stream kind) s k = k s
 stopped_by P Q faults.NoMemory s k = absurd s
 stopped_by P Q Failed s k = absurd s
 
-refused_at : {S : Type 0} (P : Type 0) (side : PumpSide S) (t : S) (o : Option Item) (e : FeedRefusal) (n : S) → Refuses side t o e n → (n ≡ t → P) → (side.stops t n → P) → P
+refused_at : {S : Type 0} (P : Type 0) (side : PumpSide S) (t : S) (o : Option Item) (e : FeedRefusal) (n : S) → RefusesNext side t o e n → (n ≡ t → P) → (side.stops t n → P) → P
 refused_at P side t None e n r same stop = absurd r
 refused_at P side t (Some x) Busy n r same stop = absurd r
 refused_at P side t (Some x) NoMemory n r same stop = same r.0
@@ -267,7 +267,7 @@ ends_at P side last (Err e) n s same stop = refused_at P side last.0 (take_answe
 -- ---- what goes on
 
 -- only the end's own steps were made
-unfoldable pub same_messages : (h m : Story) → Runs h.state m.state → m.programs ≡ h.programs → m.made ≡ h.made → m.handed ≡ h.handed → m.taken ≡ h.taken → m.answers ≡ h.answers → GoesOn h m
+unfoldable pub same_messages : (h m : Story) → Runs h.state m.state → m.programs ≡ h.programs → m.made ≡ h.made → m.handed ≡ h.handed → m.taken ≡ h.taken → m.answers ≡ h.answers → ProgramDoesNothing h m
 same_messages h m path programs made handed taken answers = record {
   programs = programs;
   path = path;
@@ -278,7 +278,7 @@ same_messages h m path programs made handed taken answers = record {
   even = ap (λ (l : List Message). length l + length h.answers) taken ∙ ap (λ (l : List Message). length h.taken + length l) (sym answers);
 }
 
-unfoldable pub goes_on : (h m n : Story) → GoesOn h m → GoesOn m n → GoesOn h n
+unfoldable pub goes_on : (h m n : Story) → ProgramDoesNothing h m → ProgramDoesNothing m n → ProgramDoesNothing h n
 goes_on h m n p q = record {
   programs = q.programs ∙ p.programs;
   path = runs_on p.path q.path;
@@ -289,7 +289,7 @@ goes_on h m n p q = record {
   even = let a = p.even in let b = q.even in omega (arith, a, b);
 }
 
-pub stays : (h : Story) → GoesOn h h
+pub stays : (h : Story) → ProgramDoesNothing h h
 stays h = same_messages h h start refl refl refl refl refl
 
 -- ---- the side that calls
@@ -361,7 +361,7 @@ goes_then p q = record { still = λ z. p.still (q.still z); wanted = λ z. q.wan
 -- ---- up to where an item is refused
 
 -- want of memory leaves the side as it was
-pub short_at : {S : Type 0} (side : PumpSide S) (t : S) (o : Option Item) (e : FeedRefusal) (n : S) → Refuses side t o e n → e ≡ NoMemory → n ≡ t
+pub short_at : {S : Type 0} (side : PumpSide S) (t : S) (o : Option Item) (e : FeedRefusal) (n : S) → RefusesNext side t o e n → e ≡ NoMemory → n ≡ t
 short_at side t None e n r short = absurd r
 short_at side t (Some x) Busy n r short = absurd r
 short_at side t (Some x) NoMemory n r short = r.0

@@ -20,7 +20,7 @@ use Rattle.xns_spp.specs.State.{State}
 use Rattle.xns_connection.specs.Acting.{Acts, idling, calling, handing, answering, IsTold}
 use Rattle.xns_connection.specs.Agreeing.{ArePeers, Agree}
 use Rattle.xns_connection.specs.Living.{Deeds, no_deeds, Lives, opens, goes, hears, calls, takes, gives, Reaches, stays, runs, receives, IsLived, ProgramsAgree, to_listed}
-use Rattle.xns_connection.specs.Story.{Story, SideHas, ServerHas, AreRejected, GoesOn, new_story, asked_of, listed_call, waiting_message, with_handed}
+use Rattle.xns_connection.specs.Story.{Story, SideHas, ServerHas, AreRejected, ProgramDoesNothing, new_story, asked_of, listed_call, waiting_message, with_handed}
 use Rattle.xns_connection.specs.Telling.{Tells}
 use Rattle.xns_connection.specs.declared.conversation.Conversation.{Conversation}
 use Rattle.xns_connection.specs.declared.side.Side.{Side}
@@ -71,7 +71,7 @@ record IsBase (programs : Option (List Program)) (start : State) (l : Deeds) (h 
   pub handed : h.handed ≡ l.handed
   pub gave : (ps : List Program) → programs ≡ Some ps → Fits ps h × (l.gave ≡ to_listed ps h.taken h.answers)
 
-step : (programs : List Program) (d : Conversation) (h m : Story) → Fits programs h → GoesOn h m → Tells d m → m.programs ≡ Some programs → to_listed programs m.taken m.answers ≡ to_listed programs h.taken h.answers
+step : (programs : List Program) (d : Conversation) (h m : Story) → Fits programs h → ProgramDoesNothing h m → Tells d m → m.programs ≡ Some programs → to_listed programs m.taken m.answers ≡ to_listed programs h.taken h.answers
 step programs d h m fit on tells is =
     let s = server_of programs m d.side tells.has is in
     let after = fits programs m d.side s in
@@ -86,7 +86,7 @@ step programs d h m fit on tells is =
     (subst (λ (l : List Message). AreRejected programs l (h.answers ++ rs)) (sym is_taken) (subst (λ (l : List Message). AreRejected programs m.taken l) (sym is_answers) rejected)) in
     ap (λ (l : List Message). to_listed programs l m.answers) (sym is_taken) ∙ ap (to_listed programs (h.taken ++ cs)) (sym is_answers) ∙ e
 
-lives_on : {programs : Option (List Program)} {d : Conversation} {start : State} {l : Deeds} {h : Story} → IsBase programs start l h → (m : Story) × Tells d m × GoesOn h m → IsLived programs start d l
+lives_on : {programs : Option (List Program)} {d : Conversation} {start : State} {l : Deeds} {h : Story} → IsBase programs start l h → (m : Story) × Tells d m × ProgramDoesNothing h m → IsLived programs start d l
 lives_on {d = d} {h = h} base x = record {
   story = x.0;
   tells = x.1;
@@ -214,12 +214,12 @@ base_of p (calling call) = called_base call (same_base p)
 base_of {c = c} p (handing m is) = taken_base c.side m p.tells.has is (same_base p)
 base_of {c = c} p (answering kind k words asked) = gave_base c.side k (answer_message kind k words) p.tells.has asked (same_base p)
 
-pub acts_on : (programs : Option (List Program)) (start : State) (c d : Conversation) (l r : Deeds) (h b m : Story) → IsTold programs start c l h → Acts c h l b r → Tells d m → GoesOn b m → IsTold programs start d r m
+pub acts_on : (programs : Option (List Program)) (start : State) (c d : Conversation) (l r : Deeds) (h b m : Story) → IsTold programs start c l h → Acts c h l b r → Tells d m → ProgramDoesNothing b m → IsTold programs start d r m
 unfolding lives_on
 acts_on programs start c d l r h b m told act tells on =
     (lives_on (base_of told.0 (subst (λ (x : Story). Acts c x l b r) (sym told.1) act)) (m, tells, on), refl)
 
-pub hears_on : (programs : Option (List Program)) (start : State) (c d : Conversation) (l : Deeds) (h m : Story) (bytes : List ℕ) → IsTold programs start c l h → Tells d m → GoesOn (record h { state = after_receive h.state bytes }) m → IsTold programs start d l m
+pub hears_on : (programs : Option (List Program)) (start : State) (c d : Conversation) (l : Deeds) (h m : Story) (bytes : List ℕ) → IsTold programs start c l h → Tells d m → ProgramDoesNothing (record h { state = after_receive h.state bytes }) m → IsTold programs start d l m
 unfolding lives_on
 hears_on programs start c d l h m bytes told tells on =
     let base = subst (λ (x : Story). IsBase programs start l (record x { state = after_receive x.state bytes })) told.1 (heard_base bytes (same_base told.0)) in

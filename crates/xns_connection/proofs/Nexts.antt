@@ -8,8 +8,8 @@ use Rattle.xns_spp.specs.Held.{StandsFor}
 use Rattle.xns_spp.specs.State.{State}
 use Rattle.xns_connection.specs.Closing.{wants_word}
 use Rattle.xns_connection.specs.Deeds.{wait_moved}
-use Rattle.xns_connection.specs.Giving.{Giving, GivesAs, IsGiving, IsShort, at_flush, at_word, else_newer, flushed, giving, newer, next_of, next_unless, older}
-use Rattle.xns_connection.specs.Moving.{HasHistory, Scene, scene}
+use Rattle.xns_connection.specs.Giving.{Giving, GivesAs, IsGiving, MayStopAt, at_flush, at_word, else_newer, flushed, giving, newer, next_of, next_unless, older}
+use Rattle.xns_connection.specs.Moving.{HasHistory, ConversationScene, conversation_scene}
 use Rattle.xns_connection.specs.Telling.{waits}
 use Rattle.xns_connection.specs.declared.conversation.Conversation.{Conversation}
 use Rattle.xns_connection.specs.declared.owed.Owed.{Owed}
@@ -36,15 +36,15 @@ next_at (Err e) t0 t u o0 o v first then_new = tt
 pub next_short : (r : Result (Option (List ℕ)) AllocError) (t0 t u : Conversation) (o0 o v : Owed)
     → ((s : State) → StandsFor t0.endpoint s → GivesAs (older (giving t0 o0 s)) None t o)
     → OnErr r ((s : State) → StandsFor t.endpoint s → IsGiving u v (giving t o s) ⊎ IsGiving u v (flushed (giving t o s)))
-    → OnErr r ((s : State) → StandsFor t0.endpoint s → (y : Giving) × IsShort (giving t0 o0 s) y × IsGiving u v y)
+    → OnErr r ((s : State) → StandsFor t0.endpoint s → (y : Giving) × MayStopAt (giving t0 o0 s) y × IsGiving u v y)
 next_short (Ok p) t0 t u o0 o v first short = tt
 next_short (Err e) t0 t u o0 o v first short = λ s stands. by s (first s stands) where
-  by : (s : State) → GivesAs (older (giving t0 o0 s)) None t o → (y : Giving) × IsShort (giving t0 o0 s) y × IsGiving u v y
+  by : (s : State) → GivesAs (older (giving t0 o0 s)) None t o → (y : Giving) × MayStopAt (giving t0 o0 s) y × IsGiving u v y
   by s g = on (short (older (giving t0 o0 s)).1.state g.1.stands) where
     z : Giving
     z = (older (giving t0 o0 s)).1
 
-    on : IsGiving u v (giving t o z.state) ⊎ IsGiving u v (flushed (giving t o z.state)) → (y : Giving) × IsShort (giving t0 o0 s) y × IsGiving u v y
+    on : IsGiving u v (giving t o z.state) ⊎ IsGiving u v (flushed (giving t o z.state)) → (y : Giving) × MayStopAt (giving t0 o0 s) y × IsGiving u v y
     on (inl a) = (z, at_flush (sym g.0), subst (λ (x : Giving). IsGiving u v x) (giving_at g.1) a)
     on (inr b) = (flushed z, at_word (sym g.0), subst (λ (x : Giving). IsGiving u v (flushed x)) (giving_at g.1) b)
 
@@ -81,19 +81,19 @@ pub so_on_err : (r : Result (Option (List ℕ)) AllocError) (b : Bool) → b ≡
 so_on_err (Ok p) b is = tt
 so_on_err (Err e) b is = is
 
-pub waits_closed : (closed : Option Why) (w : Waiting) (x : Scene) (now : ℕ) → closed ≢ None → w ≡ wait_moved closed closed w x now
+pub waits_closed : (closed : Option Why) (w : Waiting) (x : ConversationScene) (now : ℕ) → closed ≢ None → w ≡ wait_moved closed closed w x now
 waits_closed (Some y) w x now some = refl
 waits_closed None w x now some = absurd (some refl)
 
 pub unless_closed : (t : Conversation) (s : State) (closed : Option Why) (w v : Waiting) (now : ℕ) → StandsFor t.endpoint s
     → (closed ≡ None → (s : State) → StandsFor t.endpoint s → v ≡ after_step w (waits s) (wants_word t.side t.closing) now) → (closed ≢ None → v ≡ w)
-    → v ≡ wait_moved closed closed w (scene t s) now
+    → v ≡ wait_moved closed closed w (conversation_scene t s) now
 unless_closed t s (Some x) w v now stands going kept = kept (λ z. cc)
 unless_closed t s None w v now stands going kept = going refl s stands
 
 -- whichever it was, the end keeps a history
 pub given_history : (r : Result (Option (List ℕ)) AllocError) (t u : Conversation) (o v : Owed) → HasHistory t.endpoint
     → IfOk r (λ p. (s : State) → StandsFor t.endpoint s → GivesAs (next_of (giving t o s)) p u v)
-    → OnErr r ((s : State) → StandsFor t.endpoint s → (y : Giving) × IsShort (giving t o s) y × IsGiving u v y) → HasHistory u.endpoint
+    → OnErr r ((s : State) → StandsFor t.endpoint s → (y : Giving) × MayStopAt (giving t o s) y × IsGiving u v y) → HasHistory u.endpoint
 given_history (Ok p) t u o v has gave short = ∥∥₁_map has (λ x. let g = gave x.0 x.1 in ((next_of (giving t o x.0)).1.state, g.1.stands))
 given_history (Err e) t u o v has gave short = ∥∥₁_map has (λ x. let y = short x.0 x.1 in (y.0.state, y.2.stands))

@@ -2,14 +2,14 @@
 use Rattle.std.proofs.Common.{◌≡◌, ◌≢◌, ◌⊎◌, ◌∙◌, inl, inr, ap, refl, sym, subst, List, false, Option, Some, None, Result, Ok, Err}
 use Rattle.courier_messages.specs.declared.message.Message.{Message}
 use Rattle.courier_sessions.specs.Answering.{Answering, after_reject, why_unlisted}
-use Rattle.courier_sessions.specs.Pumping.{Side as PumpSide, Leads, here, on, one_step, Step, moving, feeds, feeding, caller_side, server_side, Settles, Refuses}
+use Rattle.courier_sessions.specs.Pumping.{Side as PumpSide, Leads, here, on, one_step, StepResult, moving, feeds, feeding, caller_side, server_side, Settles, RefusesNext}
 use Rattle.courier_sessions.specs.declared.feed_refusal.FeedRefusal.{FeedRefusal}
 use Rattle.courier_sessions.specs.declared.feed_refusal.FeedRefusal.TheVariants.{Stopped, Busy, TooLong, Attention, Fault, NoMemory}
 use Rattle.courier_sessions.specs.declared.unlisted.Unlisted.{Unlisted}
 use Rattle.xns_spp.specs.Sending.{after_take, take_answer}
 use Rattle.xns_spp.specs.State.{State}
 use Rattle.xns_spp.specs.declared.item.Item.{Item}
-use Rattle.xns_connection.specs.Moving.{Led, Pumps, Rejects, rejects, Rounds, once, again, Converses, calms, starves, refuses, refuses_on, Moves, drains_only, converses, Scene}
+use Rattle.xns_connection.specs.Moving.{Led, Pumps, Rejects, rejects, Rounds, once, again, Converses, calms, starves, refuses, refuses_on, Moves, drains_only, converses, ConversationScene}
 use Rattle.xns_connection.specs.Story.{IsListed, is_stopped}
 use Rattle.xns_connection.specs.declared.side.Side.{Side}
 use Rattle.xns_connection.specs.declared.side.Side.TheVariants.{Calls, Answers}
@@ -85,11 +85,11 @@ lead_steps side here = none
 lead_steps side (on l e) = more (lead_steps side l) e
 
 -- what the last step comes to
-abbrev stop_of : {S : Type 0} → Result (Unit {0}) FeedRefusal → Step S
+abbrev stop_of : {S : Type 0} → Result (Unit {0}) FeedRefusal → StepResult S
 stop_of (Ok u) = None
 stop_of (Err e) = Some (Err e)
 
-refusing : {S : Type 0} (side : PumpSide S) (t : S) (v : State) (o : Option Item) (e : FeedRefusal) (n : S) → Refuses side t o e n → e ≢ NoMemory
+refusing : {S : Type 0} (side : PumpSide S) (t : S) (v : State) (o : Option Item) (e : FeedRefusal) (n : S) → RefusesNext side t o e n → e ≢ NoMemory
     → feeds side t v o ≡ Some (Err e)
 refusing side t v None e n r some = absurd r
 refusing side t v (Some x) Busy n r some = absurd r
@@ -122,8 +122,8 @@ same_stop (Err f) (Err g) e = let same : f ≡ g = cc in ap (λ (x : FeedRefusal
 abbrev StopsOnce : {S : Type 0} → PumpSide S → Type 0
 StopsOnce {S} side = (t n m : S) → side.stops t n → side.stops t m → n ≡ m
 
-same_refused : {S : Type 0} (side : PumpSide S) → StopsOnce side → (t : S) (o : Option Item) (e : FeedRefusal) (n m : S) → Refuses side t o e n
-    → Refuses side t o e m → n ≡ m
+same_refused : {S : Type 0} (side : PumpSide S) → StopsOnce side → (t : S) (o : Option Item) (e : FeedRefusal) (n m : S) → RefusesNext side t o e n
+    → RefusesNext side t o e m → n ≡ m
 same_refused side alone t None e n m p q = absurd p
 same_refused side alone t (Some x) Busy n m p q = absurd p
 same_refused side alone t (Some x) NoMemory n m p q = p.0 ∙ sym q.0
@@ -295,11 +295,11 @@ lasts_once side s r q n m v w (then_refused {mid = mid} {free = free} {v = u} f 
     pumps_once loose n m z v w (Err f) (Err g) (subst (λ (x : State). Pumps loose x (Err f) n v) at (subst (λ (x : Side). Pumps x u (Err f) n v) too k)) l some other
 
 -- what came of moving, and the scene, are the same
-pub record IsOneEnd (r q : Result (Unit {0}) FeedRefusal) (x y : Scene) : Type 0 where
+pub record IsOneEnd (r q : Result (Unit {0}) FeedRefusal) (x y : ConversationScene) : Type 0 where
   pub result : r ≡ q
   pub scene : x ≡ y
 
-pub moves_once : (x : Scene) (r q : Result (Unit {0}) FeedRefusal) (y z : Scene) → Moves x r y → Moves x q z → r ≢ Err NoMemory → q ≢ Err NoMemory
+pub moves_once : (x : ConversationScene) (r q : Result (Unit {0}) FeedRefusal) (y z : ConversationScene) → Moves x r y → Moves x q z → r ≢ Err NoMemory → q ≢ Err NoMemory
     → IsOneEnd r q y z
 moves_once x r q y z (drains_only drain) (drains_only other) some too = record { result = refl; scene = refl }
 moves_once x r q y z (drains_only drain) (converses free c) some too = absurd (cc)
@@ -309,5 +309,5 @@ moves_once x r q y z (converses {next = n} {v = v} free a) (converses {next = m}
     record {
       result = k.result;
       scene =
-          ap (λ (u : Side). let e : Scene = record x { side = u; state = v } in e) k.side ∙ ap (λ (u : State). let e : Scene = record x { side = m; state = u } in e) k.state;
+          ap (λ (u : Side). let e : ConversationScene = record x { side = u; state = v } in e) k.side ∙ ap (λ (u : State). let e : ConversationScene = record x { side = m; state = u } in e) k.state;
     }

@@ -2,15 +2,15 @@
 use Rattle.std.proofs.Common.{◌≡◌, ◌≢◌, refl, true, false, Result, Ok, Err}
 use Rattle.courier_sessions.specs.declared.feed_refusal.FeedRefusal.{FeedRefusal}
 use Rattle.courier_sessions.specs.declared.feed_refusal.FeedRefusal.TheVariants.{Stopped, Busy, TooLong, Attention, Fault, NoMemory}
-use Rattle.xns_connection.specs.Deeds.{is_refused, is_starved}
-use Rattle.xns_connection.specs.Moving.{Scene, closed_up, deafened, settled_by}
+use Rattle.xns_connection.specs.Deeds.{has_refused_item, is_starved}
+use Rattle.xns_connection.specs.Moving.{ConversationScene, closed_up, deafened, settled_by}
 
-pub data How : Result (Unit {0}) FeedRefusal → Scene → Scene → Type 0 where
-  good : (u : Unit {0}) (mid : Scene) → How (Ok u) mid (closed_up mid)
-  short : (mid : Scene) → How (Err NoMemory) mid mid
-  bad : (e : FeedRefusal) (mid : Scene) → e ≢ NoMemory → How (Err e) mid (closed_up (deafened mid))
+pub data How : Result (Unit {0}) FeedRefusal → ConversationScene → ConversationScene → Type 0 where
+  good : (u : Unit {0}) (mid : ConversationScene) → How (Ok u) mid (closed_up mid)
+  short : (mid : ConversationScene) → How (Err NoMemory) mid mid
+  bad : (e : FeedRefusal) (mid : ConversationScene) → e ≢ NoMemory → How (Err e) mid (closed_up (deafened mid))
 
-pub how : (r : Result (Unit {0}) FeedRefusal) (mid : Scene) → How r mid (settled_by r mid)
+pub how : (r : Result (Unit {0}) FeedRefusal) (mid : ConversationScene) → How r mid (settled_by r mid)
 how (Ok u) mid = good u mid
 how (Err NoMemory) mid = short mid
 how (Err Stopped) mid = bad Stopped mid (λ z. cc)
@@ -40,7 +40,7 @@ starved (Err Attention) e = absurd (cc)
 starved (Err (Fault f)) e = absurd (cc)
 
 -- where the side refused none, either nothing was refused, or memory was
-pub unrefused : (e : FeedRefusal) → is_refused (Err e) ≡ false → e ≡ NoMemory
+pub unrefused : (e : FeedRefusal) → has_refused_item (Err e) ≡ false → e ≡ NoMemory
 unrefused NoMemory is = refl
 unrefused Stopped is = absurd (cc)
 unrefused Busy is = absurd (cc)
@@ -48,7 +48,7 @@ unrefused TooLong is = absurd (cc)
 unrefused Attention is = absurd (cc)
 unrefused (Fault f) is = absurd (cc)
 
-pub refused_for : (e : FeedRefusal) → e ≢ NoMemory → is_refused (Err e) ≡ true
+pub refused_for : (e : FeedRefusal) → e ≢ NoMemory → has_refused_item (Err e) ≡ true
 refused_for NoMemory other = absurd (other refl)
 refused_for Stopped other = refl
 refused_for Busy other = refl

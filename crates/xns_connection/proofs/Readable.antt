@@ -13,7 +13,7 @@ use Rattle.courier_messages.specs.declared.message.Message.{Message}
 use Rattle.courier_sessions.specs.Answering as answering
 use Rattle.courier_sessions.specs.Answering.{Answering, is_busy}
 use Rattle.courier_sessions.specs.Answerings.{IsAnswer}
-use Rattle.courier_sessions.specs.Feeding.{heard, most_item}
+use Rattle.courier_sessions.specs.Feeding.{feed_result, most_item}
 use Rattle.courier_sessions.specs.Talk as talk
 use Rattle.courier_sessions.specs.Talk.{Talk}
 use Rattle.courier_sessions.specs.declared.feed_refusal.FeedRefusal.{FeedRefusal}
@@ -90,14 +90,14 @@ short_enough x r = let few = r.short in le-ltb most_item (length x.body) (omega 
 
 -- what an item is told where these are its reasons
 abbrev told : {S : Type 0} (stopped busy attention long : Bool) → Result S SessionFault → Result S FeedRefusal
-told stopped busy attention long r = if stopped then Err Stopped else if busy then Err Busy else if attention then Err Attention else if long then Err TooLong else heard r
+told stopped busy attention long r = if stopped then Err Stopped else if busy then Err Busy else if attention then Err Attention else if long then Err TooLong else feed_result r
 
 none_told : {S : Type 0} (stopped busy attention long : Bool) (r : Result S SessionFault) (n : S) → stopped ≡ false → busy ≡ false → attention ≡ false → long ≡ false → r ≡ Ok n → told stopped busy attention long r ≡ Ok n
 none_told true b c d r n e f g h is = absurd (cc)
 none_told false true c d r n e f g h is = absurd (cc)
 none_told false false true d r n e f g h is = absurd (cc)
 none_told false false false true r n e f g h is = absurd (cc)
-none_told false false false false r n e f g h is = ap heard is
+none_told false false false false r n e f g h is = ap feed_result is
 
 pub caller_reads : (t n : Talk) (x : Item) → IsReadable x → t.failed ≡ false → talk.after_item t x ≡ Ok n → talk.fed t x ≡ Ok n
 caller_reads t n x r going is = none_told t.failed false x.attention (nat_lt most_item (length x.body)) (talk.after_item t x) n going refl r.plain (short_enough x r) is

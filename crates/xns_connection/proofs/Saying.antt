@@ -12,7 +12,7 @@ use Rattle.xns_spp.specs.Sending.{send_answer, after_send, take_answer, after_ta
 use Rattle.xns_spp.specs.State.{State}
 use Rattle.xns_spp.specs.declared.item.Item.{Item}
 use Rattle.xns_connection.specs.Closing.{drains, closing_items, closing_item, put_if, end_stream, end_reply_stream}
-use Rattle.xns_connection.specs.Moving.{Scene, taken_many, drained_out, may_end, may_reply, ended, replied, closed_up, deafened}
+use Rattle.xns_connection.specs.Moving.{ConversationScene, taken_many, drained_out, may_end, may_reply, with_end_out, replied, closed_up, deafened}
 use Rattle.xns_connection.specs.Story.{Story, IsMoved, start, sends, is_called, is_stopped, out_of, owes_answer}
 use Rattle.xns_connection.specs.Telling.{EndsLast, HasLastWord}
 use Rattle.xns_connection.specs.declared.closing.Closing.{Closing}
@@ -25,7 +25,7 @@ use Rattle.xns_connection.proofs.Says.{Closes, ClosesSo, Says, closes_not, close
 
 -- ---- an item is put out
 
-said_says : ItemsAreAcceptedOrChangeNothing → (x : Scene) (item : Item) (c : Closing) → is_ok (send_answer x.state item) ≡ true
+said_says : ItemsAreAcceptedOrChangeNothing → (x : ConversationScene) (item : Item) (c : Closing) → is_ok (send_answer x.state item) ≡ true
     → (drains x.side c ≡ false → drains x.side x.closing ≡ false) → (EndsLast x.side x.closing → EndsLast x.side c)
     → ((g : List Item) → g ++ closing_items c ≡ (g ++ closing_items x.closing) ++ item ∷ []) → KnowsToo x.closing c
     → (h : Story) → Says x h → Says (record x { closing = c; state = after_send x.state item }) h
@@ -44,14 +44,14 @@ said_says law x item c ok free last more too h w =
     }
 
 -- why End may be put out
-record MayEnd (x : Scene) : Type 0 where
+record MayEnd (x : ConversationScene) : Type 0 where
   wanted : x.closing.wanted ≡ true
   free : drains x.side x.closing ≡ false
   unsent : x.closing.end_sent ≡ false
   answered : owes_answer x.side ≡ false
   out : has_items (out_of x.side) ≡ false
 
-why_end : (x : Scene) → may_end x ≡ true → MayEnd x
+why_end : (x : ConversationScene) → may_end x ≡ true → MayEnd x
 why_end x may = by x.closing.wanted (drains x.side x.closing) x.closing.end_sent (owes_answer x.side) (has_items (out_of x.side)) refl refl refl refl refl may where
   by : (a b c d e : Bool) → x.closing.wanted ≡ a → drains x.side x.closing ≡ b → x.closing.end_sent ≡ c → owes_answer x.side ≡ d → has_items (out_of x.side) ≡ e
       → (a && (not b && (not c && (not d && not e)))) ≡ true → MayEnd x
@@ -92,7 +92,7 @@ ended_free side c unsent free =
     ap (λ (b : Bool). b || ((c.end_sent && is_called side) || (c.reply_sent || c.deaf))) r.going
     ∙ ap (λ (b : Bool). (b && is_called side) || (c.reply_sent || c.deaf)) unsent ∙ ap (λ (b : Bool). b || c.deaf) r.reply ∙ r.heard
 
-end_follows : ItemsAreAcceptedOrChangeNothing → (x : Scene) → may_end x ≡ true → is_ok (send_answer x.state (closing_item end_stream)) ≡ true
+end_follows : ItemsAreAcceptedOrChangeNothing → (x : ConversationScene) → may_end x ≡ true → is_ok (send_answer x.state (closing_item end_stream)) ≡ true
     → ClosesSo x (record x { closing = record x.closing { end_sent = true }; state = after_send x.state (closing_item end_stream) })
 end_follows law x may ok =
     let item : Item = closing_item end_stream in
@@ -130,7 +130,7 @@ or_none true = refl
 or_none false = refl
 
 -- behind End what comes is looked at for the closing exchange alone where the side is called
-end_drains : (x : Scene) → MayEnd x
+end_drains : (x : ConversationScene) → MayEnd x
     → drains x.side (record x.closing { end_sent = true }) ≡ (drains x.side x.closing || (true && is_called x.side))
 end_drains x why =
     let r = reads_on x.side x.closing why.free in
@@ -139,28 +139,28 @@ end_drains x why =
     ∙ sym (ap (λ (b : Bool). b || is_called x.side) why.free)
 
 -- whether what comes is looked at for the closing exchange alone: as before, or End is put out at a side that is called
-abbrev pub drains_behind : Scene → Scene → Bool
+abbrev pub drains_behind : ConversationScene → ConversationScene → Bool
 drains_behind x y = drains x.side x.closing || (y.closing.end_sent && is_called y.side)
 
 -- End was put out, if it was
-record PutsEnd (x y : Scene) : Type 0 where
+record PutsEnd (x y : ConversationScene) : Type 0 where
   closes : ClosesSo x y
   said : may_end y ≡ true → is_ok (send_answer y.state (closing_item end_stream)) ≡ false
   reads : drains y.side y.closing ≡ drains_behind x y
   due : x.closing.end_sent ≡ false → y.closing.end_sent ≡ true → HasLastWord y.side y.closing
 
-still_reads : (x : Scene) → drains x.side x.closing ≡ drains_behind x x
+still_reads : (x : ConversationScene) → drains x.side x.closing ≡ drains_behind x x
 still_reads x = drains_self (is_stopped x.side) (x.closing.end_sent && is_called x.side) (x.closing.reply_sent || x.closing.deaf)
 
-not_due : (x : Scene) → x.closing.end_sent ≡ false → x.closing.end_sent ≡ true → HasLastWord x.side x.closing
+not_due : (x : ConversationScene) → x.closing.end_sent ≡ false → x.closing.end_sent ≡ true → HasLastWord x.side x.closing
 not_due x unsent sent = absurd (cc)
 
-ends_by : ItemsAreAcceptedOrChangeNothing → (x : Scene) (m o : Bool) → may_end x ≡ m → is_ok (send_answer x.state (closing_item end_stream)) ≡ o
+ends_by : ItemsAreAcceptedOrChangeNothing → (x : ConversationScene) (m o : Bool) → may_end x ≡ m → is_ok (send_answer x.state (closing_item end_stream)) ≡ o
     → PutsEnd x (if m && o then record x { closing = record x.closing { end_sent = true }; state = after_send x.state (closing_item end_stream) } else x)
 ends_by law x true true may ok = record {
   closes = end_follows law x may ok;
   said = λ again.
-      let y : Scene = record x { closing = record x.closing { end_sent = true }; state = after_send x.state (closing_item end_stream) } in
+      let y : ConversationScene = record x { closing = record x.closing { end_sent = true }; state = after_send x.state (closing_item end_stream) } in
       let twice = (why_end y again).unsent in
       absurd (cc);
   reads = end_drains x (why_end x may);
@@ -171,11 +171,11 @@ ends_by law x true false may ok =
 ends_by law x false o may ok =
     record { closes = closes_so (closes_not x); said = λ again. absurd (cc); reads = still_reads x; due = not_due x }
 
-ends : ItemsAreAcceptedOrChangeNothing → (x : Scene) → PutsEnd x (ended x)
+ends : ItemsAreAcceptedOrChangeNothing → (x : ConversationScene) → PutsEnd x (with_end_out x)
 ends law x = ends_by law x (may_end x) (is_ok (send_answer x.state (closing_item end_stream))) refl refl
 
 -- EndReply was put out, if it was
-record PutsReply (x y : Scene) : Type 0 where
+record PutsReply (x y : ConversationScene) : Type 0 where
   closes : Closes x y
   said : may_reply y ≡ true → is_ok (send_answer y.state (closing_item end_reply_stream)) ≡ false
 
@@ -190,7 +190,7 @@ drains_then true true false d e = absurd (cc)
 drains_then true false c d e = absurd (cc)
 drains_then false b c d e = absurd (cc)
 
-reply_follows : ItemsAreAcceptedOrChangeNothing → (x : Scene) → may_reply x ≡ true → is_ok (send_answer x.state (closing_item end_reply_stream)) ≡ true
+reply_follows : ItemsAreAcceptedOrChangeNothing → (x : ConversationScene) → may_reply x ≡ true → is_ok (send_answer x.state (closing_item end_reply_stream)) ≡ true
     → Closes x (record x { closing = record x.closing { reply_sent = true }; state = after_send x.state (closing_item end_reply_stream) })
 reply_follows law x may ok =
     let item : Item = closing_item end_reply_stream in
@@ -213,24 +213,24 @@ reply_follows law x may ok =
       end = refl;
     }
 
-replies_by : ItemsAreAcceptedOrChangeNothing → (x : Scene) (m o : Bool) → may_reply x ≡ m → is_ok (send_answer x.state (closing_item end_reply_stream)) ≡ o
+replies_by : ItemsAreAcceptedOrChangeNothing → (x : ConversationScene) (m o : Bool) → may_reply x ≡ m → is_ok (send_answer x.state (closing_item end_reply_stream)) ≡ o
     → PutsReply x (if m && o then record x { closing = record x.closing { reply_sent = true }; state = after_send x.state (closing_item end_reply_stream) } else x)
 replies_by law x true true may ok = record {
   closes = reply_follows law x may ok;
   said = λ again.
-      let y : Scene = record x { closing = record x.closing { reply_sent = true }; state = after_send x.state (closing_item end_reply_stream) } in
+      let y : ConversationScene = record x { closing = record x.closing { reply_sent = true }; state = after_send x.state (closing_item end_reply_stream) } in
       let no = unsent y.closing.reply_wanted y.closing.reply_sent (drains y.side y.closing && not (has_items (out_of y.side))) again in
       absurd (cc);
 }
 replies_by law x true false may ok = record { closes = closes_not x; said = λ again. ok }
 replies_by law x false o may ok = record { closes = closes_not x; said = λ again. absurd (cc) }
 
-replies : ItemsAreAcceptedOrChangeNothing → (x : Scene) → PutsReply x (replied x)
+replies : ItemsAreAcceptedOrChangeNothing → (x : ConversationScene) → PutsReply x (replied x)
 replies law x = replies_by law x (may_reply x) (is_ok (send_answer x.state (closing_item end_reply_stream))) refl refl
 
 -- EndReply is put out only where what comes is looked at for the peer's EndReply alone
-reply_drains : (x : Scene) (m o : Bool) → may_reply x ≡ m
-    → (let y : Scene = if m && o then record x { closing = record x.closing { reply_sent = true }; state = after_send x.state (closing_item end_reply_stream) } else x in drains y.side y.closing)
+reply_drains : (x : ConversationScene) (m o : Bool) → may_reply x ≡ m
+    → (let y : ConversationScene = if m && o then record x { closing = record x.closing { reply_sent = true }; state = after_send x.state (closing_item end_reply_stream) } else x in drains y.side y.closing)
     ≡ drains x.side x.closing
 reply_drains x true true may =
     stays_true (is_stopped x.side) (x.closing.end_sent && is_called x.side) x.closing.deaf
@@ -239,7 +239,7 @@ reply_drains x true false may = refl
 reply_drains x false o may = refl
 
 -- how many wait is the same
-sent_same : ItemsAreAcceptedOrChangeNothing → (x : Scene) (m o : Bool) (c : Closing) (item : Item) → is_ok (send_answer x.state item) ≡ o
+sent_same : ItemsAreAcceptedOrChangeNothing → (x : ConversationScene) (m o : Bool) (c : Closing) (item : Item) → is_ok (send_answer x.state item) ≡ o
     → waiting_count (if m && o then record x { closing = c; state = after_send x.state item } else x).state ≡ waiting_count x.state
 sent_same law x true true c item ok = law.waiting x.state item ok
 sent_same law x true false c item ok = refl
@@ -248,29 +248,29 @@ sent_same law x false o c item ok = refl
 -- ---- all of it
 
 -- what is said of closing is said
-pub record IsSaid (y : Scene) : Type 0 where
+pub record IsSaid (y : ConversationScene) : Type 0 where
   pub read : drains y.side y.closing ≡ true → waiting_count y.state ≡ 0
   pub end : may_end y ≡ true → is_ok (send_answer y.state (closing_item end_stream)) ≡ false
   pub reply : may_reply y ≡ true → is_ok (send_answer y.state (closing_item end_reply_stream)) ≡ false
 
-pub record ClosesUp (x y : Scene) : Type 0 where
+pub record ClosesUp (x y : ConversationScene) : Type 0 where
   pub closes : ClosesSo x y
   pub said : IsSaid y
   pub reads : drains y.side y.closing ≡ drains_behind x y
   pub due : x.closing.end_sent ≡ false → y.closing.end_sent ≡ true → HasLastWord y.side y.closing
 
-same_last_word : {x y : Scene} → Closes x y → HasLastWord x.side x.closing → HasLastWord y.side y.closing
+same_last_word : {x y : ConversationScene} → Closes x y → HasLastWord x.side x.closing → HasLastWord y.side y.closing
 same_last_word {x} {y} p w = record {
   wanted = p.follows.wanted ∙ w.wanted;
   answered = ap owes_answer p.follows.side ∙ w.answered;
   out = ap out_of p.follows.side ∙ w.out;
 }
 
-pub closes_up : TheNextItemIsHandedUp → ItemsAreAcceptedOrChangeNothing → (x : Scene) → ClosesUp x (closed_up x)
+pub closes_up : TheNextItemIsHandedUp → ItemsAreAcceptedOrChangeNothing → (x : ConversationScene) → ClosesUp x (closed_up x)
 closes_up next law x =
-    let a : Scene = ended x in
-    let b : Scene = drained_out a in
-    let y : Scene = replied b in
+    let a : ConversationScene = with_end_out x in
+    let b : ConversationScene = drained_out a in
+    let y : ConversationScene = replied b in
     let p = ends law x in
     let q = drains_out next a in
     let r = replies law b in
@@ -283,7 +283,7 @@ closes_up next law x =
         read = λ yes. same ∙ q.none (sym q.drain ∙ sym (reply_drains b _ _ refl) ∙ yes);
         end = λ may.
             let is : y ≡ a = (follows_then q.closes.follows r.closes.follows).still (why_end y may).free in
-            ap (λ (w : Scene). is_ok (send_answer w.state (closing_item end_stream))) is ∙ p.said (sym (ap may_end is) ∙ may);
+            ap (λ (w : ConversationScene). is_ok (send_answer w.state (closing_item end_stream))) is ∙ p.said (sym (ap may_end is) ∙ may);
         reply = r.said;
       };
       reads = reply_drains b _ _ refl ∙ q.drain ∙ p.reads
@@ -294,10 +294,10 @@ closes_up next law x =
 
 -- ---- one that reads no more does so for good
 
-taken_drained : (n : ℕ) (x : Scene) → drains x.side x.closing ≡ true → drains (taken_many n x).side (taken_many n x).closing ≡ true
+taken_drained : (n : ℕ) (x : ConversationScene) → drains x.side x.closing ≡ true → drains (taken_many n x).side (taken_many n x).closing ≡ true
 unfolding taken_many
 taken_drained zero x drain = drain
-taken_drained (suc n) x drain = let y : Scene = taken_many n x in noting_drains y (take_answer y.state) ∙ taken_drained n x drain
+taken_drained (suc n) x drain = let y : ConversationScene = taken_many n x in noting_drains y (take_answer y.state) ∙ taken_drained n x drain
 
 ended_too : (a b c d : Bool) → (a || ((b && c) || d)) ≡ true → (a || (c || d)) ≡ true
 ended_too true b c d e = refl
@@ -305,21 +305,21 @@ ended_too false true c d e = e
 ended_too false false true d e = refl
 ended_too false false false d e = e
 
-ended_drained : (x : Scene) (b : Bool) → drains x.side x.closing ≡ true
-    → (let y : Scene = if b then record x { closing = record x.closing { end_sent = true }; state = after_send x.state (closing_item end_stream) } else x in drains y.side y.closing)
+ended_drained : (x : ConversationScene) (b : Bool) → drains x.side x.closing ≡ true
+    → (let y : ConversationScene = if b then record x { closing = record x.closing { end_sent = true }; state = after_send x.state (closing_item end_stream) } else x in drains y.side y.closing)
     ≡ true
 ended_drained x true drain = ended_too (is_stopped x.side) x.closing.end_sent (is_called x.side) (x.closing.reply_sent || x.closing.deaf) drain
 ended_drained x false drain = drain
 
-out_drained : (x : Scene) (b : Bool) → drains x.side x.closing ≡ true
-    → (let y : Scene = if b then taken_many (waiting_count x.state) x else x in drains y.side y.closing) ≡ true
+out_drained : (x : ConversationScene) (b : Bool) → drains x.side x.closing ≡ true
+    → (let y : ConversationScene = if b then taken_many (waiting_count x.state) x else x in drains y.side y.closing) ≡ true
 out_drained x true drain = taken_drained (waiting_count x.state) x drain
 out_drained x false drain = drain
 
-pub closed_drained : (x : Scene) → drains x.side x.closing ≡ true → drains (closed_up x).side (closed_up x).closing ≡ true
+pub closed_drained : (x : ConversationScene) → drains x.side x.closing ≡ true → drains (closed_up x).side (closed_up x).closing ≡ true
 closed_drained x drain =
-    let a : Scene = ended x in
-    let b : Scene = drained_out a in
+    let a : ConversationScene = with_end_out x in
+    let b : ConversationScene = drained_out a in
     reply_drains b (may_reply b) (is_ok (send_answer b.state (closing_item end_reply_stream))) refl
     ∙ out_drained a (drains a.side a.closing) (ended_drained x (may_end x && is_ok (send_answer x.state (closing_item end_stream))) drain)
 
@@ -329,5 +329,5 @@ last_true false true c = refl
 last_true false false true = refl
 last_true false false false = refl
 
-pub deaf_drained : (x : Scene) → drains (deafened x).side (deafened x).closing ≡ true
+pub deaf_drained : (x : ConversationScene) → drains (deafened x).side (deafened x).closing ≡ true
 deaf_drained x = last_true (is_stopped x.side) (x.closing.end_sent && is_called x.side) x.closing.reply_sent

@@ -8,9 +8,9 @@ use Rattle.xns_spp.specs.Laws.{ItemsAreAcceptedOrChangeNothing}
 use Rattle.xns_spp.specs.State.{State, IsState}
 use Rattle.xns_spp.specs.declared.item.Item.{Item}
 use Rattle.xns_connection.specs.Closing.{closing_item, closing_items, drains, end_reply_stream, end_stream, put_if, Knows}
-use Rattle.xns_connection.specs.Deeds.{is_refused}
-use Rattle.xns_connection.specs.Moving.{IsAt, Scene, Settles, Moves, drains_only, converses, Pumps, Rejects, rejects, Rounds, once, again, Converses, calms, starves, refuses, refuses_on, closed_up, deafened}
-use Rattle.xns_connection.specs.Story.{Story, GoesOn, IsMoved, IsListed, IsHeld, Runs, is_called, is_stopped, out_of}
+use Rattle.xns_connection.specs.Deeds.{has_refused_item}
+use Rattle.xns_connection.specs.Moving.{IsAt, ConversationScene, MovesAll, Moves, drains_only, converses, Pumps, Rejects, rejects, Rounds, once, again, Converses, calms, starves, refuses, refuses_on, closed_up, deafened}
+use Rattle.xns_connection.specs.Story.{Story, ProgramDoesNothing, IsMoved, IsListed, IsHeldBack, Runs, is_called, is_stopped, out_of}
 use Rattle.xns_connection.specs.Telling.{EndsLast, HasLastWord}
 use Rattle.xns_connection.specs.declared.closing.Closing.{Closing}
 use Rattle.xns_connection.specs.declared.conversation.Conversation.{Conversation}
@@ -37,7 +37,7 @@ behind side c reads last = by c.end_sent side refl reads.end last where
   by true (Calls t) is free last = subst (λ (xs : List Item). Behind xs (Calls t)) (items true is) (last is).1
   by true (Answers a) is free last = let never = ap (λ (b : Bool). b && true) (sym is) ∙ free in absurd (cc)
 
-fills_of : (x : Scene) (h : Story) → drains x.side x.closing ≡ false → Says x h → Fills (closing_items x.closing) x.side x.state h
+fills_of : (x : ConversationScene) (h : Story) → drains x.side x.closing ≡ false → Says x h → Fills (closing_items x.closing) x.side x.state h
 fills_of x h free s = record { has = s.has; fed = s.all free; given = s.given; behind = behind x.side x.closing (reads_on x.side x.closing free) s.last }
 
 none_left : (s : State) (h : Story) → h.fed ≡ take s.handed s.taken → drop (length h.fed) (take s.handed s.taken) ≡ []
@@ -53,7 +53,7 @@ ends_last next c wanted f = λ sent. (
   by (Calls t) k = k
   by (Answers a) k = absurd k
 
-says_by : (x : Scene) (h m : Story) (next : Side) (v : State) → drains x.side x.closing ≡ false → Says x h → Fills (closing_items x.closing) next v m
+says_by : (x : ConversationScene) (h m : Story) (next : Side) (v : State) → drains x.side x.closing ≡ false → Says x h → Fills (closing_items x.closing) next v m
     → Says (record x { side = next; state = v }) m
 says_by x h m next v free s f =
     let knows : Knows x.closing [] = subst (Knows x.closing) (none_left x.state h (s.all free)) s.knows in
@@ -110,29 +110,29 @@ conversed_called (refuses_on {free = other} {next = next} {v = v} {w = w} e roun
 -- ---- items move
 
 -- the scene before the side refused an item, and its story
-pub record Refusal (x : Scene) (h : Story) (e : FeedRefusal) : Type 0 where
-  pub last : Scene
+pub record Refusal (x : ConversationScene) (h : Story) (e : FeedRefusal) : Type 0 where
+  pub last : ConversationScene
   pub story : Story
   pub says : Says last story
-  pub goes : GoesOn (at_end x.state h) (at_end last.state story)
+  pub goes : ProgramDoesNothing (at_end x.state h) (at_end last.state story)
   pub still : drains last.side last.closing ≡ false
-  pub held : IsHeld last.side last.state e
+  pub held : IsHeldBack last.side last.state e
   pub fits : IsState last.state
 
-record HasMoved (x : Scene) (r : Result (Unit {0}) FeedRefusal) (y : Scene) (h : Story) : Type 0 where
+record HasMoved (x : ConversationScene) (r : Result (Unit {0}) FeedRefusal) (y : ConversationScene) (h : Story) : Type 0 where
   story : Story
   says : Says y story
-  goes : GoesOn (at_end x.state h) (at_end y.state story)
+  goes : ProgramDoesNothing (at_end x.state h) (at_end y.state story)
   calm : OnOk r (drains y.side y.closing ≡ false → IsMoved y.side y.state × IsListed y.side)
   until : IfErr r (λ e. Refusal x h e)
-  reads : is_refused r ≡ false → drains x.side x.closing ≡ false → drains y.side y.closing ≡ false
+  reads : has_refused_item r ≡ false → drains x.side x.closing ≡ false → drains y.side y.closing ≡ false
 
-still_reads : (x : Scene) (h : Story) (next : Side) (v : State) (r : Result (Unit {0}) FeedRefusal) → is_called next ≡ is_called x.side
-    → drains x.side x.closing ≡ false → HasConversed (closing_items x.closing) x.state v r next h → is_refused r ≡ false → drains next x.closing ≡ false
+still_reads : (x : ConversationScene) (h : Story) (next : Side) (v : State) (r : Result (Unit {0}) FeedRefusal) → is_called next ≡ is_called x.side
+    → drains x.side x.closing ≡ false → HasConversed (closing_items x.closing) x.state v r next h → has_refused_item r ≡ false → drains next x.closing ≡ false
 still_reads x h next v (Ok u) called free k fine = reads_by x.side next x.closing called free k.calm.0
 still_reads x h next v (Err e) called free k fine = reads_by x.side next x.closing called free (k.short (ap Err (unrefused e fine)))
 
-has_moved : Below → {x y : Scene} {r : Result (Unit {0}) FeedRefusal} (h : Story) → Says x h → Moves x r y → HasMoved x r y h
+has_moved : Below → {x y : ConversationScene} {r : Result (Unit {0}) FeedRefusal} (h : Story) → Says x h → Moves x r y → HasMoved x r y h
 has_moved below {x} {y} {r} h s (drains_only drain) = record {
   story = h;
   says = s;
@@ -161,31 +161,31 @@ has_moved below {x} {y} {r} h s (converses {result = result} {next = next} {v = 
       reads = λ fine z. still_reads x h next v result called free k fine;
     }
 
-moves_closing : {x y : Scene} {r : Result (Unit {0}) FeedRefusal} → Moves x r y → y.closing ≡ x.closing
+moves_closing : {x y : ConversationScene} {r : Result (Unit {0}) FeedRefusal} → Moves x r y → y.closing ≡ x.closing
 moves_closing (drains_only drain) = refl
 moves_closing (converses free c) = refl
 
 -- ---- what comes of it
 
-pub record HasSettled (x : Scene) (r : Result (Unit {0}) FeedRefusal) (to : Scene) (h : Story) : Type 0 where
+pub record HasSettled (x : ConversationScene) (r : Result (Unit {0}) FeedRefusal) (to : ConversationScene) (h : Story) : Type 0 where
   pub story : Story
   pub says : Says to story
-  pub goes : GoesOn (at_end x.state h) (at_end to.state story)
+  pub goes : ProgramDoesNothing (at_end x.state h) (at_end to.state story)
   pub calm : r ≢ Err NoMemory → drains to.side to.closing ≡ false → IsMoved to.side to.state × IsListed to.side
   pub until : IfErr r (λ e. Refusal x h e)
-  pub reads : drains to.side to.closing ≡ (drains x.side x.closing || (is_refused r || (to.closing.end_sent && is_called to.side)))
+  pub reads : drains to.side to.closing ≡ (drains x.side x.closing || (has_refused_item r || (to.closing.end_sent && is_called to.side)))
 
-pub goes_follow : {v w : State} (s : State) (h m : Story) → Runs v w → GoesOn (at_end s h) (at_end v m) → GoesOn (at_end s h) (at_end w m)
+pub goes_follow : {v w : State} (s : State) (h m : Story) → Runs v w → ProgramDoesNothing (at_end s h) (at_end v m) → ProgramDoesNothing (at_end s h) (at_end w m)
 goes_follow {v} {w} s h m runs g = goes_on (at_end s h) (at_end v m) (at_end w m) g (same_messages (at_end v m) (at_end w m) runs refl refl refl refl refl)
 
 -- items that move without a refusal do not change whether what comes is read
-moved_reads : {x y : Scene} {r : Result (Unit {0}) FeedRefusal} → Moves x r y → (drains x.side x.closing ≡ false → drains y.side y.closing ≡ false)
+moved_reads : {x y : ConversationScene} {r : Result (Unit {0}) FeedRefusal} → Moves x r y → (drains x.side x.closing ≡ false → drains y.side y.closing ≡ false)
     → drains y.side y.closing ≡ drains x.side x.closing
 moved_reads (drains_only drain) reads = refl
 moved_reads (converses free c) reads = reads free ∙ sym free
 
 -- where memory was refused, nothing was put out, and what was read is read on
-short_reads : {x y : Scene} {r : Result (Unit {0}) FeedRefusal} → Moves x r y → (drains x.side x.closing ≡ false → drains y.side y.closing ≡ false) → r ≡ Err NoMemory
+short_reads : {x y : ConversationScene} {r : Result (Unit {0}) FeedRefusal} → Moves x r y → (drains x.side x.closing ≡ false → drains y.side y.closing ≡ false) → r ≡ Err NoMemory
     → drains y.side y.closing ≡ drains_behind x y
 short_reads (drains_only drain) reads is = absurd (cc)
 short_reads {x} {y} (converses free c) reads is =
@@ -197,10 +197,10 @@ last_or true b = refl
 last_or false b = refl
 
 -- a side that reads no more does so for good
-never : (mid to : Scene) → EndsSo (deafened mid) to → drains to.side to.closing ≡ false → ⊥
+never : (mid to : ConversationScene) → EndsSo (deafened mid) to → drains to.side to.closing ≡ false → ⊥
 never mid to f free = deafens (is_stopped mid.side) (mid.closing.end_sent && is_called mid.side) mid.closing.reply_sent (f.free free)
 
-pub has_settled : Below → ItemsAreAcceptedOrChangeNothing → {x mid to : Scene} {r : Result (Unit {0}) FeedRefusal} (h : Story) → Says x h
+pub has_settled : Below → ItemsAreAcceptedOrChangeNothing → {x mid to : ConversationScene} {r : Result (Unit {0}) FeedRefusal} (h : Story) → Says x h
     → Moves x r mid → How r mid to → HasSettled x r to h
 has_settled below law {x} h s moves (good u mid) =
     let k = has_moved below h s moves in
@@ -237,20 +237,20 @@ has_settled below law {x} h s moves (bad e mid other) =
 
 -- ---- what needs no story
 
-pub record IsSettled (x : Scene) (r : Result (Unit {0}) FeedRefusal) (to : Scene) : Type 0 where
+pub record IsSettled (x : ConversationScene) (r : Result (Unit {0}) FeedRefusal) (to : ConversationScene) : Type 0 where
   pub said : r ≢ Err NoMemory → IsSaid to
   pub wanted : to.closing.wanted ≡ x.closing.wanted
   pub still : drains to.side to.closing ≡ false → drains x.side x.closing ≡ false
   pub ended : x.closing.end_sent ≡ false → to.closing.end_sent ≡ true → HasLastWord to.side to.closing
 
-moves_unsent : {x y : Scene} {r : Result (Unit {0}) FeedRefusal} → Moves x r y → x.closing.end_sent ≡ false → y.closing.end_sent ≡ false
+moves_unsent : {x y : ConversationScene} {r : Result (Unit {0}) FeedRefusal} → Moves x r y → x.closing.end_sent ≡ false → y.closing.end_sent ≡ false
 moves_unsent moves unsent = ap (λ (c : Closing). c.end_sent) (moves_closing moves) ∙ unsent
 
-moves_still : {x y : Scene} {r : Result (Unit {0}) FeedRefusal} → Moves x r y → drains y.side y.closing ≡ false → drains x.side x.closing ≡ false
+moves_still : {x y : ConversationScene} {r : Result (Unit {0}) FeedRefusal} → Moves x r y → drains y.side y.closing ≡ false → drains x.side x.closing ≡ false
 moves_still (drains_only drain) free = free
 moves_still (converses free c) z = free
 
-pub is_settled : Below → ItemsAreAcceptedOrChangeNothing → {x mid to : Scene} {r : Result (Unit {0}) FeedRefusal} → Moves x r mid → How r mid to
+pub is_settled : Below → ItemsAreAcceptedOrChangeNothing → {x mid to : ConversationScene} {r : Result (Unit {0}) FeedRefusal} → Moves x r mid → How r mid to
     → IsSettled x r to
 is_settled below law moves (good u mid) =
     let p = closes_up below.next law mid in
@@ -277,18 +277,18 @@ is_settled below law moves (bad e mid other) =
 
 -- ---- one that reads no more does so for good
 
-moves_drained : {x y : Scene} {r : Result (Unit {0}) FeedRefusal} → Moves x r y → drains x.side x.closing ≡ true → drains y.side y.closing ≡ true
+moves_drained : {x y : ConversationScene} {r : Result (Unit {0}) FeedRefusal} → Moves x r y → drains x.side x.closing ≡ true → drains y.side y.closing ≡ true
 moves_drained (drains_only drain) d = d
 moves_drained (converses free c) d = absurd (cc)
 
-how_drained : {r : Result (Unit {0}) FeedRefusal} {mid to : Scene} → How r mid to → drains mid.side mid.closing ≡ true → drains to.side to.closing ≡ true
+how_drained : {r : Result (Unit {0}) FeedRefusal} {mid to : ConversationScene} → How r mid to → drains mid.side mid.closing ≡ true → drains to.side to.closing ≡ true
 how_drained (good u mid) d = closed_drained mid d
 how_drained (short mid) d = d
 how_drained (bad e mid other) d = closed_drained (deafened mid) (deaf_drained mid)
 
 -- a conversation whose scene settled drains still
-pub still_drained : (t : Conversation) (x to : Scene) (r : Result (Unit {0}) FeedRefusal) → IsAt t to → Settles x r to → drains x.side x.closing ≡ true
+pub still_drained : (t : Conversation) (x to : ConversationScene) (r : Result (Unit {0}) FeedRefusal) → IsAt t to → MovesAll x r to → drains x.side x.closing ≡ true
     → drains t.side t.closing ≡ true
 still_drained t x to r at k d =
     ap (λ (c : Closing). drains t.side c) at.closing ∙ ap (λ (y : Side). drains y to.closing) at.side
-    ∙ how_drained (subst (λ (y : Scene). How r k.mid y) (sym k.is) (how r k.mid)) (moves_drained k.moves d)
+    ∙ how_drained (subst (λ (y : ConversationScene). How r k.mid y) (sym k.is) (how r k.mid)) (moves_drained k.moves d)

@@ -17,10 +17,10 @@ use Rattle.xns_spp.specs.declared.input.Input.{Input}
 use Rattle.xns_spp.specs.State.{State}
 use Rattle.xns_connection.specs.Closing.{wants_word}
 use Rattle.xns_connection.specs.Connecting.{FitsClosed, again_for, goes_again, is_again, is_foreign, owed_after, owed_heard, wait_heard, why_after}
-use Rattle.xns_connection.specs.Moving.{HasHistory, IsAt, Scene, Settles, is_calm, scene}
+use Rattle.xns_connection.specs.Moving.{HasHistory, IsAt, ConversationScene, MovesAll, is_calm, conversation_scene}
 use Rattle.xns_connection.specs.Replying.{reply_by}
 use Rattle.xns_connection.specs.Step.{May, MovesOwed, Step, WaitsBy, is_calm_then, parts_of}
-use Rattle.xns_connection.specs.Deeds.{Deed, Parts, acted, acted_by, given_up, heard, Moved, ClosesThen, GoesOnBy, closed_moved, done, given_up_by, is_starved, owed_by, owed_moved, shut, took, wait_by, wait_moved}
+use Rattle.xns_connection.specs.Deeds.{Deed, Parts, acted, acted_by, given_up, heard, Moved, ClosesThen, GoesOnBy, closed_moved, done, given_up_by, is_starved, owed_by, owed_moved, shut, took, wait_after_deed, wait_moved}
 use Rattle.xns_connection.specs.Telling.{is_over, progress, waits}
 use Rattle.xns_connection.specs.declared.connection.Connection.{Connection}
 use Rattle.xns_connection.specs.declared.conversation.Conversation.{Conversation}
@@ -53,7 +53,7 @@ then_open now t r None None w v none not why_is waits_then steps =
     record { why = why_is; stays = λ z. refl; is = refl; waits = waits_then; steps = steps }
 
 -- a connection is closed, or not, at the scene that its items moved to
-at_left : (t : Conversation) (x : Scene) (was closed : Option Why) → IsAt t x → IsAt (given_up_by was closed t) (shut was closed x)
+at_left : (t : Conversation) (x : ConversationScene) (was closed : Option Why) → IsAt t x → IsAt (given_up_by was closed t) (shut was closed x)
 at_left t x (Some w) closed at = at
 at_left t x None None at = at
 at_left t x None (Some w) at = deaf_at at refl
@@ -74,7 +74,7 @@ left_history now mid new r was closed w v has next =
     subst HasHistory (sym (ap (λ (t : Conversation). t.endpoint) next.is ∙ end_left mid was closed)) has
 
 pub goes_on_by : (now : ℕ) (old mid new : Conversation) (r : Result (Unit {0}) FeedRefusal) (o n : Owed) (was closed : Option Why) (w v : Waiting)
-    → ((s : State) → StandsFor old.endpoint s → (x : Scene) × IsAt mid x × Settles (scene old s) r x) → mid.packets ≡ old.packets
+    → ((s : State) → StandsFor old.endpoint s → (x : ConversationScene) × IsAt mid x × MovesAll (conversation_scene old s) r x) → mid.packets ≡ old.packets
     → ClosesThen now mid r new was closed w v
     → ((s u : State) → StandsFor old.endpoint s → StandsFor mid.endpoint u → n ≡ owed_moved o (is_starved r) (waiting_count s) (waiting_count u))
     → GoesOnBy now old new o n was closed w v
@@ -88,7 +88,7 @@ goes_on_by now old mid new r o n was closed w v settles packets next owes = reco
         at = subst (λ (t : Conversation). IsAt t (shut was closed x.0)) (sym next.is) (at_left mid x.0 was closed x.1);
         why = next.why x.0.state x.1.stands ∙ ap (closed_moved was r) (scene_at x.1);
         owes = owes s x.0.state stands x.1.stands;
-        waits = next.waits x.0.state x.1.stands ∙ ap (λ (y : Scene). wait_moved was closed w y now) (scene_at x.1);
+        waits = next.waits x.0.state x.1.stands ∙ ap (λ (y : ConversationScene). wait_moved was closed w y now) (scene_at x.1);
       };
   packets = ap (λ (t : Conversation). t.packets) next.is ∙ packets_left mid was closed ∙ packets;
   stays = next.stays;
@@ -142,8 +142,8 @@ same_timed closed w e f same timed none s stands some = timed none s (subst (λ 
 
 -- something was done at a connection, but that bytes came, and then what could move moved
 pub step_by : (now : ℕ) (deed : Deed) (old new : Connection) (mid : Conversation) → mid.endpoint ≡ old.conversation.endpoint
-    → ((s : State) → scene mid s ≡ done deed (scene old.conversation s)) → ((s : State) → owed_by deed old.owed old.wait s now ≡ old.owed)
-    → ((s : State) → wait_by deed old.wait s now ≡ old.wait)
+    → ((s : State) → conversation_scene mid s ≡ done deed (conversation_scene old.conversation s)) → ((s : State) → owed_by deed old.owed old.wait s now ≡ old.owed)
+    → ((s : State) → wait_after_deed deed old.wait s now ≡ old.wait)
     → GoesOnBy now mid new.conversation old.owed new.owed old.closed new.closed old.wait new.wait
     → May old.conversation deed → (StepsAt now old.wait new.wait → WaitsBy deed now old.wait new.wait) → mid.packets ≡ old.conversation.packets
     → new.told ≡ old.told → Step now deed old new
@@ -153,9 +153,9 @@ step_by now deed old new mid end did owes waits_same goes may steps packets told
   steps = steps goes.steps;
   on = λ s stands.
       let first = goes.on s (subst (λ (e : Held). StandsFor e s) (sym end) stands) in
-      subst (λ (x : Scene). Moved now x goes.moved new.conversation (owed_by deed old.owed old.wait s now) new.owed old.closed new.closed (wait_by deed old.wait s now) new.wait) (did s)
-      (subst (λ (o : Owed). Moved now (scene mid s) goes.moved new.conversation o new.owed old.closed new.closed (wait_by deed old.wait s now) new.wait) (sym (owes s))
-      (subst (λ (w : Waiting). Moved now (scene mid s) goes.moved new.conversation old.owed new.owed old.closed new.closed w new.wait) (sym (waits_same s)) first));
+      subst (λ (x : ConversationScene). Moved now x goes.moved new.conversation (owed_by deed old.owed old.wait s now) new.owed old.closed new.closed (wait_after_deed deed old.wait s now) new.wait) (did s)
+      (subst (λ (o : Owed). Moved now (conversation_scene mid s) goes.moved new.conversation o new.owed old.closed new.closed (wait_after_deed deed old.wait s now) new.wait) (sym (owes s))
+      (subst (λ (w : Waiting). Moved now (conversation_scene mid s) goes.moved new.conversation old.owed new.owed old.closed new.closed w new.wait) (sym (waits_same s)) first));
   packets = goes.packets ∙ packets;
   told = told;
   stays = goes.stays;
@@ -177,11 +177,11 @@ heard_by now bytes old new mid o w stands_then side closing owes waits_then goes
   on = λ s stands.
       let v = after_receive s bytes in
       let first = goes.on v (stands_then s stands) in
-      let x : Scene = record { side = old.conversation.side; closing = old.conversation.closing; state = v } in
+      let x : ConversationScene = record { side = old.conversation.side; closing = old.conversation.closing; state = v } in
       let here : IsAt mid x = record { stands = stands_then s stands; side = side; closing = closing } in
-      subst (λ (y : Scene). Moved now y goes.moved new.conversation (owed_heard old.owed old.wait s bytes now) new.owed old.closed new.closed (wait_heard old.wait s bytes now) new.wait) (scene_at here)
-      (subst (λ (u : Owed). Moved now (scene mid v) goes.moved new.conversation u new.owed old.closed new.closed (wait_heard old.wait s bytes now) new.wait) (owes s stands)
-      (subst (λ (u : Waiting). Moved now (scene mid v) goes.moved new.conversation o new.owed old.closed new.closed u new.wait) (waits_then s stands) first));
+      subst (λ (y : ConversationScene). Moved now y goes.moved new.conversation (owed_heard old.owed old.wait s bytes now) new.owed old.closed new.closed (wait_heard old.wait s bytes now) new.wait) (scene_at here)
+      (subst (λ (u : Owed). Moved now (conversation_scene mid v) goes.moved new.conversation u new.owed old.closed new.closed (wait_heard old.wait s bytes now) new.wait) (owes s stands)
+      (subst (λ (u : Waiting). Moved now (conversation_scene mid v) goes.moved new.conversation o new.owed old.closed new.closed u new.wait) (waits_then s stands) first));
   packets = goes.packets ∙ packets;
   told = told;
   stays = goes.stays;
@@ -245,9 +245,9 @@ acts_by p a w o now is after owes stay =
 
 -- ---- a message that is handed
 
-pub calm_then : (c : Connection) (t : Conversation) (s : State) → c.owed.moving ≡ false → scene t s ≡ done took (scene c.conversation s)
-    → is_calm (scene t s) ≡ true → is_calm_then c s ≡ true
-calm_then c t s idle same calm = ap (λ (b : Bool). not b && is_calm (done took (scene c.conversation s))) idle ∙ ap is_calm (sym same) ∙ calm
+pub calm_then : (c : Connection) (t : Conversation) (s : State) → c.owed.moving ≡ false → conversation_scene t s ≡ done took (conversation_scene c.conversation s)
+    → is_calm (conversation_scene t s) ≡ true → is_calm_then c s ≡ true
+calm_then c t s idle same calm = ap (λ (b : Bool). not b && is_calm (done took (conversation_scene c.conversation s))) idle ∙ ap is_calm (sym same) ∙ calm
 
 pub first_no : (a b : Bool) → a ≡ false → (a && b) ≡ false
 first_no true b e = absurd (cc)

@@ -13,8 +13,8 @@ use Rattle.xns_agenda.specs.declared.due.Due.TheVariants.{Never, AgainAt, AskAt,
 use Rattle.xns_agenda.specs.declared.pace.Pace.{Pace}
 use Rattle.xns_connection.specs.Closing.{wants_end, wants_word}
 use Rattle.xns_connection.specs.Connecting.{is_open_due}
-use Rattle.xns_connection.specs.Deeds.{Deed, Parts, acted_by, given_up, shut, side_taken, took, wait_by, wait_moved, why_left}
-use Rattle.xns_connection.specs.Moving.{IsAt, Scene, scene}
+use Rattle.xns_connection.specs.Deeds.{Deed, Parts, acted_by, given_up, shut, side_taken, took, wait_after_deed, wait_moved, why_left}
+use Rattle.xns_connection.specs.Moving.{IsAt, ConversationScene, conversation_scene}
 use Rattle.xns_connection.specs.Step.{AClosingConnectionDoesNotWaitForEver, GivesNext, Hands, IsMade, IsTimed, Step, calmly, moving_on, none_waits, parts_of}
 use Rattle.xns_connection.specs.Story.{wants_answer}
 use Rattle.xns_connection.specs.Telling.{waits}
@@ -40,11 +40,11 @@ made_timed : Asks → (pace : Pace) (now : ℕ) (again : Bool) (c : Connection) 
 made_timed asks pace now again c made none wanted = ∥∥₁_elim c.stands (Prim.hlevel props) (λ x.
     after_one asks (new_waiting pace now) c.wait (waits x.0) (wants_word c.conversation.side c.conversation.closing) now (made.waits x.0 x.1) wanted)
 
-wanted_at : {t : Conversation} {x : Scene} → IsAt t x → wants_word t.side t.closing ≡ true → wants_word x.side x.closing ≡ true
+wanted_at : {t : Conversation} {x : ConversationScene} → IsAt t x → wants_word t.side t.closing ≡ true → wants_word x.side x.closing ≡ true
 wanted_at {t} {x} at wanted =
     ap (λ (c : Closing). wants_word x.side c) (sym at.closing) ∙ (ap (λ (side : Side). wants_word side t.closing) (sym at.side) ∙ wanted)
 
-moved_timed : Asks → (now : ℕ) (w v : Waiting) (was closed : Option Why) (t : Conversation) (x : Scene) → IsAt t (shut was closed x)
+moved_timed : Asks → (now : ℕ) (w v : Waiting) (was closed : Option Why) (t : Conversation) (x : ConversationScene) → IsAt t (shut was closed x)
     → (was ≢ None → closed ≡ was) → v ≡ wait_moved was closed w x now → closed ≡ None → wants_word t.side t.closing ≡ true
     → is_some (due_time v.due) ≡ true
 moved_timed asks now w v (Some y) closed t x at stays is none wanted = let same = stays (λ z. cc) in absurd (cc)
@@ -55,16 +55,16 @@ moved_timed asks now w v None None t x at stays is none wanted =
 step_timed : Asks → (now : ℕ) (deed : Deed) (old new : Connection) → Step now deed old new → IsTimed (parts_of new)
 step_timed asks now deed old new step none wanted = ∥∥₁_elim old.stands (Prim.hlevel props) (λ x.
     let m = step.on x.0 x.1 in
-    moved_timed asks now (wait_by deed old.wait x.0 now) new.wait old.closed new.closed new.conversation m.to m.at step.stays m.waits none wanted)
+    moved_timed asks now (wait_after_deed deed old.wait x.0 now) new.wait old.closed new.closed new.conversation m.to m.at step.stays m.waits none wanted)
 
-kept_timed : Asks → (now : ℕ) (w v : Waiting) (closed : Option Why) (x : Scene) → v ≡ wait_moved closed closed w x now → closed ≡ None
+kept_timed : Asks → (now : ℕ) (w v : Waiting) (closed : Option Why) (x : ConversationScene) → v ≡ wait_moved closed closed w x now → closed ≡ None
     → wants_word x.side x.closing ≡ true → is_some (due_time v.due) ≡ true
 kept_timed asks now w v (Some y) x is none wanted = absurd (cc)
 kept_timed asks now w v None x is none wanted = after_one asks w v (waits x.state) (wants_word x.side x.closing) now is wanted
 
 given_timed : Asks → (now : ℕ) (r : Result (Option (List ℕ)) AllocError) (old new : Connection) → GivesNext now r old new → IsTimed (parts_of new)
 given_timed asks now r old new gives none wanted = ∥∥₁_elim new.stands (Prim.hlevel props) (λ x.
-    kept_timed asks now gives.mid.wait new.wait gives.mid.closed (scene new.conversation x.0) (gives.waits x.0 x.1) (sym gives.closed ∙ none) wanted)
+    kept_timed asks now gives.mid.wait new.wait gives.mid.closed (conversation_scene new.conversation x.0) (gives.waits x.0 x.1) (sym gives.closed ∙ none) wanted)
 
 -- ---- what moves nothing
 

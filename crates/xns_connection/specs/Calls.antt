@@ -2,5 +2,5 @@
 use Rattle.courier_messages.specs.RawCalls.{RawCall, words_call}
 use Rattle.xns_connection.specs.declared.call.Call.{Call}
 
-abbrev pub call_model : Call → RawCall
-call_model c = words_call c.program c.version c.procedure c.words.now
+abbrev pub raw_of_call : Call → RawCall
+raw_of_call c = words_call c.program c.version c.procedure c.words.now

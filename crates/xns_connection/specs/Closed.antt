@@ -8,7 +8,7 @@ use Rattle.xns_spp.specs.Held.{StandsFor}
 use Rattle.xns_spp.specs.State.{State}
 use Rattle.xns_connection.specs.Closing.{drains, end_stream, put_if}
 use Rattle.xns_connection.specs.Connecting.{why_after}
-use Rattle.xns_connection.specs.Deeds.{is_refused, why_left}
+use Rattle.xns_connection.specs.Deeds.{has_refused_item, why_left}
 use Rattle.xns_connection.specs.Story.{Story, is_called}
 use Rattle.xns_connection.specs.Telling.{GoesUntil, Tells, is_over}
 use Rattle.xns_connection.specs.declared.conversation.Conversation.{Conversation}
@@ -21,7 +21,7 @@ is_closed_now was closed = is_none was && is_some closed
 -- whether what comes is looked at for the closing exchange alone, after items moved and this came of it: it was so before, or the side refused
 -- an item, or the step closed the connection, or End is put out at a side that is called
 abbrev pub drains_by : (before : Bool) → Result (Unit {0}) FeedRefusal → (closed_now : Bool) → (new : Conversation) → Bool
-drains_by before moved closed_now new = before || (is_refused moved || (closed_now || (new.closing.end_sent && is_called new.side)))
+drains_by before moved closed_now new = before || (has_refused_item moved || (closed_now || (new.closing.end_sent && is_called new.side)))
 
 -- after something was done its items moved, and this came of it: what its side refused, if it did, and else whether the closing exchange is
 -- over, says why it is closed, if it was not closed before. That memory was refused is noted, and nothing else is

@@ -137,21 +137,21 @@ is_of_another (Some drops.NoRoom) = false
 is_of_another (Some drops.Repeat) = false
 
 -- the packet was dropped because its item came before
-abbrev pub is_repeat : Option Dropped → Bool
-is_repeat None = false
-is_repeat (Some drops.NotIdp) = false
-is_repeat (Some drops.NotSpp) = false
-is_repeat (Some drops.NotOurs) = false
-is_repeat (Some drops.AheadOfUs) = false
-is_repeat (Some drops.OutOfOrder) = false
-is_repeat (Some drops.NoRoom) = false
-is_repeat (Some drops.Repeat) = true
+abbrev pub is_dropped_repeat : Option Dropped → Bool
+is_dropped_repeat None = false
+is_dropped_repeat (Some drops.NotIdp) = false
+is_dropped_repeat (Some drops.NotSpp) = false
+is_dropped_repeat (Some drops.NotOurs) = false
+is_dropped_repeat (Some drops.AheadOfUs) = false
+is_dropped_repeat (Some drops.OutOfOrder) = false
+is_dropped_repeat (Some drops.NoRoom) = false
+is_dropped_repeat (Some drops.Repeat) = true
 
 -- the first item goes out again for a packet, where some item is left that is not acknowledged: the packet has more acknowledged, but not all
 -- that was out when something went out again; or the peer repeats an item, and what waits for the peer is overdue; or the peer says for the third time that it lacks the item
 abbrev pub again_for : Option Dropped → (acknowledged : ℕ) (left : Bool) → (reply : Option ℕ) → Waiting → (now : ℕ) → Bool
 again_for dropped acknowledged left reply w now =
-    left && (if nat_lt 0 acknowledged then mends w.measure w.pace w.timing acknowledged now else is_third_reply w reply || (is_repeat dropped && is_overdue w now))
+    left && (if nat_lt 0 acknowledged then mends w.measure w.pace w.timing acknowledged now else is_third_reply w reply || (is_dropped_repeat dropped && is_overdue w now))
 
 abbrev pub goes_again : Waiting → State → List ℕ → (now : ℕ) → Bool
 goes_again w s b now = again_for (input_answer s b).dropped (progress s (after_receive s b)).acknowledged (nat_lt 0 (unacknowledged_count (after_receive s b)))

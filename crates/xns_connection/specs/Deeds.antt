@@ -18,7 +18,7 @@ use Rattle.xns_spp.specs.Sending.{waiting_count}
 use Rattle.xns_spp.specs.State.{State}
 use Rattle.xns_connection.specs.Closing.{wants_word}
 use Rattle.xns_connection.specs.Connecting.{owed_after, owed_heard, wait_heard, why_after, why_given_up}
-use Rattle.xns_connection.specs.Moving.{Scene, IsAt, Settles, deafened, scene}
+use Rattle.xns_connection.specs.Moving.{ConversationScene, IsAt, MovesAll, deafened, conversation_scene}
 use Rattle.xns_connection.specs.Story.{Story, asked_of, listed_call, waiting_message, with_handed}
 use Rattle.xns_connection.specs.Telling.{is_over, waits}
 use Rattle.xns_connection.specs.declared.conversation.Conversation.{Conversation}
@@ -49,7 +49,7 @@ side_called (Answers a) call = Answers a
 
 abbrev pub answered_for : Option ℕ → Answering → Answer → List ℕ → Answering
 answered_for None a kind words = a
-answered_for (Some k) a kind words = answering.answered a (answer_message kind k words)
+answered_for (Some k) a kind words = answering.with_answer_out a (answer_message kind k words)
 
 -- the side with an answer to the call that was handed
 abbrev pub side_answered : Side → Answer → List ℕ → Side
@@ -67,7 +67,7 @@ side_taken (Answers a) = Answers (handed_by (listed_call a.programs a.call) a)
 
 -- ---- what a deed does to a conversation
 
-abbrev pub done : Deed → Scene → Scene
+abbrev pub done : Deed → ConversationScene → ConversationScene
 done nothing x = x
 done asked x = record x { closing = record x.closing { wanted = true } }
 done (made call) x = record x { side = side_called x.side call }
@@ -111,13 +111,13 @@ owed_by (gave kind words) o w s now = o
 owed_by took o w s now = o
 owed_by (heard bytes) o w s now = owed_heard o w s bytes now
 
-abbrev pub wait_by : Deed → Waiting → State → (now : ℕ) → Waiting
-wait_by nothing w s now = w
-wait_by asked w s now = w
-wait_by (made call) w s now = w
-wait_by (gave kind words) w s now = w
-wait_by took w s now = w
-wait_by (heard bytes) w s now = wait_heard w s bytes now
+abbrev pub wait_after_deed : Deed → Waiting → State → (now : ℕ) → Waiting
+wait_after_deed nothing w s now = w
+wait_after_deed asked w s now = w
+wait_after_deed (made call) w s now = w
+wait_after_deed (gave kind words) w s now = w
+wait_after_deed took w s now = w
+wait_after_deed (heard bytes) w s now = wait_heard w s bytes now
 
 -- ---- what comes of moving
 
@@ -132,26 +132,26 @@ is_starved (Err Attention) = false
 is_starved (Err (Fault f)) = false
 
 -- the side refused an item
-abbrev pub is_refused : Result (Unit {0}) FeedRefusal → Bool
-is_refused moved = not (is_ok moved || is_starved moved)
+abbrev pub has_refused_item : Result (Unit {0}) FeedRefusal → Bool
+has_refused_item moved = not (is_ok moved || is_starved moved)
 
 -- memory that was refused is noted; where fewer items wait than before, the peer is owed a word
 abbrev pub owed_moved : Owed → (starved : Bool) → (before after : ℕ) → Owed
 owed_moved o starved before after = record o { moving = starved; word = o.word || nat_lt after before; fresh = true }
 
 -- a connection that is closed stays closed, for the same reason
-abbrev pub closed_moved : Option Why → Result (Unit {0}) FeedRefusal → Scene → Option Why
+abbrev pub closed_moved : Option Why → Result (Unit {0}) FeedRefusal → ConversationScene → Option Why
 closed_moved (Some why) moved x = Some why
 closed_moved None moved x = why_after x.closing (is_over x.closing x.state) moved
 
 -- where the step closed the connection, what comes is read no more
-abbrev pub shut : (was closed : Option Why) → Scene → Scene
+abbrev pub shut : (was closed : Option Why) → ConversationScene → ConversationScene
 shut (Some why) closed x = x
 shut None None x = x
 shut None (Some why) x = deafened x
 
 -- where the step closed the connection, it lingers
-abbrev pub wait_moved : (was closed : Option Why) → Waiting → Scene → (now : ℕ) → Waiting
+abbrev pub wait_moved : (was closed : Option Why) → Waiting → ConversationScene → (now : ℕ) → Waiting
 wait_moved (Some why) closed w x now = w
 wait_moved None None w x now = after_step w (waits x.state) (wants_word x.side x.closing) now
 wait_moved None (Some why) w x now = lingering w now
@@ -169,17 +169,17 @@ given_up_by None (Some why) t = given_up t
 -- how a connection was closed whose items moved, if it was
 pub record ClosesThen (now : ℕ) (old : Conversation) (moved : Result (Unit {0}) FeedRefusal) (new : Conversation) (was closed : Option Why)
     (wait wait_new : Waiting) : Type 0 where
-  pub why : (s : State) → StandsFor old.endpoint s → closed ≡ closed_moved was moved (scene old s)
+  pub why : (s : State) → StandsFor old.endpoint s → closed ≡ closed_moved was moved (conversation_scene old s)
   pub stays : was ≢ None → closed ≡ was
   pub is : new ≡ given_up_by was closed old
-  pub waits : (s : State) → StandsFor old.endpoint s → wait_new ≡ wait_moved was closed wait (scene old s) now
+  pub waits : (s : State) → StandsFor old.endpoint s → wait_new ≡ wait_moved was closed wait (conversation_scene old s) now
   pub steps : StepsAt now wait wait_new
 
 -- from this scene, and from what is owed, waited for and told then, what can move moved, and this came of it
-pub record Moved (now : ℕ) (x : Scene) (moved : Result (Unit {0}) FeedRefusal) (new : Conversation) (owed owed_new : Owed)
+pub record Moved (now : ℕ) (x : ConversationScene) (moved : Result (Unit {0}) FeedRefusal) (new : Conversation) (owed owed_new : Owed)
     (was closed : Option Why) (wait wait_new : Waiting) : Type 0 where
-  pub to : Scene
-  pub settles : Settles x moved to
+  pub to : ConversationScene
+  pub settles : MovesAll x moved to
   pub at : IsAt new (shut was closed to)
   pub why : closed ≡ closed_moved was moved to
   pub owes : owed_new ≡ owed_moved owed (is_starved moved) (waiting_count x.state) (waiting_count to.state)
@@ -189,7 +189,7 @@ pub record Moved (now : ℕ) (x : Scene) (moved : Result (Unit {0}) FeedRefusal)
 pub record GoesOnBy (now : ℕ) (old new : Conversation) (owed owed_new : Owed) (was closed : Option Why) (wait wait_new : Waiting)
     : Type 0 where
   pub moved : Result (Unit {0}) FeedRefusal
-  pub on : (s : State) → StandsFor old.endpoint s → Moved now (scene old s) moved new owed owed_new was closed wait wait_new
+  pub on : (s : State) → StandsFor old.endpoint s → Moved now (conversation_scene old s) moved new owed owed_new was closed wait wait_new
   pub packets : new.packets ≡ old.packets
   pub stays : was ≢ None → closed ≡ was
   pub steps : StepsAt now wait wait_new

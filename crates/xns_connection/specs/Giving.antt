@@ -80,7 +80,7 @@ next_unless true x = (None, silenced x)
 next_unless false x = next_of x
 
 -- where memory was refused it is at one of these
-pub data IsShort (x : Giving) : Giving → Type 0 where
-  at_first : IsShort x x
-  at_flush : (older x).0 ≡ None → IsShort x (older x).1
-  at_word : (older x).0 ≡ None → IsShort x (flushed (older x).1)
+pub data MayStopAt (x : Giving) : Giving → Type 0 where
+  at_first : MayStopAt x x
+  at_flush : (older x).0 ≡ None → MayStopAt x (older x).1
+  at_word : (older x).0 ≡ None → MayStopAt x (flushed (older x).1)

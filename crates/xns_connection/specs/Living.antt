@@ -12,8 +12,8 @@ use Rattle.courier_sessions.specs.declared.unlisted.Unlisted.{Unlisted}
 use Rattle.xns_spp.specs.Growth.{Begins}
 use Rattle.xns_spp.specs.Receiving.{after_receive}
 use Rattle.xns_spp.specs.State.{State}
-use Rattle.xns_connection.specs.Story.{Story, Runs, GoesOn, new_story, asked_of, waiting_message, with_handed}
-use Rattle.xns_connection.specs.Telling.{Tells, Goes, Hears}
+use Rattle.xns_connection.specs.Story.{Story, Runs, ProgramDoesNothing, new_story, asked_of, waiting_message, with_handed}
+use Rattle.xns_connection.specs.Telling.{Tells, Goes, HearsBytes}
 use Rattle.xns_connection.specs.declared.conversation.Conversation.{Conversation}
 
 -- the calls that the program made, the messages that it was handed, and the answers that it gave, in order
@@ -27,7 +27,7 @@ no_deeds = record { made = []; handed = []; gave = [] }
 
 -- every story of the old connection goes on, from what something else made of it, to one of the new connection
 abbrev pub GoesFrom : (old new : Conversation) → (Story → Story) → Type 0
-GoesFrom old new base = (h : Story) → Tells old h → (m : Story) × Tells new m × GoesOn (base h) m
+GoesFrom old new base = (h : Story) → Tells old h → (m : Story) × Tells new m × ProgramDoesNothing (base h) m
 
 -- steps of a connection, in any order, led from a new end to this conversation, and the program did this meanwhile; the programs are
 -- those that can be called, or none where the connection calls
@@ -36,7 +36,7 @@ pub data Lives (programs : Option (List Program)) (start : State) : Conversation
   -- the conversation gives packets, moves items, is closed or given up
   goes : {c d : Conversation} {l : Deeds} → Lives programs start c l → Goes c d → Lives programs start d l
   -- a packet comes
-  hears : {c d : Conversation} {l : Deeds} → Lives programs start c l → (bytes : List ℕ) → Hears c d bytes → Lives programs start d l
+  hears : {c d : Conversation} {l : Deeds} → Lives programs start c l → (bytes : List ℕ) → HearsBytes c d bytes → Lives programs start d l
   -- the program makes a call, is handed the message that waits, or answers the call that it was handed
   calls : {c d : Conversation} {l : Deeds} → Lives programs start c l → (call : RawCall)
       → GoesFrom c d (λ h. record h { made = h.made ++ call ∷ [] }) → Lives programs start d (record l { made = l.made ++ call ∷ [] })

@@ -23,17 +23,17 @@ abbrev pub HasHistory : Held → Type 0
 HasHistory e = ∥ ((s : State) × StandsFor e s) ∥₁
 
 -- a conversation with the whole history of its end
-pub record Scene : Type 0 where
+pub record ConversationScene : Type 0 where
   pub side : Side
   pub closing : Closing
   pub state : State
 
 -- the scene of a conversation whose end has this history
-abbrev pub scene : Conversation → State → Scene
-scene t s = record { side = t.side; closing = t.closing; state = s }
+abbrev pub conversation_scene : Conversation → State → ConversationScene
+conversation_scene t s = record { side = t.side; closing = t.closing; state = s }
 
 -- the conversation is at this scene
-pub record IsAt (t : Conversation) (x : Scene) : Type 0 where
+pub record IsAt (t : Conversation) (x : ConversationScene) : Type 0 where
   pub stands : StandsFor t.endpoint x.state
   pub side : t.side ≡ x.side
   pub closing : t.closing ≡ x.closing
@@ -77,54 +77,54 @@ pub data Converses (side : Side) (s : State) : Result (Unit {0}) FeedRefusal →
 -- ---- the closing exchange
 
 -- the item that waits first is taken, and what it says of closing is noted
-abbrev pub noting : Option Item → Scene → Scene
+abbrev pub noting : Option Item → ConversationScene → ConversationScene
 noting None x = x
 noting (Some item) x = record x { closing = noted x.closing item.stream; state = after_take x.state }
 
-abbrev pub taken_one : Scene → Scene
+abbrev pub taken_one : ConversationScene → ConversationScene
 taken_one x = noting (take_answer x.state) x
 
-unfoldable pub taken_many : ℕ → Scene → Scene
+unfoldable pub taken_many : ℕ → ConversationScene → ConversationScene
 taken_many zero x = x
 taken_many (suc n) x = taken_one (taken_many n x)
 
 -- all that waits is taken where it is looked at for the closing exchange alone
-abbrev pub drained_out : Scene → Scene
+abbrev pub drained_out : ConversationScene → ConversationScene
 drained_out x = if drains x.side x.closing then taken_many (waiting_count x.state) x else x
 
 -- End is to be put out, once: behind all that is out, and behind the answer that is owed
-abbrev pub may_end : Scene → Bool
+abbrev pub may_end : ConversationScene → Bool
 may_end x =
     x.closing.wanted && (not (drains x.side x.closing) && (not x.closing.end_sent && (not (owes_answer x.side) && not (has_items (out_of x.side)))))
 
 -- EndReply is to be put out
-abbrev pub may_reply : Scene → Bool
+abbrev pub may_reply : ConversationScene → Bool
 may_reply x = x.closing.reply_wanted && (not x.closing.reply_sent && (drains x.side x.closing && not (has_items (out_of x.side))))
 
 -- End is put out where it is to be, unless there is no room
-abbrev pub ended : Scene → Scene
-ended x =
+abbrev pub with_end_out : ConversationScene → ConversationScene
+with_end_out x =
     if may_end x && is_ok (send_answer x.state (closing_item end_stream))
     then record x { closing = record x.closing { end_sent = true }; state = after_send x.state (closing_item end_stream) } else x
 
 -- EndReply is put out where it is to be, unless there is no room
-abbrev pub replied : Scene → Scene
+abbrev pub replied : ConversationScene → ConversationScene
 replied x =
     if may_reply x && is_ok (send_answer x.state (closing_item end_reply_stream))
     then record x { closing = record x.closing { reply_sent = true }; state = after_send x.state (closing_item end_reply_stream) } else x
 
-abbrev pub closed_up : Scene → Scene
-closed_up x = replied (drained_out (ended x))
+abbrev pub closed_up : ConversationScene → ConversationScene
+closed_up x = replied (drained_out (with_end_out x))
 
 -- what comes is read no more, but for the closing exchange
-abbrev pub deafened : Scene → Scene
+abbrev pub deafened : ConversationScene → ConversationScene
 deafened x = record x { closing = record x.closing { deaf = true } }
 
 -- ---- all that can move
 
 -- where items moved so far, this is what comes of it: where memory was refused, nothing more; where the side refused an item it reads no
 -- more, and else, as then, what is to be said of closing is said
-abbrev pub settled_by : Result (Unit {0}) FeedRefusal → Scene → Scene
+abbrev pub settled_by : Result (Unit {0}) FeedRefusal → ConversationScene → ConversationScene
 settled_by (Ok u) x = closed_up x
 settled_by (Err NoMemory) x = x
 settled_by (Err Stopped) x = closed_up (deafened x)
@@ -134,18 +134,18 @@ settled_by (Err Attention) x = closed_up (deafened x)
 settled_by (Err (Fault f)) x = closed_up (deafened x)
 
 -- items moved from this scene until this came of it: none, where what comes is looked at for the closing exchange alone
-pub data Moves (x : Scene) : Result (Unit {0}) FeedRefusal → Scene → Type 0 where
+pub data Moves (x : ConversationScene) : Result (Unit {0}) FeedRefusal → ConversationScene → Type 0 where
   drains_only : drains x.side x.closing ≡ true → Moves x (Ok tt) x
   converses : {result : Result (Unit {0}) FeedRefusal} {next : Side} {v : State} → drains x.side x.closing ≡ false
       → Converses x.side x.state result next v → Moves x result (record x { side = next; state = v })
 
 -- all that can move from this scene has moved: `moved` says whether the side refused an item, or memory was refused
-pub record Settles (x : Scene) (moved : Result (Unit {0}) FeedRefusal) (to : Scene) : Type 0 where
-  pub mid : Scene
+pub record MovesAll (x : ConversationScene) (moved : Result (Unit {0}) FeedRefusal) (to : ConversationScene) : Type 0 where
+  pub mid : ConversationScene
   pub moves : Moves x moved mid
   pub is : to ≡ settled_by moved mid
 
 -- nothing can move, and nothing is to be said or read of closing
-abbrev pub is_calm : Scene → Bool
+abbrev pub is_calm : ConversationScene → Bool
 is_calm x =
     not (drains x.side x.closing || x.closing.wanted) && (not (has_items (out_of x.side) || has_message x.side) && (waiting_count x.state == 0))

@@ -8,12 +8,12 @@ use Rattle.xns_spp.specs.State.{State}
 use Rattle.xns_connection.specs.Closed.{ClosesBy}
 use Rattle.xns_connection.specs.Closing.{drains, wants_word}
 use Rattle.xns_connection.specs.Connecting.{is_dead}
-use Rattle.xns_connection.specs.Deeds.{Deed, Moved, Parts, acted, done, nothing, asked, made, gave, side_taken, took, heard, owed_by, told_by, unserved, wait_by, wait_moved, wanted_by}
+use Rattle.xns_connection.specs.Deeds.{Deed, Moved, Parts, acted, done, nothing, asked, made, gave, side_taken, took, heard, owed_by, told_by, unserved, wait_after_deed, wait_moved, wanted_by}
 use Rattle.std.specs.Option.{is_some}
 use Rattle.std.specs.declared.alloc.AllocError.{AllocError}
-use Rattle.xns_connection.specs.Giving.{Giving, GivesAs, IsGiving, IsShort, giving, next_of, next_unless}
+use Rattle.xns_connection.specs.Giving.{Giving, GivesAs, IsGiving, MayStopAt, giving, next_of, next_unless}
 use Rattle.xns_connection.specs.Living.{GoesFrom}
-use Rattle.xns_connection.specs.Moving.{is_calm, scene}
+use Rattle.xns_connection.specs.Moving.{is_calm, conversation_scene}
 use Rattle.xns_connection.specs.Reasons.{answer_fault_of, call_fault_of}
 use Rattle.xns_connection.specs.Story.{Story, is_stopped, waiting_message}
 use Rattle.xns_connection.specs.Telling.{waits as waits_for}
@@ -62,8 +62,8 @@ WaitsBy (heard bytes) now w v = HearsAt now w v
 pub record Step (now : ℕ) (deed : Deed) (old new : Connection) : Type 0 where
   pub moved : Result (Unit {0}) FeedRefusal
   pub on : (s : State) → StandsFor old.conversation.endpoint s
-      → Moved now (done deed (scene old.conversation s)) moved new.conversation (owed_by deed old.owed old.wait s now) new.owed
-      old.closed new.closed (wait_by deed old.wait s now) new.wait
+      → Moved now (done deed (conversation_scene old.conversation s)) moved new.conversation (owed_by deed old.owed old.wait s now) new.owed
+      old.closed new.closed (wait_after_deed deed old.wait s now) new.wait
   pub may : May old.conversation deed
   pub steps : WaitsBy deed now old.wait new.wait
   pub packets : new.conversation.packets ≡ old.conversation.packets
@@ -83,7 +83,7 @@ parts_of c = record { conversation = c.conversation; wait = c.wait; owed = c.owe
 
 -- nothing can move when the message that waits was handed
 abbrev pub is_calm_then : Connection → State → Bool
-is_calm_then c s = not c.owed.moving && is_calm (done took (scene c.conversation s))
+is_calm_then c s = not c.owed.moving && is_calm (done took (conversation_scene c.conversation s))
 
 -- no message waits, and nothing was done; or the one that waits was handed, and where nothing can move then, that is all
 pub data Hands (now : ℕ) (old new : Connection) : Type 0 where
@@ -108,7 +108,7 @@ pub record GivesNext (now : ℕ) (result : Result (Option (List ℕ)) AllocError
   pub moved : MovesOwed old.owed.moving now old mid
   pub gave : IfOk result (λ p. (s : State) → StandsFor mid.conversation.endpoint s
       → GivesAs (next_unless (is_dead mid.closed) (giving mid.conversation mid.owed s)) p new.conversation new.owed)
-  pub short : OnErr result ((s : State) → StandsFor mid.conversation.endpoint s → (y : Giving) × IsShort (giving mid.conversation mid.owed s) y
+  pub short : OnErr result ((s : State) → StandsFor mid.conversation.endpoint s → (y : Giving) × MayStopAt (giving mid.conversation mid.owed s) y
       × IsGiving new.conversation new.owed y)
   pub wanted : OnErr result ((s : State) → StandsFor mid.conversation.endpoint s
       → is_some (next_of (giving mid.conversation mid.owed s)).0 ≡ true)
@@ -116,7 +116,7 @@ pub record GivesNext (now : ℕ) (result : Result (Option (List ℕ)) AllocError
   pub beside : (new.conversation.side ≡ mid.conversation.side) × (new.conversation.closing ≡ mid.conversation.closing)
   pub closed : new.closed ≡ mid.closed
   pub told : new.told ≡ mid.told
-  pub waits : (s : State) → StandsFor new.conversation.endpoint s → new.wait ≡ wait_moved mid.closed mid.closed mid.wait (scene new.conversation s) now
+  pub waits : (s : State) → StandsFor new.conversation.endpoint s → new.wait ≡ wait_moved mid.closed mid.closed mid.wait (conversation_scene new.conversation s) now
   pub steps : StepsAt now old.wait new.wait
 
 -- a connection owes no EndReply any longer, unless memory was refused while items moved, or this step closed it

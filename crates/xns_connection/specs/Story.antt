@@ -148,7 +148,7 @@ made_on (resends {v = v} p) = made_on p ++ option_to_list (resend_answer v)
 made_on (tells {v = v} p asks) = made_on p ++ option_to_list (told_answer v asks)
 
 -- the program made no call, was handed nothing and gave no answer: as many calls were answered as were taken
-pub record GoesOn (h m : Story) : Type 0 where
+pub record ProgramDoesNothing (h m : Story) : Type 0 where
   pub programs : m.programs ≡ h.programs
   pub path : Runs h.state m.state
   pub made : m.made ≡ h.made
@@ -172,9 +172,9 @@ IsListed (Answers a) = (m : Message) → a.call ≡ Some m → why_unlisted a.pr
 -- ---- what is refused
 
 -- nothing is out, and the side refuses the item that waits next, for this reason
-abbrev pub IsRefused : Side → State → FeedRefusal → Type 0
-IsRefused (Calls t) s e = (n : Talk) × Settles caller_side (t, s) (Err e) n
-IsRefused (Answers a) s e = (n : Answering) × Settles server_side (a, s) (Err e) n
+abbrev pub IsNextRefused : Side → State → FeedRefusal → Type 0
+IsNextRefused (Calls t) s e = (n : Talk) × Settles caller_side (t, s) (Err e) n
+IsNextRefused (Answers a) s e = (n : Answering) × Settles server_side (a, s) (Err e) n
 
 -- a call waits that is to be rejected
 abbrev pub IsUnlisted : Side → Type 0
@@ -182,6 +182,6 @@ IsUnlisted (Calls t) = ⊥
 IsUnlisted (Answers a) = (m : Message) × (u : Unlisted) × (a.call ≡ Some m) × (why_unlisted a.programs m ≡ Some u)
 
 -- why no more is moved: the side refuses an item, or memory is refused to the reject of a call
-pub data IsHeld (side : Side) (s : State) : FeedRefusal → Type 0 where
-  refused : (e : FeedRefusal) → IsRefused side s e → IsHeld side s e
-  unrejected : IsUnlisted side → IsHeld side s NoMemory
+pub data IsHeldBack (side : Side) (s : State) : FeedRefusal → Type 0 where
+  refused : (e : FeedRefusal) → IsNextRefused side s e → IsHeldBack side s e
+  unrejected : IsUnlisted side → IsHeldBack side s NoMemory

@@ -13,7 +13,7 @@ use Rattle.xns_spp.specs.Telling.{out_count, told_answer, unacknowledged_count}
 use Rattle.courier_sessions.specs.declared.feed_refusal.FeedRefusal.{FeedRefusal}
 use Rattle.xns_spp.specs.declared.item.Item.{Item}
 use Rattle.xns_connection.specs.Closing.{closing_item, closing_items, drains, end_reply_stream, end_stream, Knows}
-use Rattle.xns_connection.specs.Story.{Story, SideHas, GoesOn, made_on, out_of, owes_answer, IsMoved, IsListed, IsHeld}
+use Rattle.xns_connection.specs.Story.{Story, SideHas, ProgramDoesNothing, made_on, out_of, owes_answer, IsMoved, IsListed, IsHeldBack}
 use Rattle.xns_connection.specs.declared.closing.Closing.{Closing}
 use Rattle.xns_connection.specs.declared.conversation.Conversation.{Conversation}
 use Rattle.xns_connection.specs.declared.owed.Owed.{Owed}
@@ -82,26 +82,26 @@ pub record Tells (conversation : Conversation) (h : Story) : Type 0 where
 pub record Goes (old new : Conversation) : Type 0 where
   pub still : drains new.side new.closing ≡ false → drains old.side old.closing ≡ false
   pub wanted : old.closing.wanted ≡ true → new.closing.wanted ≡ true
-  pub on : (h : Story) → Tells old h → (m : Story) × Tells new m × GoesOn h m
+  pub on : (h : Story) → Tells old h → (m : Story) × Tells new m × ProgramDoesNothing h m
 
 -- the connection went on, and gives this packet, or none: the first of those that waited and of those made on the way, behind; the others
 -- wait, in order
-pub record Gives (old new : Conversation) (packet : Option (List ℕ)) : Type 0 where
+pub record GivesNextPacket (old new : Conversation) (packet : Option (List ℕ)) : Type 0 where
   pub on : (h : Story) → Tells old h
-      → (m : Story) × Tells new m × (on : GoesOn h m) × (option_to_list packet ++ new.packets.items ≡ old.packets.items ++ made_on on.path)
+      → (m : Story) × Tells new m × (on : ProgramDoesNothing h m) × (option_to_list packet ++ new.packets.items ≡ old.packets.items ++ made_on on.path)
 
 -- items moved, and nothing was added to the packets that wait; then the connection gives this packet, or none
 abbrev pub MovesAndGives : (old new : Conversation) → Option (List ℕ) → Type 0
-MovesAndGives old new packet = (mid : Conversation) × Goes old mid × (mid.packets ≡ old.packets) × Gives mid new packet
+MovesAndGives old new packet = (mid : Conversation) × Goes old mid × (mid.packets ≡ old.packets) × GivesNextPacket mid new packet
 
 -- the connection went on, and no item is left that may go out for the first time
 pub record Rested (old new : Conversation) : Type 0 where
-  pub on : (h : Story) → Tells old h → (m : Story) × Tells new m × GoesOn h m × (flush_answer m.state ≡ [])
+  pub on : (h : Story) → Tells old h → (m : Story) × Tells new m × ProgramDoesNothing h m × (flush_answer m.state ≡ [])
 
 -- the connection went on from where it is after these bytes came
-pub record Hears (old new : Conversation) (bytes : List ℕ) : Type 0 where
+pub record HearsBytes (old new : Conversation) (bytes : List ℕ) : Type 0 where
   pub wanted : old.closing.wanted ≡ true → new.closing.wanted ≡ true
-  pub on : (h : Story) → Tells old h → (m : Story) × Tells new m × GoesOn (record h { state = after_receive h.state bytes }) m
+  pub on : (h : Story) → Tells old h → (m : Story) × Tells new m × ProgramDoesNothing (record h { state = after_receive h.state bytes }) m
 
 -- no item waits at the end to be read
 abbrev pub NoneWaits : Held → Type 0
@@ -128,14 +128,14 @@ progress s v = record {
 
 -- the connection went on up to where no item can move between the side and its end, and no call is to be rejected
 pub record Calm (old new : Conversation) : Type 0 where
-  pub on : (h : Story) → Tells old h → (m : Story) × Tells new m × GoesOn h m × IsMoved new.side m.state × IsListed new.side
+  pub on : (h : Story) → Tells old h → (m : Story) × Tells new m × ProgramDoesNothing h m × IsMoved new.side m.state × IsListed new.side
 
 -- something else was done, and then the connection went on up to where no item can move, and no call is to be rejected
 pub record CalmFrom (old new : Conversation) (base : Story → Story) : Type 0 where
-  pub on : (h : Story) → Tells old h → (m : Story) × Tells new m × GoesOn (base h) m × IsMoved new.side m.state × IsListed new.side
+  pub on : (h : Story) → Tells old h → (m : Story) × Tells new m × ProgramDoesNothing (base h) m × IsMoved new.side m.state × IsListed new.side
 
 -- every story of the old connection went on, from what something else made of it, up to where no more was moved for this reason; till then
 -- what came was read
 pub record GoesUntil (old : Conversation) (base : Story → Story) (e : FeedRefusal) : Type 0 where
-  pub on : (h : Story) → Tells old h → (last : Conversation) × (m : Story) × Tells last m × GoesOn (base h) m
-      × (drains last.side last.closing ≡ false) × IsHeld last.side m.state e
+  pub on : (h : Story) → Tells old h → (last : Conversation) × (m : Story) × Tells last m × ProgramDoesNothing (base h) m
+      × (drains last.side last.closing ≡ false) × IsHeldBack last.side m.state e

@@ -10,7 +10,7 @@ ghost use Rattle.xns_spp.specs.Receiving.{StoresBytes};
 ghost use Rattle.xns_spp.specs.Sending.{tick_answer};
 ghost use Rattle.xns_spp.specs.State.{State};
 ghost use Rattle.xns_spp.specs.Telling.{is_out, own_name, peer_name};
-ghost use Rattle.xns_connection.specs.Calls.{call_model};
+ghost use Rattle.xns_connection.specs.Calls.{raw_of_call};
 ghost use Rattle.xns_connection.specs.Connecting.{FitsClosed, is_again, is_dead, is_open_due, is_closed_due, why_given_up, owed_after};
 ghost use Rattle.xns_connection.specs.Moving.{HasHistory};
 ghost use Rattle.xns_connection.specs.Reasons.{call_fault_of, answer_fault_of};
@@ -188,8 +188,8 @@ impl Connection {
     /// opened it; `Busy` where a call waits for its answer, or the answer was not fetched; `TooLong` over 65,530 words; or `NoMemory`.
     #[tactic(auto, using(crate::proofs::Moments::no_step))]
     pub fn call(&mut self, alloc: Global, now: u64, call: &Call<'_>) -> Result<(), Refusal>
-        ensures refused { Answers (call_fault_of self.old.conversation (call_model call.now)) result }
-        ensures step { OnOk result (Step now (made (call_model call.now)) self.old self.new) }
+        ensures refused { Answers (call_fault_of self.old.conversation (raw_of_call call.now)) result }
+        ensures step { OnOk result (Step now (made (raw_of_call call.now)) self.old self.new) }
         ensures unchanged { OnErr result (self.new ≡ self.old) }
     {
         self.conversation.call(alloc, call)?;

@@ -7,9 +7,9 @@ ghost use Rattle.xns_spp.specs.Packet.{IsSppPacket, spp_packet_of};
 ghost use Rattle.xns_spp.specs.Receiving.{input_answer, after_receive, StoresBytes};
 ghost use Rattle.xns_spp.specs.Sending.{send_answer, after_send, tick_answer, waiting_count};
 ghost use Rattle.xns_spp.specs.State.{State};
-ghost use Rattle.xns_connection.specs.Calls.{call_model};
+ghost use Rattle.xns_connection.specs.Calls.{raw_of_call};
 ghost use Rattle.xns_connection.specs.Closing.{closing_item, noted, drains, wants_word};
-ghost use Rattle.xns_connection.specs.Moving.{IsAt, Moves, Scene, Settles, closed_up, drained_out, ended, is_calm, replied, scene, taken_many, taken_one};
+ghost use Rattle.xns_connection.specs.Moving.{IsAt, Moves, ConversationScene, MovesAll, closed_up, drained_out, with_end_out, is_calm, replied, conversation_scene, taken_many, taken_one};
 ghost use Rattle.xns_connection.specs.Deeds.{side_answered, side_called, side_taken};
 ghost use Rattle.xns_connection.specs.Refusing.{Answers};
 ghost use Rattle.xns_connection.specs.declared.closing.TheConstants.Closing.{NONE};
@@ -104,7 +104,7 @@ impl Conversation {
         requires { drains self.old.side self.old.closing ≡ true }
         ensures packets { self.new.packets ≡ self.old.packets }
         ensures drains { drains self.new.side self.new.closing ≡ true }
-        ensures at { (s : State) → StandsFor self.old.endpoint s → IsAt self.new (taken_one (scene self.old s)) }
+        ensures at { (s : State) → StandsFor self.old.endpoint s → IsAt self.new (taken_one (conversation_scene self.old s)) }
     {
         let Some(item) = self.endpoint.take() else {
             return;
@@ -116,7 +116,7 @@ impl Conversation {
     fn drain(&mut self)
         requires { drains self.old.side self.old.closing ≡ true }
         ensures packets { self.new.packets ≡ self.old.packets }
-        ensures at { (s : State) → StandsFor self.old.endpoint s → IsAt self.new (taken_many (waiting_count s) (scene self.old s)) }
+        ensures at { (s : State) → StandsFor self.old.endpoint s → IsAt self.new (taken_many (waiting_count s) (conversation_scene self.old s)) }
     {
         for turn in 0..self.endpoint.waiting() {
             self.take_one();
@@ -126,7 +126,7 @@ impl Conversation {
     /// Takes all items that wait, where the conversation reads only those of the closing exchange.
     fn drain_out(&mut self)
         ensures packets { self.new.packets ≡ self.old.packets }
-        ensures at { (s : State) → StandsFor self.old.endpoint s → IsAt self.new (drained_out (scene self.old s)) }
+        ensures at { (s : State) → StandsFor self.old.endpoint s → IsAt self.new (drained_out (conversation_scene self.old s)) }
     {
         if self.endpoint.waiting() == 0 {
             return;
@@ -171,7 +171,7 @@ impl Conversation {
     /// Puts out EndReply, once, where the peer asked for it.
     fn say_reply(&mut self, alloc: Global)
         ensures packets { self.new.packets ≡ self.old.packets }
-        ensures at { (s : State) → StandsFor self.old.endpoint s → IsAt self.new (replied (scene self.old s)) }
+        ensures at { (s : State) → StandsFor self.old.endpoint s → IsAt self.new (replied (conversation_scene self.old s)) }
     {
         if !self.owes_reply() {
             return;
@@ -184,7 +184,7 @@ impl Conversation {
     /// Puts out End, once, where the program wants it: behind all items that are out, and after the answer that the peer is owed.
     fn say_end(&mut self, alloc: Global)
         ensures packets { self.new.packets ≡ self.old.packets }
-        ensures at { (s : State) → StandsFor self.old.endpoint s → IsAt self.new (ended (scene self.old s)) }
+        ensures at { (s : State) → StandsFor self.old.endpoint s → IsAt self.new (with_end_out (conversation_scene self.old s)) }
     {
         if !self.owes_end() {
             return;
@@ -197,7 +197,7 @@ impl Conversation {
     /// Moves items between the side and the endpoint, unless the conversation reads only items of the closing exchange.
     fn converse(&mut self, alloc: Global) -> Result<(), FeedRefusal>
         ensures packets { self.new.packets ≡ self.old.packets }
-        ensures moves { (s : State) → StandsFor self.old.endpoint s → (x : Scene) × IsAt self.new x × Moves (scene self.old s) result x }
+        ensures moves { (s : State) → StandsFor self.old.endpoint s → (x : ConversationScene) × IsAt self.new x × Moves (conversation_scene self.old s) result x }
     {
         if self.drains() {
             return Ok(());
@@ -208,7 +208,7 @@ impl Conversation {
     /// Puts out End and EndReply where they are to go out, and takes all items that wait where only those of the closing exchange are read.
     fn close_up(&mut self, alloc: Global)
         ensures packets { self.new.packets ≡ self.old.packets }
-        ensures at { (s : State) → StandsFor self.old.endpoint s → IsAt self.new (closed_up (scene self.old s)) }
+        ensures at { (s : State) → StandsFor self.old.endpoint s → IsAt self.new (closed_up (conversation_scene self.old s)) }
     {
         self.say_end(alloc);
         self.drain_out();
@@ -241,7 +241,7 @@ impl Conversation {
     /// the next `settle` goes on where this one stopped.
     pub fn settle(&mut self, alloc: Global) -> Result<(), FeedRefusal>
         ensures packets { self.new.packets ≡ self.old.packets }
-        ensures settles { (s : State) → StandsFor self.old.endpoint s → (x : Scene) × IsAt self.new x × Settles (scene self.old s) result x }
+        ensures settles { (s : State) → StandsFor self.old.endpoint s → (x : ConversationScene) × IsAt self.new x × MovesAll (conversation_scene self.old s) result x }
     {
         let moved = self.converse(alloc);
         self.mark(moved);
@@ -254,7 +254,7 @@ impl Conversation {
 
     /// Whether no item can move, and nothing is to be said or read of closing.
     pub fn is_calm(&self) -> bool
-        ensures value { (s : State) → StandsFor self.now.endpoint s → result ≡ is_calm (scene self.now s) }
+        ensures value { (s : State) → StandsFor self.now.endpoint s → result ≡ is_calm (conversation_scene self.now s) }
     {
         if self.drains() || self.closing.wanted {
             return false;
@@ -325,8 +325,8 @@ impl Conversation {
     /// Puts out a call. An `Err`, which changes nothing, is `Closing` where the conversation closes; `PeerCalls`; `Busy`; `TooLong`; or
     /// `NoMemory`.
     pub fn call(&mut self, alloc: Global, call: &Call<'_>) -> Result<(), Refusal>
-        ensures answer { Answers (call_fault_of self.old (call_model call.now)) result }
-        ensures is { result ≡ Ok tt → self.new ≡ record self.old { side = side_called self.old.side (call_model call.now) } }
+        ensures answer { Answers (call_fault_of self.old (raw_of_call call.now)) result }
+        ensures is { result ≡ Ok tt → self.new ≡ record self.old { side = side_called self.old.side (raw_of_call call.now) } }
         ensures drains { drains self.new.side self.new.closing ≡ drains self.old.side self.old.closing }
         ensures endpoint { self.new.endpoint ≡ self.old.endpoint }
         ensures packets { self.new.packets ≡ self.old.packets }

@@ -15,7 +15,7 @@ ghost use Rattle.xns_connection.specs.Closing.{drains};
 ghost use Rattle.xns_connection.specs.Ends.{AConnectionKeepsItsEnd};
 ghost use Rattle.xns_connection.specs.Living.{Deeds, no_deeds, Lives, IsLived, ProgramsAgree};
 ghost use Rattle.xns_connection.specs.Step.{AClosingConnectionDoesNotWaitForEver, AConnectionGivesWhatItMade, AMessageIsHandedAsByAStep, AStepHasOneEnd, AStepKeepsItsPromises, TheDeadAreSilent};
-ghost use Rattle.xns_connection.specs.Story.{Story, GoesOn, new_story};
+ghost use Rattle.xns_connection.specs.Story.{Story, ProgramDoesNothing, new_story};
 ghost use Rattle.xns_connection.specs.Telling.{Tells};
 ghost use Rattle.xns_connection.specs.declared.conversation.Conversation.{Conversation};
 ghost use Rattle.xns_connection.specs.declared.side.Side.TheVariants.{Calls, Answers};
@@ -62,9 +62,9 @@ pub fn one_story_goes_on()
     ensures opens { (programs : Option (List Program)) (start : State) (c : Conversation) → Tells c (new_story programs start)
         → IsTold programs start c no_deeds (new_story programs start) }
     ensures acts { (programs : Option (List Program)) (start : State) (c d : Conversation) (l r : Deeds) (h b m : Story)
-        → IsTold programs start c l h → Acts c h l b r → Tells d m → GoesOn b m → IsTold programs start d r m }
+        → IsTold programs start c l h → Acts c h l b r → Tells d m → ProgramDoesNothing b m → IsTold programs start d r m }
     ensures hears { (programs : Option (List Program)) (start : State) (c d : Conversation) (l : Deeds) (h m : Story) (bytes : List ℕ)
-        → IsTold programs start c l h → Tells d m → GoesOn (record h { state = after_receive h.state bytes }) m
+        → IsTold programs start c l h → Tells d m → ProgramDoesNothing (record h { state = after_receive h.state bytes }) m
         → IsTold programs start d l m }
 {}
 

@@ -10,7 +10,7 @@ ghost use Rattle.xns_spp.specs.Sending.{tick_answer};
 ghost use Rattle.xns_spp.specs.State.{State};
 ghost use Rattle.xns_spp.specs.Telling.{unacknowledged_count};
 ghost use Rattle.xns_connection.specs.Closing.{wants_word};
-ghost use Rattle.xns_connection.specs.Connecting.{FitsClosed, is_again, is_open_due, is_closed_due, why_after, owed_after, again_for, is_foreign, is_of_another, is_repeat};
+ghost use Rattle.xns_connection.specs.Connecting.{FitsClosed, is_again, is_open_due, is_closed_due, why_after, owed_after, again_for, is_foreign, is_of_another, is_dropped_repeat};
 ghost use Rattle.xns_connection.specs.Moving.{HasHistory};
 ghost use Rattle.xns_connection.specs.Deeds.{ClosesThen, GoesOnBy, is_starved};
 ghost use Rattle.xns_connection.specs.Telling.{progress, waits};
@@ -148,8 +148,8 @@ pub fn progress_of(conversation: &Conversation, before: usize, was_open: bool) -
 }
 
 /// Whether a packet was dropped because its item came before.
-fn is_repeat(dropped: Option<Dropped>) -> bool
-    ensures { result ≡ is_repeat dropped }
+fn is_dropped_repeat(dropped: Option<Dropped>) -> bool
+    ensures { result ≡ is_dropped_repeat dropped }
 {
     matches!(dropped, Some(Dropped::Repeat))
 }
@@ -170,7 +170,7 @@ fn goes_again(
     let may = if acknowledged > 0 {
         wait.mends(acknowledged, now)
     } else {
-        wait.is_third_reply(reply) || (is_repeat(dropped) && wait.is_overdue(now))
+        wait.is_third_reply(reply) || (is_dropped_repeat(dropped) && wait.is_overdue(now))
     };
     left && may
 }

@@ -5,7 +5,7 @@ ghost use Rattle.courier_sessions.specs.Answering.{has_items};
 ghost use Rattle.xns_spp.specs.Held.{StandsFor};
 ghost use Rattle.xns_spp.specs.Sending.{waiting_count};
 ghost use Rattle.xns_spp.specs.State.{State};
-ghost use Rattle.xns_connection.specs.Calls.{call_model};
+ghost use Rattle.xns_connection.specs.Calls.{raw_of_call};
 ghost use Rattle.xns_connection.specs.Story.{IsListed, IsUnlisted, is_called, is_stopped, out_of, owes_answer};
 ghost use Rattle.xns_connection.specs.Story.{has_message, waiting_message, wants_answer};
 ghost use Rattle.xns_connection.specs.Moving.{Converses, Pumps, Rejects};
@@ -119,8 +119,8 @@ impl Side {
 
     /// Puts out a call.
     pub fn call(&mut self, alloc: Global, call: &Call<'_>) -> Result<(), Refusal>
-        ensures answer { Answers (side_call_fault self.old (call_model call.now)) result }
-        ensures is { result ≡ Ok tt → self.new ≡ side_called self.old (call_model call.now) }
+        ensures answer { Answers (side_call_fault self.old (raw_of_call call.now)) result }
+        ensures is { result ≡ Ok tt → self.new ≡ side_called self.old (raw_of_call call.now) }
         ensures stopped { is_stopped self.new ≡ is_stopped self.old }
         ensures called { is_called self.new ≡ is_called self.old }
         ensures unchanged { OnErr result (self.new ≡ self.old) }

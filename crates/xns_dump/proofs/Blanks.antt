@@ -3,7 +3,7 @@ use Rattle.std.proofs.Common.{◌≡◌, ◌∙◌, ap, sym, refl, arith, ℕ, s
 use Rattle.std.specs.Prelude.{not}
 use Rattle.std.specs.List.{filter}
 use Rattle.memchr.specs.Find.{Nowhere, Passes, is_byte2}
-use Rattle.xns_dump.specs.Dump.Line.{digits_of, is_blank}
+use Rattle.xns_dump.specs.Dump.Line.{digits_of, is_space_or_tab}
 use Rattle.xns_lines.specs.Lines.{without_return}
 
 not_true : (p : Bool) → (p ≡ true → ⊥) → not p ≡ true
@@ -11,14 +11,14 @@ not_true true h = absurd (h refl)
 not_true false h = refl
 
 -- nothing is left out where there is no blank
-pub filter_no_blank : (line : List ℕ) → Nowhere (Passes (is_byte2 32 9) line) 0 (length line) → filter (λ byte. not (is_blank byte)) line ≡ line
+pub filter_no_blank : (line : List ℕ) → Nowhere (Passes (is_byte2 32 9) line) 0 (length line) → filter (λ byte. not (is_space_or_tab byte)) line ≡ line
 filter_no_blank [] none = refl
 filter_no_blank (byte ∷ line) none =
-    let kept : not (is_blank byte) ≡ true = not_true (is_blank byte) (none 0 (omega arith) (omega arith)) in
+    let kept : not (is_space_or_tab byte) ≡ true = not_true (is_space_or_tab byte) (none 0 (omega arith) (omega arith)) in
     let rest = filter_no_blank line (λ k low high. none (suc k) (omega arith) (omega (arith, high))) in
-    ap (λ p. cond p (byte ∷ filter (λ b. not (is_blank b)) line) (filter (λ b. not (is_blank b)) line)) kept ∙ ap (λ t. byte ∷ t) rest
+    ap (λ p. cond p (byte ∷ filter (λ b. not (is_space_or_tab b)) line) (filter (λ b. not (is_space_or_tab b)) line)) kept ∙ ap (λ t. byte ∷ t) rest
 
 -- the digits of a line without blanks
 pub digits_of-plain : (line plain : List ℕ) → plain ≡ without_return line → Nowhere (Passes (is_byte2 32 9) plain) 0 (length plain) → plain ≡ digits_of line
 unfolding digits_of
-digits_of-plain line plain same none = sym (filter_no_blank plain none) ∙ ap (filter (λ byte. not (is_blank byte))) same
+digits_of-plain line plain same none = sym (filter_no_blank plain none) ∙ ap (filter (λ byte. not (is_space_or_tab byte))) same

@@ -26,7 +26,7 @@ abbrev pub says_refused : List ℕ → Bool
 says_refused text = has_word (codes "refused") text
 
 -- the word `refused` does not begin in the text, whatever follows
-pub record IsQuiet (text : List ℕ) : Type 0 where
+pub record SaysNoRefusal (text : List ℕ) : Type 0 where
   pub skips : (rest : List ℕ) → says_refused (text ++ rest) ≡ says_refused rest
 
 -- the word `refused` stands in the text, whatever follows
@@ -35,19 +35,19 @@ pub record IsLoud (text : List ℕ) : Type 0 where
 
 -- joined texts have the word where one of them has it, and it begins in none of those before that one
 pub record JoinedTextsSayRefused : Type 0 where
-  pub quiet : (xs ys : List ℕ) → IsQuiet xs → IsQuiet ys → IsQuiet (xs ++ ys)
-  pub loud_behind : (xs ys : List ℕ) → IsQuiet xs → IsLoud ys → IsLoud (xs ++ ys)
+  pub quiet : (xs ys : List ℕ) → SaysNoRefusal xs → SaysNoRefusal ys → SaysNoRefusal (xs ++ ys)
+  pub loud_behind : (xs ys : List ℕ) → SaysNoRefusal xs → IsLoud ys → IsLoud (xs ++ ys)
   pub loud_before : (xs ys : List ℕ) → IsLoud xs → IsLoud (xs ++ ys)
-  pub silent : (xs : List ℕ) → IsQuiet xs → says_refused xs ≡ false
+  pub silent : (xs : List ℕ) → SaysNoRefusal xs → says_refused xs ≡ false
   pub said : (xs : List ℕ) → IsLoud xs → says_refused xs ≡ true
 
 -- numbers, words, addresses and names of procedures do not begin the word; the lines of refusals have it
 pub record OnlyRefusalsSayRefused : Type 0 where
-  pub number : (n : ℕ) → IsQuiet (decimal n)
-  pub word : (w : ℕ) → IsQuiet (hex_word w)
-  pub words : (ws : List ℕ) → IsQuiet (words_text ws)
-  pub address : (a : Address) → IsQuiet (address_text a)
-  pub callee : (program version procedure : ℕ) → IsQuiet (callee_text program version procedure)
+  pub number : (n : ℕ) → SaysNoRefusal (decimal n)
+  pub word : (w : ℕ) → SaysNoRefusal (hex_word w)
+  pub words : (ws : List ℕ) → SaysNoRefusal (words_text ws)
+  pub address : (a : Address) → SaysNoRefusal (address_text a)
+  pub callee : (program version procedure : ℕ) → SaysNoRefusal (callee_text program version procedure)
   pub hex : (n : ℕ) (error : FromHexError) → IsLoud (hex_refusal n error)
   pub packet : (n : ℕ) (fault : IdpFault) → IsLoud (idp_refusal n fault)
   pub header : (n : ℕ) (fault : SppFault) → IsLoud (header_refusal n fault)

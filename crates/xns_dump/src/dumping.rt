@@ -2,7 +2,7 @@
 ghost use Rattle.std.specs.Prelude.{◌≡◌, None, IfErr, IfOk, IfSome, OnOk};
 ghost use Rattle.std.specs.Io.KnownBytes.{Appends};
 ghost use Rattle.xns_dump.specs.Dump.{StopsIn, dump_text, has_refused_line};
-ghost use Rattle.xns_captures.specs.Captures.{fault_of};
+ghost use Rattle.xns_captures.specs.Captures.{capture_fault};
 ghost use Rattle.xns_dump.specs.Dump.Capture.{CaptureStopsIn, dump_capture_text, has_refused_packet};
 ghost use Rattle.xns_lines.specs.Lines.{IsWithinLimits, most_lines};
 
@@ -63,7 +63,7 @@ pub fn dump_capture<R: Read, W: Write>(
     ensures text { IfOk result (λ refused. IfSome (R.remaining reader.old) (λ file.
         Appends (W.contents writer.old) (W.contents writer.new) (dump_capture_text file))) }
     ensures refused { IfOk result (λ refused. IfSome (R.remaining reader.old) (λ file. refused ≡ has_refused_packet file)) }
-    ensures whole { OnOk result (IfSome (R.remaining reader.old) (λ file. fault_of file ≡ None)) }
+    ensures whole { OnOk result (IfSome (R.remaining reader.old) (λ file. capture_fault file ≡ None)) }
 
     // After a fault the text of the packets before it is written; a fault of the capture comes behind all its packets.
     ensures fault { IfErr result (λ fault. IfSome (R.remaining reader.old) (λ file.

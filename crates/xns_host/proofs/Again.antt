@@ -6,7 +6,7 @@ use Rattle.std.proofs.lemmas.Grind.{get_or_default_zero}
 use Rattle.std.proofs.lemmas.List.Quantifiers.{position-Some}
 use Rattle.std.proofs.lemmas.List.Sorted.{IsPermutation-append_comm, length_permutation}
 use Rattle.std.proofs.lemmas.Option.{get_or_from_slice_get}
-use Rattle.xns_host.specs.Identifiers.{Ids, IsOrder, Turn, Given, none, gives, keeps, HadTurn, is_free, most_id}
+use Rattle.xns_host.specs.Identifiers.{Ids, IsOrder, IdentifierTurn, Given, none, gives, keeps, HadTurn, is_free, most_id}
 use Rattle.xns_host.proofs.Ordered.{permuted}
 
 -- ---- the order after a turn
@@ -103,7 +103,7 @@ next_any : {X : Type 0} (P : X → Type 0) (x : X) (xs : List X) → Any P xs �
 next_any P x xs (k, y, within, is, p) = (suc k, y, omega (arith, within), is, p)
 
 -- what the next turn did
-record Next (ids : List ℕ) (turn : Turn) (after : List Turn) (end : Ids) : Type 0 where
+record Next (ids : List ℕ) (turn : IdentifierTurn) (after : List IdentifierTurn) (end : Ids) : Type 0 where
   pub place : ℕ
   pub first : position (is_free turn.owners) ids ≡ Some place
   pub there : slice_get ids place ≡ Some turn.given
@@ -111,7 +111,7 @@ record Next (ids : List ℕ) (turn : Turn) (after : List Turn) (end : Ids) : Typ
   pub order : now.ahead ≡ turned (place + 1) ids
   pub goes_on : Given now after end
 
-next_turn : {a c : Ids} {turns : List Turn} (turn : Turn) (after : List Turn) → Given a turns c → turns ≡ turn ∷ after → Next a.ahead turn after c
+next_turn : {a c : Ids} {turns : List IdentifierTurn} (turn : IdentifierTurn) (after : List IdentifierTurn) → Given a turns c → turns ≡ turn ∷ after → Next a.ahead turn after c
 next_turn turn after none e = absurd (cc)
 next_turn {a} turn after (keeps {b = b} same more) e =
     let n = next_turn turn after more e in
@@ -124,18 +124,18 @@ next_turn {a} turn after (keeps {b = b} same more) e =
       goes_on = n.goes_on;
     }
 next_turn {a} {c} turn after (gives {b = b} {turns = turns} id t more) e =
-    let same : record { given = id; owners = a.owners } ≡ turn = ap (λ (l : List Turn). get_or l 0 turn) e in
+    let same : record { given = id; owners = a.owners } ≡ turn = ap (λ (l : List IdentifierTurn). get_or l 0 turn) e in
     record {
       place = t.place;
-      first = subst (λ (u : Turn). position (is_free u.owners) a.ahead ≡ Some t.place) same t.first;
-      there = subst (λ (u : Turn). slice_get a.ahead t.place ≡ Some u.given) same t.there;
+      first = subst (λ (u : IdentifierTurn). position (is_free u.owners) a.ahead ≡ Some t.place) same t.first;
+      there = subst (λ (u : IdentifierTurn). slice_get a.ahead t.place ≡ Some u.given) same t.there;
       now = b;
       order = t.turned;
-      goes_on = subst (λ (l : List Turn). Given b l c) (ap (λ (l : List Turn). drop 1 l) e) more;
+      goes_on = subst (λ (l : List IdentifierTurn). Given b l c) (ap (λ (l : List IdentifierTurn). drop 1 l) e) more;
     }
 
 -- an identifier that stands ahead has its turn, or still stands ahead
-at_turn : (ids : List ℕ) (turn : Turn) (place y x : ℕ) → position (is_free turn.owners) ids ≡ Some place → slice_get ids place ≡ Some turn.given
+at_turn : (ids : List ℕ) (turn : IdentifierTurn) (place y x : ℕ) → position (is_free turn.owners) ids ≡ Some place → slice_get ids place ≡ Some turn.given
     → Leads ids y x → HadTurn y turn ⊎ ((turn.given ≢ x) × Leads (turned (place + 1) ids) y x)
 at_turn ids turn place y x first there l = by (sides l.at place) where
   given : get_or ids place 0 ≡ turn.given
@@ -146,7 +146,7 @@ at_turn ids turn place y x first there l = by (sides l.at place) where
   by (inr (inl e)) = inl (inl (sym given ∙ ap (λ (i : ℕ). get_or ids i 0) (sym e) ∙ l.there))
   by (inr (inr past)) = inr ((λ is. l.others place past (given ∙ is)), still ids place y x l past)
 
-has_turn : {c : Ids} (since after : List Turn) (again : Turn) (a : Ids) (y : ℕ) → Given a (since ++ again ∷ after) c → Leads a.ahead y again.given
+has_turn : {c : Ids} (since after : List IdentifierTurn) (again : IdentifierTurn) (a : Ids) (y : ℕ) → Given a (since ++ again ∷ after) c → Leads a.ahead y again.given
     → Any (HadTurn y) (since ++ again ∷ [])
 has_turn {c} [] after again a y g l = by (at_turn a.ahead again n.place y again.given n.first n.there l) where
   n : Next a.ahead again after c
@@ -163,7 +163,7 @@ has_turn {c} (turn ∷ since) after again a y g l =
     (has_turn since after again n.now y n.goes_on (subst (λ (ids : List ℕ). Leads ids y again.given) (sym n.order) more.1)))
     (at_turn a.ahead turn n.place y again.given n.first n.there l)
 
-pub comes_again : {c : Ids} (before since after : List Turn) (once again : Turn) (a : Ids) (y : ℕ) → IsOrder a.ahead
+pub comes_again : {c : Ids} (before since after : List IdentifierTurn) (once again : IdentifierTurn) (a : Ids) (y : ℕ) → IsOrder a.ahead
     → Given a (before ++ once ∷ since ++ again ∷ after) c → again.given ≡ once.given → 1 ≤ y → y ≤ most_id → y ≢ once.given → Any (HadTurn y) (since ++ again ∷ [])
 comes_again {c} [] since after once again a y order g same least most other =
     let n : Next a.ahead once (since ++ again ∷ after) c = next_turn once (since ++ again ∷ after) g refl in

@@ -8,8 +8,8 @@ use Rattle.xns_spp.specs.Packet.{SppPacketModel, opener_of, spp_packet_of}
 use Rattle.xns_host.specs.Coming.{Arrives, Comes, Opens, echoes, foreign, full, hears, meant, opens, refuses, starved, unheard, unmeant}
 use Rattle.xns_host.specs.Hosting.{HasNoRoom, IsAllInUse, IsThere, address_in, confirms}
 use Rattle.xns_host.specs.Identifiers.{StaysInOrder}
-use Rattle.xns_host.specs.Ours.{AsksEcho, IsOf, IsOurs, IsToSocket, QuotesOurs}
-use Rattle.xns_host.specs.Places.{Places, Turns}
+use Rattle.xns_host.specs.Ours.{AsksEcho, IsOfGuest, IsOurs, IsToSocket, QuotesOurs}
+use Rattle.xns_host.specs.Places.{Places, PlaceTurns}
 use Rattle.xns_host.specs.Registered.{named_in}
 use Rattle.xns_host.specs.Services.{programs_at}
 use Rattle.xns_host.specs.Standing.{IsSameHost, StaysSetUp}
@@ -67,7 +67,7 @@ comes_echo now way b w v false p taken read kind asked never waits rest is =
     (is ∙ ap (λ (q : StrayQueue). let x : Whole = record w { strays = q } in x) (rest refl))
 
 pub comes_refused : (now way : ℕ) (b : List ℕ) (w v : Whole) (r : Bool) (p : PacketModel) (taken : ℕ) → packet_of b ≡ Ok (p, taken) → p.kind ≡ 3
-    → (r ≡ true → (q : QuotesOurs w p) × Turns (λ (g h : Guest). GuestUnserved now q.quote.error g h) q.number w.places v.places) → (r ≡ false → QuotesOurs w p → ⊥)
+    → (r ≡ true → (q : QuotesOurs w p) × PlaceTurns (λ (g h : Guest). GuestUnserved now q.quote.error g h) q.number w.places v.places) → (r ≡ false → QuotesOurs w p → ⊥)
     → (r ≡ false → v.places ≡ w.places) → v ≡ record w { places = v.places } → Comes now way b w r v
 unfolding whole
 comes_refused now way b w v true p taken read kind turn never rest is =
@@ -77,7 +77,7 @@ comes_refused now way b w v false p taken read kind turn never rest is =
 
 pub comes_heard : (now way : ℕ) (b : List ℕ) (w v : Whole) (r : Bool) (p : SppPacketModel) (number : ℕ) → spp_packet_of b ≡ Ok p → p.target.host ≡ w.host
     → named_in w.register p ≡ Some number
-    → (r ≡ true → IsThere (IsOf p) (slice_get w.places.guests number) × Turns (λ (g h : Guest). GuestHears now b (confirms p) g h) number w.places v.places)
+    → (r ≡ true → IsThere (IsOfGuest p) (slice_get w.places.guests number) × PlaceTurns (λ (g h : Guest). GuestHears now b (confirms p) g h) number w.places v.places)
     → (r ≡ false → IsOurs w b → ⊥) → (r ≡ false → v.places ≡ w.places) → v ≡ record w { places = v.places } → Comes now way b w r v
 unfolding whole
 comes_heard now way b w v true p number is here named turn never rest eq =

@@ -23,7 +23,7 @@ use Rattle.xns_host.specs.Register.{number_by, owner_in, peer_at, peer_cmp}
 use Rattle.xns_host.specs.Knowing.{id_of, opener_to, who_opened}
 use Rattle.xns_host.specs.Registered.{HasStory, IsRegistered, opener_at}
 use Rattle.xns_connection.specs.Story.{Story}
-use Rattle.xns_connection.specs.Telling.{Goes, Hears, Tells}
+use Rattle.xns_connection.specs.Telling.{Goes, HearsBytes, Tells}
 use Rattle.xns_connection.specs.declared.connection.Connection.{Connection}
 use Rattle.xns_connection.specs.declared.conversation.Conversation.{Conversation}
 use Rattle.xns_host.specs.declared.guest.Guest.{Guest}
@@ -89,7 +89,7 @@ from_story g h base goes e = let next = goes e.story e.tells in has_story h next
 pub goes_story : (g h : Guest) → Goes g.connection.conversation h.connection.conversation → HasStory g → HasStory h
 goes_story g h goes = from_story g h (λ s. s) goes.on
 
-pub hears_story : (g h : Guest) (bytes : List ℕ) → Hears g.connection.conversation h.connection.conversation bytes → HasStory g → HasStory h
+pub hears_story : (g h : Guest) (bytes : List ℕ) → HearsBytes g.connection.conversation h.connection.conversation bytes → HasStory g → HasStory h
 hears_story g h bytes hears e = let next = hears.on e.story e.tells in has_story h next.0 next.1
 
 -- a connection whose conversation is as it was has its story still

@@ -20,7 +20,7 @@ use Rattle.xns_host.specs.Following.{AConnectionHearsItsPackets, WhoIsQuotedIsNo
 use Rattle.xns_host.specs.Hosting.{HasNoPacket, IsPacketOf, IsRefusedBy, confirms}
 use Rattle.xns_host.specs.Ours.{Names, QuotesOurs}
 use Rattle.xns_host.specs.Ours as ours
-use Rattle.xns_host.specs.Places.{AsksEvent, AsksInVain, NextEvent, NextPacket, Places, Turns, another, gives, nobody, nothing, quiet, starves, tells, told}
+use Rattle.xns_host.specs.Places.{AsksEvent, AsksInVain, NextEvent, NextPacket, Places, PlaceTurns, another, gives, nobody, nothing, quiet, starves, tells, told}
 use Rattle.xns_host.specs.Quotes.{is_sent_by, quoted_packet, sends_to}
 use Rattle.xns_host.specs.Register.{owner_in}
 use Rattle.xns_host.specs.Registered.{IsAllRegistered, named_in}
@@ -99,7 +99,7 @@ names_it w p n g all of there = record {
 
 heard_in : (now way : ℕ) (b : List ℕ) (w v : Whole) (r : Bool) (p : SppPacketModel) (n : ℕ) (g : Guest) → IsAllRegistered w.register w.places.guests
     → Comes now way b w r v → spp_packet_of b ≡ Ok p → IsPacketOf w.host p g → slice_get w.places.guests n ≡ Some (Some g)
-    → (r ≡ true) × Turns (λ (f h : Guest). GuestHears now b (confirms p) f h) n w.places v.places
+    → (r ≡ true) × PlaceTurns (λ (f h : Guest). GuestHears now b (confirms p) f h) n w.places v.places
 unfolding names_it
 heard_in now way b w v r p n g all (foreign never) is of there = absurd (never (ours.names p is (names_it w p n g all of there)))
 heard_in now way b w v r p n g all (echoes c taken read asks waits) is of there =
@@ -111,8 +111,8 @@ heard_in now way b w v r p n g all (hears q {q = places} read names turn) is of 
     let named : named_in w.register q ≡ Some n = ap (λ (x : SppPacketModel). named_in w.register x) same ∙ (names_it w p n g all of there).named in
     let one : names.number ≡ n = same_Some names.number n (sym names.named ∙ named) in (
       refl,
-      subst (λ (x : SppPacketModel). Turns (λ (f h : Guest). GuestHears now b (confirms x) f h) n w.places places) same
-          (subst (λ (m : ℕ). Turns (λ (f h : Guest). GuestHears now b (confirms q) f h) m w.places places) one turn),
+      subst (λ (x : SppPacketModel). PlaceTurns (λ (f h : Guest). GuestHears now b (confirms x) f h) n w.places places) same
+          (subst (λ (m : ℕ). PlaceTurns (λ (f h : Guest). GuestHears now b (confirms q) f h) m w.places places) one turn),
     )
 heard_in now way b w v r p n g all (opens q read opener made) is of there =
     let same : q ≡ p = (let e = sym read ∙ is in cc) in
@@ -122,7 +122,7 @@ heard_in now way b w v r p n g all (opens q read opener made) is of there =
 
 arrives_heard : (now way : ℕ) (b : List ℕ) (w v : Whole) (r : Bool) (p : SppPacketModel) (n : ℕ) (g : Guest) → IsAllRegistered w.register w.places.guests
     → Arrives now way b w r v → spp_packet_of b ≡ Ok p → IsPacketOf w.host p g → slice_get w.places.guests n ≡ Some (Some g)
-    → (r ≡ true) × Turns (λ (f h : Guest). GuestHears now b (confirms p) f h) n w.places v.places
+    → (r ≡ true) × PlaceTurns (λ (f h : Guest). GuestHears now b (confirms p) f h) n w.places v.places
 arrives_heard now way b w v r p n g all (meant comes) is of there = heard_in now way b w v true p n g all comes is of there
 arrives_heard now way b w v r p n g all (unheard c taken comes read served complains) is of there =
     let bad = (heard_in now way b w w false p n g all comes is of there).0 in absurd (cc)
@@ -176,7 +176,7 @@ same_packet b c p x y left right = sym (one_packet c p x y (sym left) right)
 
 unserved_in : (now way : ℕ) (b : List ℕ) (w v : Whole) (r : Bool) (p : PacketModel) (taken n : ℕ) (g : Guest)
     → IsAllRegistered w.register w.places.guests → Comes now way b w r v → packet_of b ≡ Ok (p, taken) → (by : IsRefusedBy w.host p g)
-    → slice_get w.places.guests n ≡ Some (Some g) → (r ≡ true) × Turns (λ (f h : Guest). GuestUnserved now by.quote.error f h) n w.places v.places
+    → slice_get w.places.guests n ≡ Some (Some g) → (r ≡ true) × PlaceTurns (λ (f h : Guest). GuestUnserved now by.quote.error f h) n w.places v.places
 unfolding quotes_it
 unserved_in now way b w v r p taken n g all (foreign never) is by there = absurd (never (ours.quotes p taken is (quotes_it w p n g all by there)))
 unserved_in now way b w v r p taken n g all (echoes c other read asks waits) is by there =
@@ -191,8 +191,8 @@ unserved_in now way b w v r p taken n g all (refuses c other {q = places} read q
     = same_Some quotes.number n (sym quotes.owner ∙ (ap (λ (x : Quote). owner_in w.register.identifiers x.source_id) quote ∙ mine.owner)) in
     let error : quotes.quote.error ≡ by.quote.error = ap (λ (x : Quote). x.error) quote in (
       refl,
-      subst (λ (e : ℕ). Turns (λ (f h : Guest). GuestUnserved now e f h) n w.places places) error
-          (subst (λ (m : ℕ). Turns (λ (f h : Guest). GuestUnserved now quotes.quote.error f h) m w.places places) one turn),
+      subst (λ (e : ℕ). PlaceTurns (λ (f h : Guest). GuestUnserved now e f h) n w.places places) error
+          (subst (λ (m : ℕ). PlaceTurns (λ (f h : Guest). GuestUnserved now quotes.quote.error f h) m w.places places) one turn),
     )
 unserved_in now way b w v r p taken n g all (hears q read names turn) is by there =
     let bad : 3 ≡ 5 = sym by.kind ∙ sequenced_kind b p taken q is read in absurd (omega (arith, bad))
@@ -201,7 +201,7 @@ unserved_in now way b w v r p taken n g all (opens q read opener made) is by the
 
 arrives_unserved : (now way : ℕ) (b : List ℕ) (w v : Whole) (r : Bool) (p : PacketModel) (taken n : ℕ) (g : Guest)
     → IsAllRegistered w.register w.places.guests → Arrives now way b w r v → packet_of b ≡ Ok (p, taken) → (by : IsRefusedBy w.host p g)
-    → slice_get w.places.guests n ≡ Some (Some g) → (r ≡ true) × Turns (λ (f h : Guest). GuestUnserved now by.quote.error f h) n w.places v.places
+    → slice_get w.places.guests n ≡ Some (Some g) → (r ≡ true) × PlaceTurns (λ (f h : Guest). GuestUnserved now by.quote.error f h) n w.places v.places
 arrives_unserved now way b w v r p taken n g all (meant comes) is by there = unserved_in now way b w v true p taken n g all comes is by there
 arrives_unserved now way b w v r p taken n g all (unheard c other comes read served complains) is by there =
     let bad = (unserved_in now way b w w false p taken n g all comes is by there).0 in absurd (cc)

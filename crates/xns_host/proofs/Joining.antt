@@ -7,7 +7,7 @@ use Rattle.std.specs.Ordering.{is_eq}
 use Rattle.std.proofs.lemmas.List.{get_or-set_other}
 use Rattle.std.proofs.lemmas.List.Quantifiers.{position-Some}
 use Rattle.std.proofs.lemmas.Option.{get_or_from_slice_get}
-use Rattle.xns_host.specs.Identifiers.{Gives, Ids, IsNext, StaysInOrder, TurnsOver, is_free}
+use Rattle.xns_host.specs.Identifiers.{GivesIdentifier, Ids, IsNextIdentifier, StaysInOrder, TurnsOver, is_free}
 use Rattle.xns_host.specs.Register.{owner_in, peer_cmp}
 use Rattle.xns_host.specs.Hosting.{IsThere}
 use Rattle.xns_host.specs.Knowing.{id_of, who_opened}
@@ -25,7 +25,7 @@ Places = List (Option Guest)
 -- ---- an identifier is taken
 
 -- nobody had it
-unowned : (ids : Ids) (id : ℕ) → IsNext ids id → owner_in ids id ≡ None
+unowned : (ids : Ids) (id : ℕ) → IsNextIdentifier ids id → owner_in ids id ≡ None
 unowned ids id next =
     let found = position-Some (is_free ids.owners) ids.ahead next.place id next.first in
     let at : get_or ids.ahead next.place id ≡ id = get_or_from_slice_get ids.ahead next.place id id next.there in
@@ -47,17 +47,17 @@ abbrev pub OpenedBy : (old new : Register) → Option Peer → Type 0
 OpenedBy old new opener = (o : Peer) (n : ℕ) → get peer_cmp new.peers o ≡ Some n → (opener ≡ Some o) ⊎ (get peer_cmp old.peers o ≡ Some n)
 
 abbrev IsGiven : (a b : Ids) (number : ℕ) → Option ℕ → Type 0
-IsGiven a b number x = (place : ℕ) → position (is_free a.owners) a.ahead ≡ Some place → IfSome x (Gives a b place number)
+IsGiven a b number x = (place : ℕ) → position (is_free a.owners) a.ahead ≡ Some place → IfSome x (GivesIdentifier a b place number)
 
 abbrev IsSome : Ids → Option ℕ → Type 0
 IsSome a x = (place : ℕ) → position (is_free a.owners) a.ahead ≡ Some place → x ≢ None
 
-took : (r s : Register) (number id : ℕ) (x : Option ℕ) → IsNext r.identifiers id → IsGiven r.identifiers s.identifiers number x → IsSome r.identifiers x
+took : (r s : Register) (number id : ℕ) (x : Option ℕ) → IsNextIdentifier r.identifiers id → IsGiven r.identifiers s.identifiers number x → IsSome r.identifiers x
     → IfSome x (λ i. owner_in s.identifiers i ≡ Some number)
     → ((o : Peer) (n : ℕ) → get peer_cmp r.peers o ≡ Some n → get peer_cmp s.peers o ≡ Some n) → HasJoined r s number id
 took r s number id None next given some owner peers = absurd (some next.place next.first refl)
 took r s number id (Some x) next given some owner peers =
-    let gives : Gives r.identifiers s.identifiers next.place number x = given next.place next.first in
+    let gives : GivesIdentifier r.identifiers s.identifiers next.place number x = given next.place next.first in
     let here : slice_get r.identifiers.ahead next.place ≡ Some x = gives.there in
     let there : slice_get r.identifiers.ahead next.place ≡ Some id = next.there in
     let same : x ≡ id = cc in
@@ -70,13 +70,13 @@ took r s number id (Some x) next given some owner peers =
     }
 
 -- the identifier that came next was given, and none after it
-pub turned_over : (a b c : Ids) (number id : ℕ) (x : Option ℕ) → IsNext a id → IsGiven a b number x → IsSome a x → StaysInOrder b c → (i : ℕ) × TurnsOver a c i
+pub turned_over : (a b c : Ids) (number id : ℕ) (x : Option ℕ) → IsNextIdentifier a id → IsGiven a b number x → IsSome a x → StaysInOrder b c → (i : ℕ) × TurnsOver a c i
 turned_over a b c number id None next given some same = absurd (some next.place next.first refl)
 turned_over a b c number id (Some x) next given some same =
-    let gives : Gives a b next.place number x = given next.place next.first in
+    let gives : GivesIdentifier a b next.place number x = given next.place next.first in
     (x, record { place = next.place; first = next.first; there = gives.there; turned = same ∙ gives.turned })
 
-pub joined : (r s : Register) (number id : ℕ) (x : Option ℕ) → IsNext r.identifiers id → IsGiven r.identifiers s.identifiers number x
+pub joined : (r s : Register) (number id : ℕ) (x : Option ℕ) → IsNextIdentifier r.identifiers id → IsGiven r.identifiers s.identifiers number x
     → IsSome r.identifiers x → IfSome x (λ i. owner_in s.identifiers i ≡ Some number) → s.peers ≡ r.peers → HasJoined r s number id
 joined r s number id x next given some owner same =
     took r s number id x next given some owner (λ o n is. ap (λ (m : BTreeMap Peer ℕ). get peer_cmp m o) same ∙ is)
@@ -88,7 +88,7 @@ entered m n opener o number k u none is =
     stays m n opener o (Some number) u (λ same. let there = sym none ∙ ap (λ (p : Peer). get peer_cmp m p) same ∙ is in absurd (cc)) ∙ is
 
 pub joined_opened : (r t s : Register) (number id : ℕ) (opener : Peer) (x : Option ℕ) → t.identifiers ≡ r.identifiers
-    → Updates peer_cmp r.peers t.peers opener (Some number) → get peer_cmp r.peers opener ≡ None → IsNext r.identifiers id
+    → Updates peer_cmp r.peers t.peers opener (Some number) → get peer_cmp r.peers opener ≡ None → IsNextIdentifier r.identifiers id
     → IsGiven t.identifiers s.identifiers number x → IsSome t.identifiers x → IfSome x (λ i. owner_in s.identifiers i ≡ Some number)
     → s.peers ≡ t.peers → HasJoined r s number id
 joined_opened r t s number id opener x same u none next given some owner peers =

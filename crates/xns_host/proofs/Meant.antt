@@ -7,14 +7,14 @@ use Rattle.xns_agenda.specs.declared.act.Act.{Act}
 use Rattle.xns_agenda.specs.declared.act.Act.TheVariants.{Nothing, Again, Ask, GiveUp, Forget}
 use Rattle.xns_connection.specs.Deeds.{Parts, acted, acted_by, heard, with_taken}
 use Rattle.xns_connection.specs.Step.{AMessageIsHandedAsByAStep, AStepKeepsItsPromises, GivesNext, Hands, MovesOwed, Step, calmly, moving_on, none_waits, parts_of}
-use Rattle.xns_connection.specs.Story.{GoesOn, Story, waiting_message, with_handed}
-use Rattle.xns_connection.specs.Telling.{Hears, Tells}
+use Rattle.xns_connection.specs.Story.{ProgramDoesNothing, Story, waiting_message, with_handed}
+use Rattle.xns_connection.specs.Telling.{HearsBytes, Tells}
 use Rattle.xns_connection.specs.declared.connection.Connection.{Connection}
 
 -- ---- bytes came
 
 pub heard_hears : AStepKeepsItsPromises → (now : ℕ) (bytes : List ℕ) (c d : Connection) → Step now (heard bytes) c d
-    → Hears c.conversation d.conversation bytes
+    → HearsBytes c.conversation d.conversation bytes
 heard_hears law now bytes c d step =
     let p = law now (heard bytes) c d step in
     record { wanted = λ z. p.wanted ∙ z; on = p.story }
@@ -60,9 +60,9 @@ handing_steps law now c d (calmly some calm is) = (law now c d some (calmly some
 handing_steps law now c d (moving_on some busy step) = step.steps
 
 pub handed_story : AMessageIsHandedAsByAStep → (now : ℕ) (c d : Connection) (m : Message) → waiting_message c.conversation.side ≡ Some m → Hands now c d
-    → (h : Story) → Tells c.conversation h → (n : Story) × Tells d.conversation n × GoesOn (with_handed c.conversation.side h m) n
+    → (h : Story) → Tells c.conversation h → (n : Story) × Tells d.conversation n × ProgramDoesNothing (with_handed c.conversation.side h m) n
 handed_story law now c d m waits hands h tells =
-    subst (λ (o : Option Message). (n : Story) × Tells d.conversation n × GoesOn (with_taken o c.conversation.side h) n) waits
+    subst (λ (o : Option Message). (n : Story) × Tells d.conversation n × ProgramDoesNothing (with_taken o c.conversation.side h) n) waits
     ((law now c d (λ none. cc) hands).story h tells)
 
 -- ---- a packet was asked for

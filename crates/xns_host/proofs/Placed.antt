@@ -12,7 +12,7 @@ use Rattle.xns_agenda.specs.Waiting.{later}
 use Rattle.xns_agenda.specs.declared.clock.Clock.{Clock}
 use Rattle.xns_host.specs.Events.{event_in}
 use Rattle.xns_host.specs.Hosting.{IsAllNoted, IsApart, facts_in, facts_of, may_go}
-use Rattle.xns_host.specs.Places.{ActsAll, ActsAt, AsksEvent, AsksInVain, AsksPacket, GivesNone, NextPacket, Places, Turns, became, nobody, resting, starves, taken_by, vacated, event_passed, places_with, vacated_if, quiet, tells}
+use Rattle.xns_host.specs.Places.{ActsAll, ActsAt, AsksEvent, AsksInVain, AsksPacket, GivesNone, NextPacket, Places, PlaceTurns, became, nobody, resting, starves, taken_by, vacated, event_passed, places_with, vacated_if, quiet, tells}
 use Rattle.xns_host.specs.Strays.{StrayQueue}
 use Rattle.xns_host.specs.Went.{GuestActs, GuestReports, given_by}
 use Rattle.xns_host.specs.declared.event.Event.{Event}
@@ -161,7 +161,7 @@ some_stray q r (Some t) s some waiting none = let bad : t ∷ r.waiting ≡ [] =
 -- ---- one in its place
 
 pub turns_at : (P : Guest → Guest → Type 0) (n : ℕ) (gs : Row) (a b x : Plan) (g h : Guest) → slice_get gs n ≡ Some (Some g) → P g h → b ≡ a
-    → x ≡ noted b n (facts_of h) → Turns P n (places_with gs a) (places_with (slice_set gs n (Some h)) x)
+    → x ≡ noted b n (facts_of h) → PlaceTurns P n (places_with gs a) (places_with (slice_set gs n (Some h)) x)
 turns_at P n gs a b x g h here turn same noting = record {
   guest = g;
   next = h;

@@ -12,7 +12,7 @@ use Rattle.xns_connection.specs.Deeds.{Deed, heard, told_by}
 use Rattle.xns_connection.specs.Ends.{AConnectionKeepsItsEnd, KeepsEnd}
 use Rattle.xns_host.specs.Events.{event_by, event_for, is_newly_open, later_event}
 use Rattle.xns_host.specs.Hosting.{HasNoneDone, IsAllNoted, IsNotDone, IsNotDoneIn, IsNotedBut, facts_in, has_guest, may_go}
-use Rattle.xns_host.specs.Knowing.{known_in, known_of}
+use Rattle.xns_host.specs.Knowing.{known_in, known_of_peer}
 use Rattle.xns_host.specs.Places.{places_with, vacated_if}
 use Rattle.xns_host.specs.Registered.{HasStory, IsAllRegistered}
 use Rattle.xns_connection.specs.Step.{AConnectionGivesWhatItMade, AMessageIsHandedAsByAStep, AStepKeepsItsPromises, Step}
@@ -45,13 +45,13 @@ Places = List (Option Guest)
 
 -- what a host knows of the connection is as it was; the connection keeps its end, and its story goes on
 pub record Stays (g h : Guest) : Type 0 where
-  pub known : known_of h ≡ known_of g
+  pub known : known_of_peer h ≡ known_of_peer g
   pub keeps : KeepsEnd g.connection h.connection
   pub story : HasStory g → HasStory h
 
 pub step_stays : AStepKeepsItsPromises → AConnectionKeepsItsEnd → (now : ℕ) (deed : Deed) (g h : Guest) → GuestStep now deed g h → Stays g h
 step_stays law ends now deed g h s = record {
-  known = ap known_of s.same;
+  known = ap known_of_peer s.same;
   keeps = ends.steps now deed g.connection h.connection s.step;
   story = from_story g h (told_by deed g.connection.conversation.side) (law now deed g.connection h.connection s.step).story;
 }
@@ -62,7 +62,7 @@ step_undone now deed c d s = not_done_after c d s.told s.stays (λ at. waits_on 
 pub heard_stays : AStepKeepsItsPromises → AConnectionKeepsItsEnd → (now : ℕ) (b : List ℕ) (confirming : Bool) (g h : Guest)
     → GuestHears now b confirming g h → Stays g h
 heard_stays law ends now b confirming g h (hears is) = record {
-  known = ap known_of is.same;
+  known = ap known_of_peer is.same;
   keeps = ends.steps now (heard b) g.connection h.connection is.step;
   story = hears_story g h b (heard_hears law now b g.connection h.connection is.step);
 }
@@ -76,11 +76,11 @@ heard_undone now b confirming g h (lost stores) = λ was. was
 pub unserved_stays : AConnectionKeepsItsEnd → (now error : ℕ) (g h : Guest) → GuestUnserved now error g h
     → Goes g.connection.conversation h.connection.conversation → Stays g h
 unserved_stays ends now error g h is goes =
-    record { known = ap known_of is.same; keeps = ends.refused error now g.connection h.connection is.parts; story = goes_story g h goes }
+    record { known = ap known_of_peer is.same; keeps = ends.refused error now g.connection h.connection is.parts; story = goes_story g h goes }
 
 pub acted_stays : AConnectionKeepsItsEnd → (now : ℕ) (g h : Guest) → GuestActs now g h → Goes g.connection.conversation h.connection.conversation → Stays g h
 acted_stays ends now g h is goes =
-    record { known = ap known_of is.same; keeps = ends.acts now g.connection h.connection is.parts; story = goes_story g h goes }
+    record { known = ap known_of_peer is.same; keeps = ends.acts now g.connection h.connection is.parts; story = goes_story g h goes }
 
 pub acted_undone : (now : ℕ) (g h : Guest) → GuestActs now g h → may_go h.connection ≡ false → IsNotDone g.connection → IsNotDone h.connection
 acted_undone now g h is left was =
@@ -90,7 +90,7 @@ acted_undone now g h is left was =
 pub gave_stays : AConnectionGivesWhatItMade → AConnectionKeepsItsEnd → (now : ℕ) (r : Result (Option Outgoing) HostFault) (g h : Guest)
     → GuestGives now r g h → Stays g h
 gave_stays law ends now r g h is = record {
-  known = ap known_of is.same;
+  known = ap known_of_peer is.same;
   keeps = ends.gives now is.answer g.connection h.connection is.gave;
   story = goes_story g h (law now is.answer g.connection h.connection is.gave).goes;
 }
@@ -107,20 +107,20 @@ later_by : AMessageIsHandedAsByAStep → AConnectionKeepsItsEnd → (now : ℕ) 
 later_by law ends now g h (Some m) waits t =
     let hands = t.handed (λ none. cc) in
     record {
-      known = ap known_of t.same;
+      known = ap known_of_peer t.same;
       keeps = ends.hands now g.connection h.connection hands;
       story = from_story g h (λ s. with_handed g.connection.conversation.side s m) (handed_story law now g.connection h.connection m waits hands);
     }
 later_by law ends now g h None waits t =
     let same = ap (λ (c : Connection). c.conversation) (t.closed waits) in
-    record { known = ap known_of t.same; keeps = still_keeps g.connection h.connection same; story = still_story g h same }
+    record { known = ap known_of_peer t.same; keeps = still_keeps g.connection h.connection same; story = still_story g h same }
 
 pub told_stays : AMessageIsHandedAsByAStep → AConnectionKeepsItsEnd → (now : ℕ) (g h : Guest) → GuestReports now g h → Stays g h
 told_stays law ends now g h t = by (is_newly_open g) refl where
   by : (newly : Bool) → is_newly_open g ≡ newly → Stays g h
   by true is =
       let same = ap (λ (k : Guest). k.connection.conversation) (t.opened is) in
-      record { known = ap known_of (t.opened is); keeps = still_keeps g.connection h.connection same; story = still_story g h same }
+      record { known = ap known_of_peer (t.opened is); keeps = still_keeps g.connection h.connection same; story = still_story g h same }
   by false is = later_by law ends now g h (waiting_message g.connection.conversation.side) refl (t.later is)
 
 has_why : (number tag : ℕ) (told : Bool) (why : Option Why) (e : Event) → event_by number tag None (if told then None else why) ≡ Some e → (told || is_some why) ≡ true
@@ -156,7 +156,7 @@ told_undone law now number g h e some t left was = by (is_newly_open g) refl whe
 pub tagged_stays : (tag : ℕ) (g h : Guest) → GuestTagged tag g h → Stays g h
 tagged_stays tag g h is =
     let same = ap (λ (k : Guest). k.connection.conversation) is in
-    record { known = ap known_of is; keeps = still_keeps g.connection h.connection same; story = still_story g h same }
+    record { known = ap known_of_peer is; keeps = still_keeps g.connection h.connection same; story = still_story g h same }
 
 pub tagged_undone : (tag : ℕ) (g h : Guest) → GuestTagged tag g h → IsNotDone g.connection → IsNotDone h.connection
 tagged_undone tag g h is = subst IsNotDone (sym (ap (λ (k : Guest). k.connection) is))

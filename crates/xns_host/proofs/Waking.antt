@@ -2,11 +2,11 @@
 use Rattle.std.proofs.Common.{◌≡◌, ◌≢◌, ◌∙◌, ◌⊎◌, inl, inr, ap, refl, subst, sym, ℕ, ◌<◌, ◌≤◌, Bool, true, false, List, [], length, get_or, Option, Some, None, slice_get, arith}
 use Rattle.std.specs.Prelude.{position}
 use Rattle.std.proofs.lemmas.Option.{slice_get-get_or, slice_get_within}
-use Rattle.xns_agenda.specs.Agenda.{Plan, IsFor, IsWake, IsWanted, asked_at, packet_waits, event_waits, is_due, GivesWay, longest_closed, longest_silent}
+use Rattle.xns_agenda.specs.Agenda.{Plan, IsFor, IsWake, IsWantedAt, asked_at, packet_waits, event_waits, is_due, GivesWay, longest_closed, longest_silent}
 use Rattle.xns_agenda.specs.Agenda.{GetsNumber, free_number, given_way, HasNoNumber}
 use Rattle.xns_host.specs.Hosting.{IsAllNoted, IsNotedIn, facts_in, forgotten_at, stranger_heard_at, Wants, for_stray, for_packet, for_event, for_due, IsFirstWant, MayTell}
 use Rattle.xns_host.specs.Events.{event_in}
-use Rattle.xns_host.specs.Hosting.{IsFull, HasNoneSooner, IsPlace, free_place, of_closed, of_stranger, HasNoRoom}
+use Rattle.xns_host.specs.Hosting.{IsFull, HasNoneSooner, IsPlaceForNew, free_place, of_closed, of_stranger, HasNoRoom}
 use Rattle.xns_host.specs.Identifiers.{is_free}
 use Rattle.xns_agenda.specs.Times.{IsBy, HasEarliest}
 use Rattle.xns_agenda.specs.Turns.{HasNoTurn, has_turn}
@@ -84,7 +84,7 @@ news_in a gs k None noted there has = let no = noted.news has in absurd (cc)
 news_in a gs k (Some g) noted there has = record { number = k; there = record { guest = g; there = there; is = noted.news has } }
 
 wanted_by : {t : ℕ} (a : Plan) (gs : Places) (strays : List Outgoing) → IsAllNoted a gs → IsFor a (length a.dues) → Sized a gs
-    → IsWanted a.packets a.events a.dues a.short t → May strays gs a.short t
+    → IsWantedAt a.packets a.events a.dues a.short t → May strays gs a.short t
 wanted_by a gs strays all for_most sized (packet_waits k has) =
     let here : HasPlace gs k = has_place gs k (omega (arith, within a.packets.tickets k has, for_most.packets, sized)) in
     inl (packet_in a gs strays k here.place (all.each k here.place here.there) here.there has)
@@ -129,12 +129,12 @@ none_closed a gs first all earliest =
 none_strange : (a : Plan) (gs : Places) (first : Option ℕ) → IsAllNoted a gs → HasEarliest a.strangers first → HasNoneSooner stranger_heard_at gs first
 none_strange a gs first all earliest = none_sooner gs a.strangers stranger_heard_at first (λ k g there. (all.each k (Some g) there).facts.stranger) earliest
 
-free_in : (a : Plan) (gs : Places) (k : ℕ) (p : Option Guest) → IsNotedIn a k p → slice_get gs k ≡ Some p → has_turn a.free k ≡ true → IsPlace gs k
+free_in : (a : Plan) (gs : Places) (k : ℕ) (p : Option Guest) → IsNotedIn a k p → slice_get gs k ≡ Some p → has_turn a.free k ≡ true → IsPlaceForNew gs k
 free_in a gs k None noted there has = free_place k there
 free_in a gs k (Some g) noted there has = let no : has_turn a.free k ≡ false = noted.free in absurd (cc)
 
 way_in : {k : ℕ} (a : Plan) (gs : Places) → IsAllNoted a gs → IsFor a (length a.dues) → Sized a gs → HasNoTurn a.free
-    → GivesWay a.closed a.strangers k → IsPlace gs k
+    → GivesWay a.closed a.strangers k → IsPlaceForNew gs k
 way_in a gs all for_most sized none (longest_closed k t e) =
     let here : HasTime gs k t (λ g. forgotten_at g.connection)
     = has_time a gs k t a.closed (λ f. f.forgotten_at) (for_most.closed ∙ sym sized) refl (λ p there. (all.each k p there).facts.closed) e.there in
@@ -144,7 +144,7 @@ way_in a gs all for_most sized none (longest_silent k t nobody_closed e) =
     = has_time a gs k t a.strangers (λ f. f.stranger_heard_at) (for_most.strangers ∙ sym sized) refl (λ p there. (all.each k p there).facts.stranger) e.there in
     of_stranger k t here.guest (full a gs all none) (none_closed a gs None all nobody_closed) here.there here.is (none_strange a gs (Some t) all e.least)
 
-pub gets_place : {k : ℕ} (a : Plan) (gs : Places) → IsAllNoted a gs → IsFor a (length a.dues) → Sized a gs → GetsNumber a.free a.closed a.strangers k → IsPlace gs k
+pub gets_place : {k : ℕ} (a : Plan) (gs : Places) → IsAllNoted a gs → IsFor a (length a.dues) → Sized a gs → GetsNumber a.free a.closed a.strangers k → IsPlaceForNew gs k
 gets_place a gs all for_most sized (free_number k has) =
     let here : HasPlace gs k = has_place gs k (omega (arith, within a.free.tickets k has, for_most.free, sized)) in
     free_in a gs k here.place (all.each k here.place here.there) here.there has
@@ -157,7 +157,7 @@ no_room a gs all none = record {
   strangers = none_strange a gs None all none.silent;
 }
 
-pub not_both : {k : ℕ} (gs : Places) → HasNoRoom gs → IsPlace gs k → ⊥
+pub not_both : {k : ℕ} (gs : Places) → HasNoRoom gs → IsPlaceForNew gs k → ⊥
 not_both gs none (free_place k there) = none.full k there
 not_both gs none (of_closed k t g full there is first) = none.lingers k t g there is
 not_both gs none (of_stranger k t g full closed there is first) = none.strangers k t g there is

@@ -7,10 +7,10 @@ use Rattle.xns_idp.specs.declared.address.Address.{Address}
 use Rattle.xns_small.specs.Echo.{echo_reply}
 use Rattle.xns_small.specs.declared.error_number.TheConstants.{NO_RESOURCES, NO_SUCH_SOCKET}
 use Rattle.xns_spp.specs.Packet.{SppPacketModel, opener_of, spp_packet_of}
-use Rattle.xns_host.specs.Hosting.{HasNoRoom, IsAllInUse, IsAnswering, IsPlace, address_in, confirms}
+use Rattle.xns_host.specs.Hosting.{HasNoRoom, IsAllInUse, IsAnswering, IsPlaceForNew, address_in, confirms}
 use Rattle.xns_host.specs.Identifiers.{StaysInOrder, TurnsOver}
 use Rattle.xns_host.specs.Ours.{AsksEcho, IsOpener, IsOurs, IsToSocket, Names, QuotesOurs}
-use Rattle.xns_host.specs.Places.{Places, Turns, taken_by, vacated}
+use Rattle.xns_host.specs.Places.{Places, PlaceTurns, taken_by, vacated}
 use Rattle.xns_host.specs.Services.{programs_at}
 use Rattle.xns_host.specs.Strays.{HasComplained, MayHaveStray, StrayQueue, echo_socket, lost_stray, stray_of}
 use Rattle.xns_host.specs.Went.{GuestHears, GuestUnserved}
@@ -23,7 +23,7 @@ use Rattle.xns_host.specs.declared.register.Register.{Register}
 pub record Seats (now way : ℕ) (w : Whole) (socket : ℕ) (peer : Address) (id : ℕ) (programs : List Program) (number : ℕ) (register : Register)
     (q : Places) : Type 0 where
   pub guest : Guest
-  pub place : IsPlace w.places.guests number
+  pub place : IsPlaceForNew w.places.guests number
   pub answering : IsAnswering w.settings w.register.identifiers (address_in w.network w.host socket) peer id way now programs guest
   pub there : slice_get q.guests number ≡ Some (Some guest)
   pub is : q ≡ taken_by (vacated w.places number) number guest
@@ -35,7 +35,7 @@ pub record Seats (now way : ℕ) (w : Whole) (socket : ℕ) (peer : Address) (id
 pub data Opens (now way : ℕ) (bytes : List ℕ) (p : SppPacketModel) (w : Whole) : Register → StrayQueue → Places → Type 0 where
   opened : {register : Register} {mid new : Places} (number id : ℕ) (peer : Address) (programs : List Program) → opener_of p ≡ Some (peer, id)
       → programs_at w.services.programs p.target.socket ≡ Some programs → Seats now way w p.target.socket peer id programs number register mid
-      → Turns (GuestHears now bytes false) number mid new → Opens now way bytes p w register w.strays new
+      → PlaceTurns (GuestHears now bytes false) number mid new → Opens now way bytes p w register w.strays new
   full : {register : Register} {strays : StrayQueue} → HasNoRoom w.places.guests ⊎ IsAllInUse w.register.identifiers
       → StaysInOrder w.register.identifiers register.identifiers
       → HasComplained (address_in w.network w.host p.target.socket) NO_RESOURCES way bytes w.strays strays
@@ -51,9 +51,9 @@ pub data Comes (now way : ℕ) (bytes : List ℕ) (w : Whole) : Bool → Whole �
       → MayHaveStray w.strays strays (stray_of way (echo_reply (address_in w.network w.host echo_socket) p))
       → Comes now way bytes w true (record w { strays = strays })
   refuses : (p : PacketModel) (taken : ℕ) {q : Places} → packet_of bytes ≡ Ok (p, taken) → (quotes : QuotesOurs w p)
-      → Turns (GuestUnserved now quotes.quote.error) quotes.number w.places q → Comes now way bytes w true (record w { places = q })
+      → PlaceTurns (GuestUnserved now quotes.quote.error) quotes.number w.places q → Comes now way bytes w true (record w { places = q })
   hears : (p : SppPacketModel) {q : Places} → spp_packet_of bytes ≡ Ok p → (names : Names w p)
-      → Turns (GuestHears now bytes (confirms p)) names.number w.places q → Comes now way bytes w true (record w { places = q })
+      → PlaceTurns (GuestHears now bytes (confirms p)) names.number w.places q → Comes now way bytes w true (record w { places = q })
   opens : (p : SppPacketModel) {register : Register} {strays : StrayQueue} {q : Places} → spp_packet_of bytes ≡ Ok p → IsOpener w p
       → Opens now way bytes p w register strays q → Comes now way bytes w true (record w { register = register; strays = strays; places = q })
 

@@ -9,7 +9,7 @@ use Rattle.xns_agenda.specs.Clock.{time_at}
 use Rattle.xns_agenda.specs.Waiting.{later}
 use Rattle.xns_host.specs.Hosting.{HasNoEvent, HasNoPacket, IsPacketOf, IsRefusedBy, address_in, confirms}
 use Rattle.xns_host.specs.Ours.{IsOurs, IsToSocket}
-use Rattle.xns_host.specs.Places.{Turns}
+use Rattle.xns_host.specs.Places.{PlaceTurns}
 use Rattle.xns_host.specs.Services.{has_called, sockets}
 use Rattle.xns_host.specs.Strays.{HasComplained}
 use Rattle.xns_host.specs.Turn.{ConnectsTo, GivesOut, TakesIn, TellsNext, places_of, whole_of}
@@ -37,7 +37,7 @@ abbrev pub AConnectionHearsItsPackets : Type 0
 AConnectionHearsItsPackets = (now way number : ℕ) (bytes : List ℕ) (result : Bool) (old new : Host) (p : SppPacketModel) (g : Guest)
     → TakesIn now way bytes result old new → spp_packet_of bytes ≡ Ok p → IsPacketOf old.host p g
     → slice_get old.guests.items number ≡ Some (Some g)
-    → (result ≡ true) × Turns (GuestHears (time_at old.clock now) bytes (confirms p)) number (places_of old) (places_of new)
+    → (result ≡ true) × PlaceTurns (GuestHears (time_at old.clock now) bytes (confirms p)) number (places_of old) (places_of new)
 
 -- a packet that is a host's is so at each network that the host is told to be at
 abbrev pub NoNetworkDecides : Type 0
@@ -49,7 +49,7 @@ abbrev pub WhoIsQuotedIsNotServed : Type 0
 WhoIsQuotedIsNotServed = (now way number taken : ℕ) (bytes : List ℕ) (result : Bool) (old new : Host) (p : PacketModel) (g : Guest)
     → TakesIn now way bytes result old new → packet_of bytes ≡ Ok (p, taken) → (by : IsRefusedBy old.host p g)
     → slice_get old.guests.items number ≡ Some (Some g)
-    → (result ≡ true) × Turns (GuestUnserved (time_at old.clock now) by.quote.error) number (places_of old) (places_of new)
+    → (result ≡ true) × PlaceTurns (GuestUnserved (time_at old.clock now) by.quote.error) number (places_of old) (places_of new)
 
 -- of a sequenced packet that is not the host's, to a socket that the host has, it complains
 abbrev pub OfWhatNobodyHearsItComplains : Type 0

@@ -14,7 +14,7 @@ use Rattle.xns_agenda.specs.Agenda.{Plan, IsNoted, asked_at}
 use Rattle.xns_connection.specs.Connecting.{is_dead}
 use Rattle.xns_connection.specs.Deeds.{acted}
 use Rattle.xns_host.specs.Events.{event_in, is_newly_open}
-use Rattle.xns_host.specs.Identifiers.{Ids, IsNext, is_free}
+use Rattle.xns_host.specs.Identifiers.{Ids, IsNextIdentifier, is_free}
 use Rattle.xns_connection.specs.Ends.{opener_of}
 use Rattle.xns_host.specs.Knowing.{id_of, who_opened}
 use Rattle.xns_host.specs.Quotes.{is_sent_by, quoted_packet}
@@ -65,12 +65,12 @@ facts_of g = record {
 }
 
 -- a connection that is closed lingers no more, or is dead and did not linger
-abbrev pub is_past : Connection → Bool
-is_past c = is_dead c.closed || is_none (due_time c.wait.due)
+abbrev pub lingers_no_more : Connection → Bool
+lingers_no_more c = is_dead c.closed || is_none (due_time c.wait.due)
 
 -- the connection may be forgotten: it is closed, the program was told, and it lingers no more
 abbrev pub may_go : Connection → Bool
-may_go c = is_some c.closed && (c.told && is_past c)
+may_go c = is_some c.closed && (c.told && lingers_no_more c)
 
 -- the connection in this place may be forgotten
 abbrev pub is_done : Option Guest → Bool
@@ -204,12 +204,12 @@ HasNoneSooner since guests first = (k t : ℕ) (g : Guest) → slice_get guests 
 
 -- the place that a new connection gets: a free one; where there is none, that of the closed one that lingers longest; where none
 -- lingers, that of the one longest silent of those that a peer opened and never confirmed
-pub data IsPlace (guests : List (Option Guest)) : ℕ → Type 0 where
-  free_place : (k : ℕ) → slice_get guests k ≡ Some None → IsPlace guests k
+pub data IsPlaceForNew (guests : List (Option Guest)) : ℕ → Type 0 where
+  free_place : (k : ℕ) → slice_get guests k ≡ Some None → IsPlaceForNew guests k
   of_closed : (k t : ℕ) (g : Guest) → IsFull guests → slice_get guests k ≡ Some (Some g) → forgotten_at g.connection ≡ Some t
-      → HasNoneSooner (λ h. forgotten_at h.connection) guests (Some t) → IsPlace guests k
+      → HasNoneSooner (λ h. forgotten_at h.connection) guests (Some t) → IsPlaceForNew guests k
   of_stranger : (k t : ℕ) (g : Guest) → IsFull guests → HasNoneSooner (λ h. forgotten_at h.connection) guests None
-      → slice_get guests k ≡ Some (Some g) → stranger_heard_at g ≡ Some t → HasNoneSooner stranger_heard_at guests (Some t) → IsPlace guests k
+      → slice_get guests k ≡ Some (Some g) → stranger_heard_at g ≡ Some t → HasNoneSooner stranger_heard_at guests (Some t) → IsPlaceForNew guests k
 
 -- no place is free, and no connection gives way
 pub record HasNoRoom (guests : List (Option Guest)) : Type 0 where
@@ -230,7 +230,7 @@ pub record IsConnected (guests : List (Option Guest)) (number : ℕ) (settings :
     : Type 0 where
   pub guest : Guest
   pub there : slice_get guests number ≡ Some (Some guest)
-  pub next : IsNext ids (id_of guest)
+  pub next : IsNextIdentifier ids (id_of guest)
   pub tells : Tells guest.connection.conversation (new_story None (initiator_state own (id_of guest) to settings.window settings.backlog))
   pub made : IsMadeBy settings now true guest.connection
   pub via : guest.via ≡ way
@@ -276,7 +276,7 @@ confirms p = not (p.header.target_id == 0)
 -- to be told that it is open, and it has no tag
 pub record IsAnswering (settings : Settings) (ids : Ids) (own opener : Address) (id way now : ℕ) (programs : List Program) (guest : Guest)
     : Type 0 where
-  pub next : IsNext ids (id_of guest)
+  pub next : IsNextIdentifier ids (id_of guest)
   pub tells : Tells guest.connection.conversation
       (new_story (Some programs) (responder_state own (id_of guest) opener id settings.window settings.backlog))
   pub made : IsMadeBy settings now false guest.connection

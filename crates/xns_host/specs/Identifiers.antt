@@ -38,13 +38,13 @@ abbrev pub is_free : List (Option ℕ) → ℕ → Bool
 is_free owners id = is_none (slice_index_or owners id None)
 
 -- the identifier that comes next: the first of those ahead that no connection has
-pub record IsNext (ids : Ids) (id : ℕ) : Type 0 where
+pub record IsNextIdentifier (ids : Ids) (id : ℕ) : Type 0 where
   pub place : ℕ
   pub first : position (is_free ids.owners) ids.ahead ≡ Some place
   pub there : slice_get ids.ahead place ≡ Some id
 
 -- the one at this place is given to the connection with this number, and comes again after all others
-pub record Gives (old new : Ids) (place number id : ℕ) : Type 0 where
+pub record GivesIdentifier (old new : Ids) (place number id : ℕ) : Type 0 where
   pub there : slice_get old.ahead place ≡ Some id
   pub turned : new.ahead ≡ drop (place + 1) old.ahead ++ take (place + 1) old.ahead
   pub owned : new.owners ≡ slice_set old.owners id (Some number)
@@ -63,17 +63,17 @@ abbrev pub StaysInOrder : (old new : Ids) → Type 0
 StaysInOrder old new = new.ahead ≡ old.ahead
 
 -- an identifier was given, and who had which one then
-pub record Turn : Type 0 where
+pub record IdentifierTurn : Type 0 where
   pub given : ℕ
   pub owners : List (Option ℕ)
 
 -- from one moment to another identifiers are given at these turns, in order, whoever has which one in between
-pub data Given : Ids → List Turn → Ids → Type 0 where
+pub data Given : Ids → List IdentifierTurn → Ids → Type 0 where
   none : {a : Ids} → Given a [] a
-  gives : {a b c : Ids} {turns : List Turn} (id : ℕ) → TurnsOver a b id → Given b turns c
+  gives : {a b c : Ids} {turns : List IdentifierTurn} (id : ℕ) → TurnsOver a b id → Given b turns c
       → Given a (record { given = id; owners = a.owners } ∷ turns) c
-  keeps : {a b c : Ids} {turns : List Turn} → StaysInOrder a b → Given b turns c → Given a turns c
+  keeps : {a b c : Ids} {turns : List IdentifierTurn} → StaysInOrder a b → Given b turns c → Given a turns c
 
 -- an identifier was given in that turn, or was in use
-abbrev pub HadTurn : ℕ → Turn → Type 0
+abbrev pub HadTurn : ℕ → IdentifierTurn → Type 0
 HadTurn id turn = (turn.given ≡ id) ⊎ (is_free turn.owners id ≡ false)

@@ -20,14 +20,14 @@ abbrev pub who_opened : Guest → Option Peer
 who_opened g = opener_to g.connection.conversation.endpoint.ends.own.socket (opener_of g.connection)
 
 -- what a host knows of a connection beside what the connection is: by which via its packets go out, and its peer
-pub record Known : Type 0 where
+pub record KnownOfPeer : Type 0 where
   pub via : ℕ
   pub peer : Address
 
-abbrev pub known_of : Guest → Known
-known_of g = record { via = g.via; peer = g.peer }
+abbrev pub known_of_peer : Guest → KnownOfPeer
+known_of_peer g = record { via = g.via; peer = g.peer }
 
 -- what a host knows of the connection in this place
-abbrev pub known_in : Option Guest → Option Known
+abbrev pub known_in : Option Guest → Option KnownOfPeer
 known_in None = None
-known_in (Some g) = Some (known_of g)
+known_in (Some g) = Some (known_of_peer g)

@@ -20,8 +20,8 @@ use Rattle.xns_host.specs.declared.quote.Quote.{Quote}
 use Rattle.xns_host.specs.declared.services.Services.{Services}
 
 -- the packet is one of this connection
-abbrev pub IsOf : SppPacketModel → Guest → Type 0
-IsOf p g = (s : State) → StandsFor g.connection.conversation.endpoint s → is_ours_at s.ends p ≡ true
+abbrev pub IsOfGuest : SppPacketModel → Guest → Type 0
+IsOfGuest p g = (s : State) → StandsFor g.connection.conversation.endpoint s → is_ours_at s.ends p ≡ true
 
 -- the quoted packet went from this connection to its peer, lately
 abbrev pub IsSentBy : Quote → Guest → Type 0
@@ -32,7 +32,7 @@ pub record Names (w : Whole) (p : SppPacketModel) : Type 0 where
   pub here : p.target.host ≡ w.host
   pub number : ℕ
   pub named : named_in w.register p ≡ Some number
-  pub there : IsThere (IsOf p) (slice_get w.places.guests number)
+  pub there : IsThere (IsOfGuest p) (slice_get w.places.guests number)
 
 -- a packet to this host opens a connection where there is room: its source is one host, its sender has an identifier, no connection is
 -- named by the packet, and the socket that it goes to is served

@@ -44,7 +44,7 @@ abbrev pub taken_by : Places → ℕ → Guest → Places
 taken_by p number g = seated (record p { agenda = record p.agenda { free = with_turn p.agenda.free number false } }) number g
 
 -- the connection with this number became one in this way, and what is to be done of it is noted
-pub record Turns (P : Guest → Guest → Type 0) (number : ℕ) (p r : Places) : Type 0 where
+pub record PlaceTurns (P : Guest → Guest → Type 0) (number : ℕ) (p r : Places) : Type 0 where
   pub guest : Guest
   pub next : Guest
   pub was : slice_get p.guests number ≡ Some (Some guest)
@@ -86,13 +86,13 @@ pub record ActsAt (now number : ℕ) (p r : Places) : Type 0 where
   pub is : r ≡ became p number next
 
 -- what was due was done, of one connection after another of which something was due
-pub data Acts (now : ℕ) (p : Places) : Places → Type 0 where
-  nobody : Acts now p p
-  another : {q r : Places} (number : ℕ) → Acts now p q → IsFirstBy q.agenda.dues now number → ActsAt now number q r → Acts now p r
+pub data ActsOneByOne (now : ℕ) (p : Places) : Places → Type 0 where
+  nobody : ActsOneByOne now p p
+  another : {q r : Places} (number : ℕ) → ActsOneByOne now p q → IsFirstBy q.agenda.dues now number → ActsAt now number q r → ActsOneByOne now p r
 
 -- what was due of each connection was done
 pub record ActsAll (now : ℕ) (p r : Places) : Type 0 where
-  pub one_by_one : Acts now p r
+  pub one_by_one : ActsOneByOne now p r
   pub all : now < last_time → EachActs now p.guests r.guests
 
 -- ---- what goes out
@@ -103,7 +103,7 @@ packet_passed p number = record p { agenda = record p.agenda { packets = with_tu
 
 -- the connection with this number was asked for a packet
 abbrev pub AsksPacket : (now number : ℕ) → Result (Option Outgoing) HostFault → (p r : Places) → Type 0
-AsksPacket now number result p r = Turns (GuestGives now result) number (packet_passed p number) r
+AsksPacket now number result p r = PlaceTurns (GuestGives now result) number (packet_passed p number) r
 
 -- as often as it had none, the one whose turn it was was asked
 pub data GivesNone (now : ℕ) (p : Places) : Places → Type 0 where

@@ -16,18 +16,18 @@ use Rattle.xns_host.specs.declared.host_fault.HostFault.TheVariants.{Busy, PeerC
 use Rattle.xns_host.specs.Services.{most_services, programs_at}
 use Rattle.xns_host.specs.Strays.{echo_socket}
 
-abbrev pub fault_of : Refusal → HostFault
-fault_of refusals.Busy = Busy
-fault_of refusals.PeerCalls = PeerCalls
-fault_of refusals.NoCall = NoCall
-fault_of refusals.Closing = Closing
-fault_of refusals.TooLong = TooLong
-fault_of refusals.NoMemory = NoMemory
+abbrev pub fault_of_refusal : Refusal → HostFault
+fault_of_refusal refusals.Busy = Busy
+fault_of_refusal refusals.PeerCalls = PeerCalls
+fault_of_refusal refusals.NoCall = NoCall
+fault_of_refusal refusals.Closing = Closing
+fault_of_refusal refusals.TooLong = TooLong
+fault_of_refusal refusals.NoMemory = NoMemory
 
 -- what is told of what a connection did
 abbrev pub told : Result (Unit {0}) Refusal → Result (Unit {0}) HostFault
 told (Ok u) = Ok u
-told (Err refusal) = Err (fault_of refusal)
+told (Err refusal) = Err (fault_of_refusal refusal)
 
 -- what is told where this is the connection's reason against it
 pub record TellsRefusal (reason : Option Refusal) (result : Result (Unit {0}) HostFault) : Type 0 where

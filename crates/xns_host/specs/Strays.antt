@@ -11,7 +11,7 @@ pub record StrayQueue : Type 0 where
   pub waiting : List Outgoing
   pub starved : Bool
 
-pub record HasRoom (most : ℕ) (waiting : List Outgoing) (count capacity : ℕ) : Type 0 where
+pub record HasStrayRoom (most : ℕ) (waiting : List Outgoing) (count capacity : ℕ) : Type 0 where
   pub counted : count ≡ length waiting
   pub few : length waiting ≤ most
   pub room : most ≤ capacity

@@ -6,9 +6,9 @@ use Rattle.xns_agenda.specs.Clock.{time_at, told_at, when_told}
 use Rattle.xns_agenda.specs.Agenda.{noted}
 use Rattle.xns_host.specs.Coming.{Arrives}
 use Rattle.xns_connection.specs.Deeds.{Deed}
-use Rattle.xns_host.specs.Hosting.{IsApart, IsConnected, IsFirstWant, IsPlace, address_in, facts_in}
+use Rattle.xns_host.specs.Hosting.{IsApart, IsConnected, IsFirstWant, IsPlaceForNew, address_in, facts_in}
 use Rattle.xns_host.specs.Identifiers.{StaysInOrder, TurnsOver}
-use Rattle.xns_host.specs.Places.{ActsAll, NextEvent, NextPacket, Places, Turns, places_with, taken_by, vacated}
+use Rattle.xns_host.specs.Places.{ActsAll, NextEvent, NextPacket, Places, PlaceTurns, places_with, taken_by, vacated}
 use Rattle.xns_host.specs.Refusing.{wrong_service}
 use Rattle.xns_host.specs.Registered.{HasLeft}
 use Rattle.xns_host.specs.Services.{Serves, WantsMemory}
@@ -102,7 +102,7 @@ pub record TellsNext (result : Option Event) (old new : Host) : Type 0 where
 
 -- the connection with this number has this tag from now on, and a rest after refused memory is over; or there is none. Nothing else changed
 pub record Tags (number tag : ℕ) (result : Result (Unit {0}) HostFault) (old new : Host) : Type 0 where
-  pub tagged : OnOk result (Turns (GuestTagged tag) number (places_of old) (places_of new))
+  pub tagged : OnOk result (PlaceTurns (GuestTagged tag) number (places_of old) (places_of new))
   pub unchanged : OnErr result (places_of new ≡ places_of old)
   pub rest : whole_of new ≡ record (whole_of old) { places = places_of new }
   pub clock : new.clock ≡ old.clock
@@ -156,7 +156,7 @@ pub record NotesCaller (socket : ℕ) (old new : Services) : Type 0 where
 pub record ConnectsTo (now way socket : ℕ) (peer : Address) (result : Result ℕ HostFault) (old new : Host) : Type 0 where
   pub connected : IfOk result (λ n. IsConnected new.guests.items n old.settings old.register.identifiers
       (address_in old.network old.host socket) peer way (time_at old.clock now))
-  pub place : IfOk result (IsPlace old.guests.items)
+  pub place : IfOk result (IsPlaceForNew old.guests.items)
   pub places : IfOk result (λ n. (g : Guest) → slice_get new.guests.items n ≡ Some (Some g)
       → places_of new ≡ taken_by (vacated (places_of old) n) n g)
   pub turned : IfOk result (λ n. (id : ℕ) × TurnsOver old.register.identifiers new.register.identifiers id)

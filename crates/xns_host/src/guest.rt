@@ -9,7 +9,7 @@ ghost use Rattle.xns_spp.specs.Ends.{is_ours_at};
 ghost use Rattle.xns_spp.specs.Held.{StandsFor};
 ghost use Rattle.xns_spp.specs.Packet.{IsSppPacket, spp_packet_of};
 ghost use Rattle.xns_spp.specs.State.{State};
-ghost use Rattle.xns_connection.specs.Calls.{call_model};
+ghost use Rattle.xns_connection.specs.Calls.{raw_of_call};
 ghost use Rattle.xns_connection.specs.Deeds.{asked, gave, made};
 ghost use Rattle.xns_host.specs.Quotes.{is_sent_by};
 ghost use Rattle.xns_connection.specs.Reasons.{call_fault_of, answer_fault_of};
@@ -89,8 +89,8 @@ impl Guest {
 
     /// Puts out a call.
     pub fn call(&mut self, alloc: Global, now: u64, call: &Call<'_>) -> Result<(), HostFault>
-        ensures refused { TellsRefusal (call_fault_of self.old.connection.conversation (call_model call.now)) result }
-        ensures step { OnOk result (GuestStep now (made (call_model call.now)) self.old self.new) }
+        ensures refused { TellsRefusal (call_fault_of self.old.connection.conversation (raw_of_call call.now)) result }
+        ensures step { OnOk result (GuestStep now (made (raw_of_call call.now)) self.old self.new) }
         ensures unchanged { OnErr result (self.new ≡ self.old) }
     {
         told(self.connection.call(alloc, now, call))

@@ -2,7 +2,7 @@
 
 ghost use Rattle.std.specs.Prelude.{◌≡◌, ◌≤◌, ◌⊎◌, Option, length, false, IfOk, OnErr, Some, None, Ok, Err, count_by, slice_get};
 ghost use Rattle.std.specs.Option.{is_some};
-ghost use Rattle.xns_connection.specs.Calls.{call_model};
+ghost use Rattle.xns_connection.specs.Calls.{raw_of_call};
 ghost use Rattle.xns_connection.specs.Deeds.{asked, gave, made};
 ghost use Rattle.xns_host.specs.Hosting.{HasNoRoom, HasNoneDone, IsAllInUse, IsAllNoted, IsFirstWant, address_in, has_guest};
 ghost use Rattle.xns_host.specs.Numbers.{IsNumberFrom};
@@ -217,8 +217,8 @@ impl Host {
     pub fn call(&mut self, now: u64, number: usize, call: &Call<'_>) -> Result<(), HostFault>
         ensures none { has_guest (slice_get self.old.guests.items number) ≡ false → result ≡ Err (NoConnection number) }
         ensures refused { (g : Guest) → slice_get self.old.guests.items number ≡ Some (Some g)
-            → TellsRefusal (call_fault_of g.connection.conversation (call_model call.now)) result }
-        ensures turn { Turn now number (made (call_model call.now)) result self.old self.new }
+            → TellsRefusal (call_fault_of g.connection.conversation (raw_of_call call.now)) result }
+        ensures turn { Turn now number (made (raw_of_call call.now)) result self.old self.new }
     {
         a_step_keeps_its_promises();
         a_connection_keeps_its_end();

@@ -1,5 +1,5 @@
 ghost use Rattle.std.specs.Prelude.{◌≡◌};
-ghost use Rattle.xns_host.specs.Refusing.{fault_of, told};
+ghost use Rattle.xns_host.specs.Refusing.{fault_of_refusal, told};
 
 use crate::setting::Setting;
 use thiserror::Error;
@@ -54,7 +54,7 @@ pub enum HostFault {
 
 impl From<Refusal> for HostFault {
     fn from(refusal: Refusal) -> HostFault
-        ensures { result ≡ fault_of refusal }
+        ensures { result ≡ fault_of_refusal refusal }
     {
         match refusal {
             Refusal::Busy => HostFault::Busy,

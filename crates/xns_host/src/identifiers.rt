@@ -2,7 +2,7 @@
 
 ghost use Rattle.std.specs.Prelude.{◌≡◌, ◌≢◌, ◌<◌, ℕ, length, IfOk, IfSome, IsPermutation, Some, None, true, position, slice_get};
 ghost use Rattle.std.specs.Prelude.{slice_index_or, slice_set};
-ghost use Rattle.xns_host.specs.Identifiers.{IsNext, IsOrder, Gives, is_free, most_id, numbers, order_of};
+ghost use Rattle.xns_host.specs.Identifiers.{IsNextIdentifier, IsOrder, GivesIdentifier, is_free, most_id, numbers, order_of};
 ghost use Rattle.xns_host.specs.Register.{owner_in};
 
 use rand::seq::SliceRandom;
@@ -115,7 +115,7 @@ impl Identifiers {
     #[tactic(auto, using(crate::proofs::Ordered::place_within, crate::proofs::Ordered::id_within))]
     fn give(&mut self, place: usize, number: u16) -> u16
         requires { position (is_free self.old.owners) self.old.ahead ≡ Some place }
-        ensures gives { Gives self.old self.new place number result }
+        ensures gives { GivesIdentifier self.old self.new place number result }
         ensures owner { owner_in self.new result ≡ Some number }
         ensures order { IsOrder self.new.ahead }
     {
@@ -130,7 +130,7 @@ impl Identifiers {
     pub fn next(&self) -> Option<u16>
         ensures given { (place : ℕ) → position (is_free self.now.owners) self.now.ahead ≡ Some place
             → result ≡ slice_get self.now.ahead place }
-        ensures next { IfSome result (IsNext self.now) }
+        ensures next { IfSome result (IsNextIdentifier self.now) }
         ensures none { position (is_free self.now.owners) self.now.ahead ≡ None → result ≡ None }
         ensures known { IfSome result (λ id. 0 < id) }
     {
@@ -141,7 +141,7 @@ impl Identifiers {
     /// The next identifier that no connection has: the one with this number has it from then on. A `None`: all are in use.
     pub fn take(&mut self, number: u16) -> Option<u16>
         ensures given { (place : ℕ) → position (is_free self.old.owners) self.old.ahead ≡ Some place
-            → IfSome result (Gives self.old self.new place number) }
+            → IfSome result (GivesIdentifier self.old self.new place number) }
         ensures some { (place : ℕ) → position (is_free self.old.owners) self.old.ahead ≡ Some place → result ≢ None }
         ensures owner { IfSome result (λ id. owner_in self.new id ≡ Some number) }
         ensures none { position (is_free self.old.owners) self.old.ahead ≡ None → (result ≡ None) × (self.new ≡ self.old) }

@@ -4,11 +4,11 @@ ghost use Rattle.std.specs.Prelude.{◌≡◌, ◌≢◌, ◌≤◌, ◌∷◌, 
 ghost use Rattle.xns_host.specs.Following.{AConnectionHearsItsPackets, AHostKnowsWhereItCalledFrom, ASilentHostHasNothingToTell};
 ghost use Rattle.xns_host.specs.Following.{AStarvedHostRests, AnIdleHostHasNoPacket, NoNetworkDecides, OfWhatNobodyHearsItComplains};
 ghost use Rattle.xns_host.specs.Following.{WhoIsQuotedIsNotServed};
-ghost use Rattle.xns_host.specs.Identifiers.{IsOrder, Ids, Turn, Given, HadTurn, most_id};
+ghost use Rattle.xns_host.specs.Identifiers.{IsOrder, Ids, IdentifierTurn, Given, HadTurn, most_id};
 
 /// Before an identifier is given again, each other one is given, or is in use when one is given, whoever has which one in between.
 pub fn an_identifier_comes_again_behind_all_others()
-    ensures { (start now : Ids) (before since later : List Turn) (once again : Turn) (id : ℕ) → IsOrder start.ahead
+    ensures { (start now : Ids) (before since later : List IdentifierTurn) (once again : IdentifierTurn) (id : ℕ) → IsOrder start.ahead
         → Given start (before ++ once ∷ since ++ again ∷ later) now → again.given ≡ once.given → 1 ≤ id → id ≤ most_id
         → id ≢ once.given → Any (HadTurn id) (since ++ again ∷ []) }
 {}

@@ -2,7 +2,7 @@
 
 ghost use Rattle.std.specs.Prelude.{◌≡◌, ◌≢◌, ◌<◌, ℕ, true, IfOk, IfSome, OnOk, OnErr, Some, None, position, slice_get, slice_set};
 ghost use Rattle.std.specs.BTreeMap.{IsEmpty, IsUnchanged, Updates};
-ghost use Rattle.xns_host.specs.Identifiers.{Gives, IsNext, is_free, most_id, numbers, order_of};
+ghost use Rattle.xns_host.specs.Identifiers.{GivesIdentifier, IsNextIdentifier, is_free, most_id, numbers, order_of};
 ghost use Rattle.xns_host.specs.Register.{number_by, owner_in, peer_cmp};
 
 use crate::identifiers::Identifiers;
@@ -47,7 +47,7 @@ impl Register {
     pub fn next(&self) -> Option<u16>
         ensures given { (place : ℕ) → position (is_free self.now.identifiers.owners) self.now.identifiers.ahead ≡ Some place
             → result ≡ slice_get self.now.identifiers.ahead place }
-        ensures next { IfSome result (IsNext self.now.identifiers) }
+        ensures next { IfSome result (IsNextIdentifier self.now.identifiers) }
         ensures none { position (is_free self.now.identifiers.owners) self.now.identifiers.ahead ≡ None → result ≡ None }
         ensures known { IfSome result (λ id. 0 < id) }
     {
@@ -64,7 +64,7 @@ impl Register {
     /// The next identifier that no connection has: the one with this number has it from then on. A `None`: all are in use.
     pub fn take(&mut self, number: u16) -> Option<u16>
         ensures given { (place : ℕ) → position (is_free self.old.identifiers.owners) self.old.identifiers.ahead ≡ Some place
-            → IfSome result (Gives self.old.identifiers self.new.identifiers place number) }
+            → IfSome result (GivesIdentifier self.old.identifiers self.new.identifiers place number) }
         ensures some { (place : ℕ) → position (is_free self.old.identifiers.owners) self.old.identifiers.ahead ≡ Some place
             → result ≢ None }
         ensures owner { IfSome result (λ id. owner_in self.new.identifiers id ≡ Some number) }

@@ -26,13 +26,13 @@ pub struct Strays {
 
 impl Model for Strays {
     ghost use Rattle.std.specs.VecDeque.{deque_len, deque_capacity};
-    ghost use Rattle.xns_host.specs.Strays.{StrayQueue, HasRoom};
+    ghost use Rattle.xns_host.specs.Strays.{StrayQueue, HasStrayRoom};
 
     ghost Value = { StrayQueue };
 
     ghost view = { λ s. record { most = s.most; waiting = s.waiting.items; starved = s.starved } };
 
-    ghost invariant = { λ s. HasRoom s.most s.waiting.items (deque_len s.waiting) (deque_capacity s.waiting) };
+    ghost invariant = { λ s. HasStrayRoom s.most s.waiting.items (deque_len s.waiting) (deque_capacity s.waiting) };
 }
 
 impl Strays {

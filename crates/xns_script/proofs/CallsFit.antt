@@ -10,7 +10,7 @@ use Rattle.courier_types.specs.Fits.{has_shape}
 use Rattle.courier_types.specs.Value.{ValueModel, no_values}
 use Rattle.courier_calls.specs.Calls.{ArgumentsModel, CallFits, CallModel, found, raw_words, typed}
 use Rattle.courier_calls.specs.Tally.{tally}
-use Rattle.xns_script.specs.Saying.{are_said, is_cardinal, is_no_fields, is_said}
+use Rattle.xns_script.specs.Saying.{are_said, is_cardinal, is_no_fields, can_be_said}
 
 and_left : (a b : Bool) → (a && b) ≡ true → a ≡ true
 and_left true b e = refl
@@ -52,10 +52,10 @@ typed_fits p v q x h =
     subst (λ n. Fitting n v q (typed x)) (sym (eqb-true p 7 (and_left (p == 7) _ h)))
     (subst (λ n. Fitting 7 n q (typed x)) (sym (eqb-true v 2 (and_left (v == 2) _ rest))) (by_procedure (q == 1) q x refl (and_right (v == 2) _ rest)))
 
-fits : (p v q : ℕ) (arguments : ArgumentsModel) → is_said (record { program = p; version = v; procedure = q; arguments = arguments }) ≡ true → Fitting p v q arguments
+fits : (p v q : ℕ) (arguments : ArgumentsModel) → can_be_said (record { program = p; version = v; procedure = q; arguments = arguments }) ≡ true → Fitting p v q arguments
 fits p v q (typed x) h = typed_fits p v q x h
 fits p v q (raw_words words) h = record { arguments = tt; size = le_of (length words) most_call_words h }
 
 pub all_fit : (calls : List CallModel) → are_said calls ≡ true → All (CallFits tally.table) calls
 all_fit calls e = λ k d lt.
-    let c = get_or calls k d in fits c.program c.version c.procedure c.arguments (AllPass-from_list_all is_said calls e k d lt)
+    let c = get_or calls k d in fits c.program c.version c.procedure c.arguments (AllPass-from_list_all can_be_said calls e k d lt)

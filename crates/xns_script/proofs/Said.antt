@@ -11,11 +11,11 @@ use Rattle.courier_calls.specs.Calls.{call_model}
 use Rattle.item_world.specs.declared.event.Event.{Event}
 use Rattle.item_world.specs.declared.side.Side.{Side}
 use Rattle.xns_script.specs.Command.{CommandModel, add_call, calls, command_in, command_of, foreign_of, happens, raw_call_of, skips}
-use Rattle.xns_script.specs.Saying.{are_said, is_said}
+use Rattle.xns_script.specs.Saying.{are_said, can_be_said}
 use Rattle.xns_script.specs.Word.{all_hex_words, and_more, digits_from, hex_word_of, is_dash, number_of, put_byte, raw_words_of, words_of_line}
 
 abbrev pub is_said_command : Option CommandModel → Bool
-is_said_command (Some (calls c)) = is_said c
+is_said_command (Some (calls c)) = can_be_said c
 is_said_command (Some (happens e)) = true
 is_said_command (Some skips) = true
 is_said_command None = true
@@ -122,8 +122,8 @@ line_said (x ∷ line) short = either (x == 35) _ _ refl (words_said (words_of_l
 
 -- ---- a script with one more call
 
-pub pushed_said : (b : Bool) (old new : List Call) (x : Call) → new ≡ cond b (old ++ x ∷ []) old → are_said (map call_model old) ≡ true → is_said (call_model x) ≡ true → are_said (map call_model new) ≡ true
+pub pushed_said : (b : Bool) (old new : List Call) (x : Call) → new ≡ cond b (old ++ x ∷ []) old → are_said (map call_model old) ≡ true → can_be_said (call_model x) ≡ true → are_said (map call_model new) ≡ true
 pushed_said true old new x e before here =
-    ap (λ cs. are_said (map call_model cs)) e ∙ ap are_said (map-append call_model old (x ∷ [])) ∙ list_all-append is_said (map call_model old) (call_model x ∷ [])
-    ∙ ap (λ p. p && (is_said (call_model x) && true)) before ∙ ap (λ p. p && true) here
+    ap (λ cs. are_said (map call_model cs)) e ∙ ap are_said (map-append call_model old (x ∷ [])) ∙ list_all-append can_be_said (map call_model old) (call_model x ∷ [])
+    ∙ ap (λ p. p && (can_be_said (call_model x) && true)) before ∙ ap (λ p. p && true) here
 pushed_said false old new x e before here = ap (λ cs. are_said (map call_model cs)) e ∙ before

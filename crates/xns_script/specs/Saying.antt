@@ -19,8 +19,8 @@ is_said_with c (typed v) = c.program == 7 && (c.version == 2
 is_said_with c (raw_words words) = nat_le (length words) most_call_words
 
 -- the call is an Add, a Total, or has words as arguments, which fit in a message
-abbrev pub is_said : CallModel → Bool
-is_said c = is_said_with c c.arguments
+abbrev pub can_be_said : CallModel → Bool
+can_be_said c = is_said_with c c.arguments
 
 abbrev pub are_said : List CallModel → Bool
-are_said calls = list_all is_said calls
+are_said calls = list_all can_be_said calls

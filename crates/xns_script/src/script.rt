@@ -24,11 +24,11 @@ impl Script {
     ghost use Rattle.std.specs.List.{All};
     ghost use Rattle.courier_calls.specs.Calls.{CallFits};
     ghost use Rattle.courier_calls.specs.Tally.{tally};
-    ghost use Rattle.xns_script.specs.Reading.{HasRead};
+    ghost use Rattle.xns_script.specs.Reading.{HasReadLines};
 
     /// A script that has read nothing.
     pub fn new(alloc: Global) -> Script
-        ensures { HasRead result [] }
+        ensures { HasReadLines result [] }
     {
         Script {
             alloc,
@@ -44,9 +44,9 @@ impl Script {
     /// Where memory is refused; the script is then as it was.
     pub fn read_line(&mut self, number: usize, line: &[u8]) -> Result<(), AllocError>
         requires short { length line.now ≤ 4096 }
-        ensures ok { OnOk result ((lines : List (List ℕ)) → number ≡ length lines + 1 → HasRead self.old lines →
-            HasRead self.new (lines ++ line.now ∷ [])) }
-        ensures err { OnErr result ((lines : List (List ℕ)) → HasRead self.old lines → HasRead self.new lines) }
+        ensures ok { OnOk result ((lines : List (List ℕ)) → number ≡ length lines + 1 → HasReadLines self.old lines →
+            HasReadLines self.new (lines ++ line.now ∷ [])) }
+        ensures err { OnErr result ((lines : List (List ℕ)) → HasReadLines self.old lines → HasReadLines self.new lines) }
     {
         if self.refused.is_some() {
             return Ok(());

@@ -10,7 +10,7 @@ use Rattle.courier_calls.specs.Tally.{tally}
 use Rattle.courier_calls.specs.declared.call.Call.{Call}
 use Rattle.courier_calls.specs.declared.call.Seen.{Seen}
 use Rattle.xns_lines.specs.Report.{ReportModel, whole}
-use Rattle.xns_script.specs.Reading.{HasRead}
+use Rattle.xns_script.specs.Reading.{HasReadLines}
 use Rattle.xns_script.specs.Script.{script_calls, script_events}
 use Rattle.xns_script.specs.declared.script.Script.{Script}
 use Rattle.xns_world.specs.CallPlay.{IsCallTrace, parties}
@@ -73,7 +73,7 @@ handed setup service calls events t old new n carried total packets seen (Ok x) 
 pub said_alone : (report empty : ReportModel) (text : List ℕ) → empty.front ≡ [] → report.front ≡ empty.front → report.line ≡ empty.line ++ text → whole report ≡ empty.line ++ text
 said_alone report empty text none front line = ap (λ before. before ++ report.line) (front ∙ none) ∙ line
 
-pub refusal_said : (s : Script) (lines : List (List ℕ)) (o : Option ℕ) (n : ℕ) (text before : List ℕ) → o ≡ s.refused → o ≡ Some n → before ≡ [] → text ≡ before ++ (decimal n ++ codes " refused\n") → HasRead s lines
+pub refusal_said : (s : Script) (lines : List (List ℕ)) (o : Option ℕ) (n : ℕ) (text before : List ℕ) → o ≡ s.refused → o ≡ Some n → before ≡ [] → text ≡ before ++ (decimal n ++ codes " refused\n") → HasReadLines s lines
     → text ≡ script_text lines
 unfolding script_text
 refusal_said s lines o n text before is some empty said h =
@@ -84,7 +84,7 @@ abbrev Kept : Script → List (List ℕ) → Option ℕ → Type 0
 Kept s lines o = IfNone o ((map call_model s.calls.items ≡ script_calls lines) × (s.events.items ≡ script_events lines))
 
 pub play_said : (s : Script) (lines : List (List ℕ)) (o : Option ℕ) (calls : List Call) (events : List Event) (text before : List ℕ) → o ≡ s.refused → o ≡ None → before ≡ [] → calls ≡ s.calls.items → events ≡ s.events.items
-    → text ≡ before ++ play_text (map call_model calls) events → HasRead s lines → text ≡ script_text lines
+    → text ≡ before ++ play_text (map call_model calls) events → HasReadLines s lines → text ≡ script_text lines
 unfolding script_text
 play_said s lines o calls events text before is none empty calls_are events_are said h =
     let fine : s.refused ≡ None = sym is ∙ none in

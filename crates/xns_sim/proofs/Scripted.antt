@@ -2,13 +2,13 @@
 use Rattle.std.proofs.Common.{◌≡◌, sym, refl, subst, ℕ, List, [], append-nil, Option, Some, None}
 use Rattle.std.specs.Prelude.{IfSome}
 use Rattle.std.specs.Io.KnownBytes.{Appends, Consumes}
-use Rattle.xns_script.specs.Reading.{HasRead}
+use Rattle.xns_script.specs.Reading.{HasReadLines}
 use Rattle.xns_script.specs.declared.script.Script.{Script}
 use Rattle.xns_sim.specs.declared.script_taker.ScriptTaker.{ScriptTaker}
 use Rattle.xns_lines.specs.Faults.{AppendsPart, IsJustified}
 use Rattle.xns_lines.specs.Lines.{lines_of, most_lines}
 use Rattle.xns_lines.specs.Lines.Cutter.{StandsAfter, StopsShort}
-use Rattle.xns_sim.specs.Sim.{HasLeft, SimStopsIn, script_lines, script_text, sim_text}
+use Rattle.xns_sim.specs.Sim.{LeavesWritten, SimStopsIn, script_lines, script_text, sim_text}
 use Rattle.xns_sim.specs.Sim.Script.{HasReadAll, never_fails, stands_for}
 use Rattle.xns_lines.specs.declared.fault.RunFault.{RunFault}
 use Rattle.xns_lines.specs.declared.fault.RunFault.TheVariants as fault
@@ -24,14 +24,14 @@ abbrev pub TakesSome : Option (List ℕ) → Option (List ℕ) → Option (List 
 TakesSome left first mid t0 t f input = (read : List ℕ) × Consumes (Some input) left read
     × ((before : Option (List ℕ)) → stands_for t0 before first [] → StopsShort most_lines f read (StandsAfter f (stands_for t before mid) (never_fails t before mid)))
 
-nothing_left : (f : RunFault) (t : ScriptTaker) (input : List ℕ) (first mid : Option (List ℕ)) (lines : List (List ℕ)) → StandsAfter f (stands_for t first mid) (never_fails t first mid) lines → HasLeft f input first mid
+nothing_left : (f : RunFault) (t : ScriptTaker) (input : List ℕ) (first mid : Option (List ℕ)) (lines : List (List ℕ)) → StandsAfter f (stands_for t first mid) (never_fails t first mid) lines → LeavesWritten f input first mid
 nothing_left fault.Read t input first mid lines h = h.1
 nothing_left fault.Write t input first mid lines h = absurd h
 nothing_left fault.LineTooLong t input first mid lines h = h.1
 nothing_left fault.TooManyLines t input first mid lines h = h.1
 nothing_left fault.NoMemory t input first mid lines h = h.1
 
-pub some_read : (start left first mid : Option (List ℕ)) (t0 t : ScriptTaker) (f : RunFault) → HasRead t0.script [] → IfSome start (TakesSome left first mid t0 t f) → IfSome start (λ input. SimStopsIn input left first mid f)
+pub some_read : (start left first mid : Option (List ℕ)) (t0 t : ScriptTaker) (f : RunFault) → HasReadLines t0.script [] → IfSome start (TakesSome left first mid t0 t f) → IfSome start (λ input. SimStopsIn input left first mid f)
 some_read start left first mid t0 t f new some = if_some _ _ start some (λ input h.
     let said = h.2 first (new, refl) in
     record {
@@ -49,10 +49,10 @@ some_read start left first mid t0 t f new some = if_some _ _ start some (λ inpu
 
 -- the text that is made of a script
 abbrev pub Makes : Script → List ℕ → Type 0
-Makes s text = (lines : List (List ℕ)) → HasRead s lines → text ≡ script_text lines
+Makes s text = (lines : List (List ℕ)) → HasReadLines s lines → text ≡ script_text lines
 
 -- the whole input was read before the fault
-stops_behind : (input : List ℕ) (left first mid after : Option (List ℕ)) (s : Script) (f : RunFault) → HasReadAll s input left first mid → IsJustified most_lines f input (lines_of input) [] → HasLeft f input first after → SimStopsIn input left first after f
+stops_behind : (input : List ℕ) (left first mid after : Option (List ℕ)) (s : Script) (f : RunFault) → HasReadAll s input left first mid → IsJustified most_lines f input (lines_of input) [] → LeavesWritten f input first after → SimStopsIn input left first after f
 stops_behind input left first mid after s f h shown written = record {
   read = input;
   consumed = h.consumed;

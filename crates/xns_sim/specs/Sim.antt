@@ -37,9 +37,9 @@ is_script_refused input = is_some (first_refused (script_lines input))
 -- ---- after a fault
 
 -- after a failed write a prefix of the whole input's text is written and not all of it, and after any other fault nothing
-abbrev pub HasLeft : RunFault → List ℕ → Option (List ℕ) → Option (List ℕ) → Type 0
-HasLeft fault.Write input before after = AppendsPart before after (sim_text input)
-HasLeft _ input before after = after ≡ before
+abbrev pub LeavesWritten : RunFault → List ℕ → Option (List ℕ) → Option (List ℕ) → Type 0
+LeavesWritten fault.Write input before after = AppendsPart before after (sim_text input)
+LeavesWritten _ input before after = after ≡ before
 
 -- `read` is the front of the input, up to what is left of it; its lines are those within the limits, and then `next`, which show the fault
 pub record SimStopsIn (input : List ℕ) (left before after : Option (List ℕ)) (f : RunFault) : Type 0 where
@@ -50,4 +50,4 @@ pub record SimStopsIn (input : List ℕ) (left before after : Option (List ℕ))
   pub lines : lines_of read ≡ good ++ next
   pub within : AreWithinLimits most_lines good
   pub shown : IsJustified most_lines f read good next
-  pub written : HasLeft f input before after
+  pub written : LeavesWritten f input before after

@@ -4,7 +4,7 @@ ghost use Rattle.std.specs.Fmt.{decimal};
 ghost use Rattle.courier_calls.specs.Calls.{CallFits, call_model};
 ghost use Rattle.courier_calls.specs.Tally.{tally};
 ghost use Rattle.xns_lines.specs.Report.{Adds, whole};
-ghost use Rattle.xns_script.specs.Reading.{HasRead};
+ghost use Rattle.xns_script.specs.Reading.{HasReadLines};
 ghost use Rattle.item_world.specs.Setup.{IsGood};
 ghost use Rattle.xns_sim.specs.Sim.Play.{play_text, script_setup};
 ghost use Rattle.xns_sim.specs.Sim.{script_text};
@@ -21,7 +21,7 @@ use xns_world::play_calls;
 
 /// The text of the script: its first refused line, or the trace of its play.
 pub(crate) fn play_script(alloc: Global, script: &Script) -> Result<Report, AllocError>
-    ensures { IfOk result (λ text. (lines : List (List ℕ)) → HasRead script.now lines → whole text ≡ script_text lines) }
+    ensures { IfOk result (λ text. (lines : List (List ℕ)) → HasReadLines script.now lines → whole text ≡ script_text lines) }
 {
     let mut text = Report::new(alloc);
     match script.refused() {

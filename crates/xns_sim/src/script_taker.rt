@@ -1,6 +1,6 @@
 //! What `sim` makes of the lines of its input.
 ghost use Rattle.std.specs.Prelude.{[]};
-ghost use Rattle.xns_script.specs.Reading.{HasRead};
+ghost use Rattle.xns_script.specs.Reading.{HasReadLines};
 
 use std::alloc::Global;
 use std::io::Write;
@@ -17,7 +17,7 @@ pub(crate) struct ScriptTaker {
 impl ScriptTaker {
     /// A taker that has read nothing.
     pub(crate) fn new(alloc: Global) -> Self
-        ensures { HasRead result.script [] }
+        ensures { HasReadLines result.script [] }
     {
         ScriptTaker {
             script: Script::new(alloc),

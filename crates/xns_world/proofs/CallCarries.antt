@@ -23,11 +23,11 @@ use Rattle.item_world.specs.declared.side.Side.TheVariants.{A, B}
 use Rattle.item_world.specs.Channel.{IsQuiet, Accepts, HandsUp}
 use Rattle.item_world.specs.Events as events
 use Rattle.item_world.specs.Invariant.{Holds}
-use Rattle.item_world.specs.World.{World, end_of, sends, takes, channel_of, sent_at, handed_at}
+use Rattle.item_world.specs.World.{World, end_at, sends, takes, channel_of, sent_at, handed_at}
 use Rattle.xns_world.specs.CallLaws.{PartiesLaws}
 use Rattle.xns_world.specs.CallOrder.{CallsHold, AllListed, IsBetween, SideSettles}
 use Rattle.xns_world.specs.CallWorld.{Parties, CallWorld, calls_made, put_out, next_out, outcomes_read, in_world, sends_next, feeds_session, lists_outcome, makes, has_outcome, may_call, step}
-use Rattle.xns_world.specs.Settling.{most_steps, steps}
+use Rattle.xns_world.specs.Settling.{most_steps, after_steps}
 use Rattle.xns_world.proofs.Stepping.{by_step, steps_are, GoesOn, IfGoesOn, steps_keep, steps_end}
 
 -- the shorter of two lists that begin one list begins the longer
@@ -98,7 +98,7 @@ sent_out p w A x is a h B = subst (λ (l : List Item). Begins l (put_out p w B))
 sent_out p w B x is a h A = subst (λ (l : List Item). Begins l (put_out p w A)) (sym a.there) (h.out A)
 sent_out p w B x is a h B = subst (λ (l : List Item). Begins l (put_out p w B)) (sym a.here) (begins_more (sent_at w.world B) (put_out p w B) x (h.out B) is)
 
-pub sends_hold : {S : Type 0} (p : Parties S) (w : CallWorld) (side : Side) (x : Item) → PartiesLaws p → CallsHold p w → next_out p w side ≡ Some x → is_ok (send_answer (end_of w.world side) x) ≡ true → CallsHold p (sends_next w side x)
+pub sends_hold : {S : Type 0} (p : Parties S) (w : CallWorld) (side : Side) (x : Item) → PartiesLaws p → CallsHold p w → next_out p w side ≡ Some x → is_ok (send_answer (end_at w.world side) x) ≡ true → CallsHold p (sends_next w side x)
 sends_hold p w side x g h is ok =
     let a = g.answering.network.items.send w.world side x ok in
     let piece = next_piece p w side x g h is in
@@ -121,7 +121,7 @@ fed_out p w B x g u h B =
     (begins_then (sent_at w.world B) (put_out p w B) (put_out p (feeds_session w B) B) (h.out B)
     (g.heard.server p.service (handed_at w.world B) (handed_at (takes w.world B) B) (x ∷ [], sym u.here)))
 
-pub feeds_hold : {S : Type 0} (p : Parties S) (w : CallWorld) (side : Side) (x : Item) → PartiesLaws p → CallsHold p w → take_answer (end_of w.world side) ≡ Some x → CallsHold p (feeds_session w side)
+pub feeds_hold : {S : Type 0} (p : Parties S) (w : CallWorld) (side : Side) (x : Item) → PartiesLaws p → CallsHold p w → take_answer (end_at w.world side) ≡ Some x → CallsHold p (feeds_session w side)
 feeds_hold p w side x g h is =
     let u = g.answering.network.items.take w.world side x h.holds is in
     let more = begins_length (outcomes_read p w) (outcomes_read p (feeds_session w side)) (read_more p w side x g u) in
@@ -196,7 +196,7 @@ caller_left p w A = (length (outcomes_read p w) - w.listed) + one_if (length (ou
 caller_left p w B = 0
 
 pub left : {S : Type 0} → Parties S → Side → CallWorld → ℕ
-left p side w = room_of (end_of w.world side) + 3 * waiting_count (end_of w.world side) + caller_left p w side
+left p side w = room_of (end_at w.world side) + 3 * waiting_count (end_at w.world side) + caller_left p w side
 
 -- ---- the four steps
 
@@ -225,10 +225,10 @@ unfolding caller_left
 same_left p w v A h = ap (λ (rs : List SeenModel). (length rs - w.listed) + one_if (length rs == w.made)) (same_read p w v h)
 same_left p w v B h = refl
 
-sends_go : {S : Type 0} (p : Parties S) (w : CallWorld) (side : Side) (x : Item) → PartiesLaws p → CallsHold p w → next_out p w side ≡ Some x → is_full (end_of w.world side) ≡ false → GoesOn (CallsHold p) (left p side) w (sends_next w side x)
+sends_go : {S : Type 0} (p : Parties S) (w : CallWorld) (side : Side) (x : Item) → PartiesLaws p → CallsHold p w → next_out p w side ≡ Some x → is_full (end_at w.world side) ≡ false → GoesOn (CallsHold p) (left p side) w (sends_next w side x)
 unfolding left
 sends_go p w side x g h is full =
-    let s : State = end_of w.world side in
+    let s : State = end_at w.world side in
     let ok = not_refused g.answering.ends s x (next_piece p w side x g h is) full in
     let falls = send_room g.answering.ends s x (h.holds.ends side).fits full ok in
     let same = g.answering.network.moves.here w.world side (after_send s x) [] in
@@ -238,7 +238,7 @@ sends_go p w side x g h is full =
       fewer = omega (arith, falls.0, falls.1, caller, ap room_of same, ap waiting_count same);
     }
 
-fed_left : {S : Type 0} (p : Parties S) (w : CallWorld) (side : Side) (x : Item) → PartiesLaws p → CallsHold p w → take_answer (end_of w.world side) ≡ Some x → caller_left p (feeds_session w side) side ≤ caller_left p w side + 2
+fed_left : {S : Type 0} (p : Parties S) (w : CallWorld) (side : Side) (x : Item) → PartiesLaws p → CallsHold p w → take_answer (end_at w.world side) ≡ Some x → caller_left p (feeds_session w side) side ≤ caller_left p w side + 2
 unfolding caller_left
 fed_left p w A x g h is =
     let more = (g.answering.network.items.take w.world A x h.holds is).here in
@@ -248,10 +248,10 @@ fed_left p w A x g h is =
     omega (arith, read, last, h.listed)
 fed_left p w B x g h is = omega arith
 
-feeds_go : {S : Type 0} (p : Parties S) (w : CallWorld) (side : Side) → PartiesLaws p → CallsHold p w → nat_lt 0 (waiting_count (end_of w.world side)) ≡ true → GoesOn (CallsHold p) (left p side) w (feeds_session w side)
+feeds_go : {S : Type 0} (p : Parties S) (w : CallWorld) (side : Side) → PartiesLaws p → CallsHold p w → nat_lt 0 (waiting_count (end_at w.world side)) ≡ true → GoesOn (CallsHold p) (left p side) w (feeds_session w side)
 unfolding left
 feeds_go p w side g h is =
-    let s : State = end_of w.world side in
+    let s : State = end_at w.world side in
     let e = waiting_item g.answering.ends s is in
     let falls = take_waiting g.answering.ends s e.0 e.1 in
     let same = g.answering.network.moves.here w.world side (after_take s) [] in
@@ -292,7 +292,7 @@ step_goes p w side g h = by_step p w (λ t o. IfGoesOn (CallsHold p) (left p t) 
 
 -- ---- many steps
 
-pub steps_hold : {S : Type 0} (p : Parties S) (side : Side) (w : CallWorld) (n : ℕ) → PartiesLaws p → CallsHold p w → CallsHold p (steps (step p side) w n)
+pub steps_hold : {S : Type 0} (p : Parties S) (side : Side) (w : CallWorld) (n : ℕ) → PartiesLaws p → CallsHold p w → CallsHold p (after_steps (step p side) w n)
 steps_hold p side w n g = steps_keep (step p side) (CallsHold p) (left p side) (λ v h. step_goes p v side g h) w n
 
 first_left : {S : Type 0} (p : Parties S) (w : CallWorld) (side : Side) → AllListed p w → caller_left p w side ≤ 1

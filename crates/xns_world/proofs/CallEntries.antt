@@ -13,7 +13,7 @@ use Rattle.xns_spp.specs.Sending.{take_answer}
 use Rattle.xns_spp.specs.declared.item.Item.{Item}
 use Rattle.item_world.specs.Channel.{HandsUp}
 use Rattle.item_world.specs.Events as events
-use Rattle.item_world.specs.World.{World, end_of, sends, takes, channel_of, sent_at, handed_at}
+use Rattle.item_world.specs.World.{World, end_at, sends, takes, channel_of, sent_at, handed_at}
 use Rattle.item_world.specs.declared.setup.Setup.{Setup}
 use Rattle.item_world.specs.declared.side.Side.{Side}
 use Rattle.item_world.specs.declared.side.Side.TheVariants.{A, B}
@@ -99,7 +99,7 @@ same_seen p w v same = ap (λ (xs : List Item). take w.listed (answers p.serving
 handed_entry : {S : Type 0} (p : Parties S) (w : CallWorld) (v : World) → ((t : Side) → handed_at v t ≡ handed_at w.world t) → EntryTo p w (in_world w v)
 handed_entry p w v same = quiet_entry p w v (same_seen p w v (same A)) (ap decided_calls (same B))
 
-other_entry : {S : Type 0} (p : Parties S) (w : CallWorld) (s : events.Step) → events.IsOther s → PartiesLaws p → CallsHold p w → EntryTo p w (in_world w (events.stepped w.world s))
+other_entry : {S : Type 0} (p : Parties S) (w : CallWorld) (s : events.SmallStep) → events.IsOther s → PartiesLaws p → CallsHold p w → EntryTo p w (in_world w (events.stepped w.world s))
 other_entry p w s other g h = handed_entry p w (events.stepped w.world s) (g.answering.network.items.quiet w.world s other h.holds).handed
 
 -- ---- an item is fed
@@ -137,7 +137,7 @@ server_feeds p w x g h is =
     let items = begun_items (handed_at v B) (sent_at v A) (g.world.order v B after.holds) (after.holds.ends A).fits.items in
     server_brings p w x g h after u (g.brings (handed_at w.world B) x (subst (λ (l : List Item). All IsItem l) u.here items))
 
-feeds_entry : {S : Type 0} (p : Parties S) (w : CallWorld) (side : Side) (x : Item) → PartiesLaws p → CallsHold p w → take_answer (end_of w.world side) ≡ Some x → EntryTo p w (feeds_session w side)
+feeds_entry : {S : Type 0} (p : Parties S) (w : CallWorld) (side : Side) (x : Item) → PartiesLaws p → CallsHold p w → take_answer (end_at w.world side) ≡ Some x → EntryTo p w (feeds_session w side)
 feeds_entry p w A x g h is = caller_feeds p w x g h is
 feeds_entry p w B x g h is = server_feeds p w x g h is
 
@@ -166,8 +166,8 @@ makes_entry p w g h is =
 
 acting_entry : {S : Type 0} (p : Parties S) (w : CallWorld) (side : Side) → PartiesLaws p → CallsHold p w → EntryTo p w (onward w (step p side w))
 acting_entry p w side g h = by_step p w (λ t o. EntryTo p w (onward w o)) (record {
-  sent = λ t x is full. handed_entry p w (sends w.world t x) (g.answering.network.items.send w.world t x (not_refused g.answering.ends (end_of w.world t) x (next_piece p w t x g h is) full)).handed;
-  fed = λ t is. let e = waiting_item g.answering.ends (end_of w.world t) is in feeds_entry p w t e.0 g h e.1;
+  sent = λ t x is full. handed_entry p w (sends w.world t x) (g.answering.network.items.send w.world t x (not_refused g.answering.ends (end_at w.world t) x (next_piece p w t x g h is) full)).handed;
+  fed = λ t is. let e = waiting_item g.answering.ends (end_at w.world t) is in feeds_entry p w t e.0 g h e.1;
   listed = lists_entry p w g h;
   made = makes_entry p w g h;
   rests = λ is. ledger.quiet refl;

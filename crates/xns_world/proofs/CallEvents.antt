@@ -17,7 +17,7 @@ use Rattle.item_world.specs.Invariant.{Holds}
 use Rattle.item_world.specs.Laws.{NoWorldIsStuck}
 use Rattle.item_world.specs.Progress.{IsFurther, StirsOut, ticked_out, came_first, answered_out, came_back, knows_out, came_next}
 use Rattle.item_world.specs.Side.{other}
-use Rattle.item_world.specs.World.{World, end_of, flushes, ticks, channel_of, sent_at, handed_at}
+use Rattle.item_world.specs.World.{World, end_at, flushes, ticks, channel_of, sent_at, handed_at}
 use Rattle.item_world.specs.declared.event.Event.{Event}
 use Rattle.item_world.specs.declared.event.Event.TheVariants.{Deliver, Tick}
 use Rattle.item_world.specs.declared.setup.Setup.{Setup}
@@ -51,7 +51,7 @@ pub record On {S : Type 0} (p : Parties S) (w : CallWorld) (v : World) : Type 0 
   on : CallsGoOn p (in_world w v)
   quiet : IsQuiet (channel_of w.world) (channel_of v)
 
-on_then : {S : Type 0} (p : Parties S) (w : CallWorld) (v : World) (s : events.Step) → events.IsStep s → events.IsOther s
+on_then : {S : Type 0} (p : Parties S) (w : CallWorld) (v : World) (s : events.SmallStep) → events.IsStep s → events.IsOther s
     → PartiesLaws p → NoWorldIsStuck → On p w v → On p w (events.stepped v s)
 on_then p w v s fits other g stuck o = record {
   on = other_on p (in_world w v) s fits other g stuck o.on;
@@ -74,9 +74,9 @@ deliver_flush p v k side l lands none = arrived p v k (side, l) lands ∙ settle
 
 -- an item waits at a side that has none out
 takes_then : {S : Type 0} (p : Parties S) (w : CallWorld) (v : World) (side : Side) → On p w v → next_out p w side ≡ None
-    → (end_of v side).handed < length (end_of v side).taken → (u : CallWorld) × (step p side (in_world w v) ≡ Some u)
+    → (end_at v side).handed < length (end_at v side).taken → (u : CallWorld) × (step p side (in_world w v) ≡ Some u)
 takes_then p w v side o none waits =
-    let e : State = end_of v side in (
+    let e : State = end_at v side in (
       feeds_session (in_world w v) side,
       ap (λ (i : Option Item). step_with p (in_world w v) side i) (next_same p w v side o.quiet ∙ none)
           ∙ ap (λ (b : Bool). or_caller p (in_world w v) side (if b then Some (after_take e) else None)) (lt-ltb 0 (waiting_count e) (omega (arith, waits))),
@@ -86,7 +86,7 @@ takes_then p w v side o none waits =
 last_rises : {S : Type 0} (p : Parties S) (w : CallWorld) (u v : World) (k : ℕ) (side : Side) → PartiesLaws p → On p w u
     → On p w v → step p side (in_world w u) ≡ None → next_out p w (other side) ≡ None
     → landing (ticked_out u side) k ≡ Some (other side, v)
-    → (end_of v (other side)).handed < length (end_of v (other side)).taken
+    → (end_at v (other side)).handed < length (end_at v (other side)).taken
     → total w < total (call_happens p (call_happens p (in_world w u) (Tick side)) (Deliver k))
 last_rises p w u v k side g o l none out lands waits =
     let t = takes_then p w v (other side) l out waits in
@@ -95,9 +95,9 @@ last_rises p w u v k side g o l none out lands waits =
 
 abbrev pub IsLess : {S : Type 0} → Parties S → CallWorld → Side → Type 0
 IsLess p w side = StirsOut w.world side → On p w (came_back w.world side) → step p side (in_world w (came_back w.world side)) ≡ None
-    → (end_of (came_first w.world side) (other side)).handed ≡ length (end_of (came_first w.world side) (other side)).taken
+    → (end_at (came_first w.world side) (other side)).handed ≡ length (end_at (came_first w.world side) (other side)).taken
     → IsQuiet (channel_of w.world) (channel_of (came_first w.world side)) → Holds (came_first w.world side)
-    → length (end_of (came_first w.world side) (other side)).taken < length (end_of w.world side).accepted
+    → length (end_at (came_first w.world side) (other side)).taken < length (end_at w.world side).accepted
 
 bag_up : {S : Type 0} (p : Parties S) (w v : CallWorld) (es : List Event) → PartiesLaws p → fold (call_happens p) w es ≡ v
     → length w.world.bag ≤ length v.world.bag
@@ -138,7 +138,7 @@ stir_second p w side g stuck r out so less o2 o3 e1 e2 none None is =
     ap (λ (z : CallWorld). fold (call_happens p) z (Deliver n ∷ Deliver k2 ∷ [])) e1 ∙ (ap (λ (z : CallWorld). fold (call_happens p) z (Deliver k2 ∷ [])) e2 ∙ e3) in
     let three : n ≤ k3 = bag_up p w (in_world w w3) (Tick side ∷ Deliver n ∷ Deliver k2 ∷ []) g all in
     let idle = (resting p (in_world w v2) (other side) none).idle (next_same p w v2 (other side) o2.quiet ∙ out) in
-    let taken : (end_of v2 (other side)).handed ≡ length (end_of v2 (other side)).taken = omega (arith, idle, (o2.on.holds.holds.ends (other side)).fits.bounds.handed_taken) in
+    let taken : (end_at v2 (other side)).handed ≡ length (end_at v2 (other side)).taken = omega (arith, idle, (o2.on.holds.holds.ends (other side)).fits.bounds.handed_taken) in
     let t = so.third taken (less so o3 is taken o2.quiet o2.on.holds.holds) in
     let u3 : On p w w3 = on_then p w v3 (events.flushing side) tt tt g stuck o3 in
     let u4 : On p w (ticked_out w3 side) = on_then p w (ticks w3 side) (events.flushing side) tt tt g stuck (on_then p w w3 (events.ticking side) tt tt g stuck u3) in
@@ -175,7 +175,7 @@ stir_first p w side g stuck r out so less o2 o3 e1 None is =
     stir_second p w side g stuck r out so less o2 o3 e1 e2 is (step p side (in_world w (came_back w.world side))) refl
 
 pub stir_by : {S : Type 0} (p : Parties S) (w : CallWorld) (side : Side) → PartiesLaws p → NoWorldIsStuck → AtRest p w
-    → next_out p w (other side) ≡ None → (end_of w.world side).acknowledged < length (end_of w.world side).accepted
+    → next_out p w (other side) ≡ None → (end_at w.world side).acknowledged < length (end_at w.world side).accepted
     → IsLess p w side → AdvancesBy p w
 stir_by p w side g stuck r out left less =
     let so : StirsOut w.world side = stuck.stirs_out w.world side r.on.holds.holds r.on.linked left in
@@ -201,22 +201,22 @@ sending_by : {S : Type 0} (p : Parties S) (w : CallWorld) (side : Side) (x : Ite
     → AdvancesBy p w
 sending_by p w side x g stuck r out room none =
     let full = (resting p w side (r.rests side)).full x out in
-    stir_by p w side g stuck r none (full_left (end_of w.world side) (r.on.holds.holds.ends side).fits full room)
-    (λ so o rests taken q h. by_test so o rests (nat_lt (length (end_of (came_first w.world side) (other side)).taken) (length (end_of w.world side).accepted)) refl)
+    stir_by p w side g stuck r none (full_left (end_at w.world side) (r.on.holds.holds.ends side).fits full room)
+    (λ so o rests taken q h. by_test so o rests (nat_lt (length (end_at (came_first w.world side) (other side)).taken) (length (end_at w.world side).accepted)) refl)
   where
     by_test : StirsOut w.world side → On p w (came_back w.world side) → step p side (in_world w (came_back w.world side)) ≡ None → (b : Bool)
-        → nat_lt (length (end_of (came_first w.world side) (other side)).taken) (length (end_of w.world side).accepted) ≡ b
-        → length (end_of (came_first w.world side) (other side)).taken < length (end_of w.world side).accepted
-    by_test so o rests true i = ltb-true (length (end_of (came_first w.world side) (other side)).taken) (length (end_of w.world side).accepted) i
+        → nat_lt (length (end_at (came_first w.world side) (other side)).taken) (length (end_at w.world side).accepted) ≡ b
+        → length (end_at (came_first w.world side) (other side)).taken < length (end_at w.world side).accepted
+    by_test so o rests true i = ltb-true (length (end_at (came_first w.world side) (other side)).taken) (length (end_at w.world side).accepted) i
     by_test so o rests false i =
         let v : World = came_back w.world side in
-        let all = so.settled (ltb-false (length (end_of (came_first w.world side) (other side)).taken) (length (end_of w.world side).accepted) i) in
-        let free = not_full (end_of v side) (o.on.holds.holds.ends side).fits all (omega (arith, ap length (o.quiet.accepted side), room)) in
+        let all = so.settled (ltb-false (length (end_at (came_first w.world side) (other side)).taken) (length (end_at w.world side).accepted) i) in
+        let free = not_full (end_at v side) (o.on.holds.holds.ends side).fits all (omega (arith, ap length (o.quiet.accepted side), room)) in
         let full = (resting p (in_world w v) side rests).full x (next_same p w v side o.quiet ∙ out) in
         absurd (cc (full, free))
 
 waiting_by : {S : Type 0} (p : Parties S) (w : CallWorld) (side : Side) → PartiesLaws p → NoWorldIsStuck → AtRest p w
-    → next_out p w (other side) ≡ None → (end_of w.world side).acknowledged ≤ length (end_of w.world (other side)).taken
+    → next_out p w (other side) ≡ None → (end_at w.world side).acknowledged ≤ length (end_at w.world (other side)).taken
     → length (handed_at w.world (other side)) < length (sent_at w.world side) → AdvancesBy p w
 waiting_by p w side g stuck r none most left =
     let idle = (resting p w (other side) (r.rests (other side))).idle none in

@@ -10,7 +10,7 @@ use Rattle.item_world.specs.Events as events
 use Rattle.item_world.specs.Laws.{NoWorldIsStuck}
 use Rattle.item_world.specs.Progress.{Linked}
 use Rattle.item_world.specs.Side.{other}
-use Rattle.item_world.specs.World.{World, end_of, sends, takes, channel_of, sent_at, handed_at}
+use Rattle.item_world.specs.World.{World, end_at, sends, takes, channel_of, sent_at, handed_at}
 use Rattle.item_world.specs.declared.side.Side.{Side}
 use Rattle.item_world.specs.declared.side.Side.TheVariants.{A, B}
 use Rattle.xns_world.proofs.CallCarries.{same_read, quiet_holds, not_refused, next_piece, read_more, calls, waiting_item}
@@ -58,8 +58,8 @@ quiet_total w v q = omega (arith, ap length (q.accepted A), ap length (q.accepte
 pub step_rises : {S : Type 0} (p : Parties S) (w : CallWorld) (side : Side) → PartiesLaws p → CallsHold p w
     → Rises w (step p side w)
 step_rises p w side g h = by_step p w (λ t o. Rises w o) (record {
-  sent = λ t x is full. sent_rises w t x (g.answering.network.items.send w.world t x (not_refused g.answering.ends (end_of w.world t) x (next_piece p w t x g h is) full));
-  fed = λ t is. let e = waiting_item g.answering.ends (end_of w.world t) is in fed_rises w t e.0 (g.answering.network.items.take w.world t e.0 h.holds e.1);
+  sent = λ t x is full. sent_rises w t x (g.answering.network.items.send w.world t x (not_refused g.answering.ends (end_at w.world t) x (next_piece p w t x g h is) full));
+  fed = λ t is. let e = waiting_item g.answering.ends (end_at w.world t) is in fed_rises w t e.0 (g.answering.network.items.take w.world t e.0 h.holds e.1);
   listed = λ is. lists_rises w;
   made = λ may. makes_rises w;
   rests = λ is. tt;
@@ -77,10 +77,10 @@ pub step_on : {S : Type 0} (p : Parties S) (w : CallWorld) (side : Side) → Par
 step_on p w side g stuck h = by_step p w (λ t o. IfGoesOn p o) (record {
   sent = λ t x is full.
       let piece = next_piece p w t x g h.holds is in
-      let a = g.answering.network.items.send w.world t x (not_refused g.answering.ends (end_of w.world t) x piece full) in
+      let a = g.answering.network.items.send w.world t x (not_refused g.answering.ends (end_at w.world t) x piece full) in
       (stuck.each w.world (events.sending t x) piece.short.fits h.holds.holds h.linked, omega (arith, ap (length {A = SeenModel}) (same_read p w (sends w.world t x) (a.handed A)), h.waits));
   fed = λ t is.
-      let e = waiting_item g.answering.ends (end_of w.world t) is in
+      let e = waiting_item g.answering.ends (end_at w.world t) is in
       let u = g.answering.network.items.take w.world t e.0 h.holds.holds e.1 in
       (stuck.each w.world (events.taking t) tt h.holds.holds h.linked, omega (arith, begins_length (outcomes_read p w) (outcomes_read p (feeds_session w t)) (read_more p w t e.0 g u), h.waits));
   listed = λ is. (h.linked, h.waits);
@@ -97,7 +97,7 @@ pub onward_on : {S : Type 0} (p : Parties S) (w : CallWorld) (o : Option CallWor
 onward_on p w None h k = (h.linked, h.waits)
 onward_on p w (Some v) h k = k
 
-pub other_on : {S : Type 0} (p : Parties S) (w : CallWorld) (s : events.Step) → events.IsStep s → events.IsOther s
+pub other_on : {S : Type 0} (p : Parties S) (w : CallWorld) (s : events.SmallStep) → events.IsStep s → events.IsOther s
     → PartiesLaws p → NoWorldIsStuck → CallsGoOn p w → CallsGoOn p (in_world w (events.stepped w.world s))
 other_on p w s fits other g stuck h =
     let q = g.answering.network.items.quiet w.world s other h.holds.holds in

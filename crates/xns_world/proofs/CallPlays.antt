@@ -41,7 +41,7 @@ use Rattle.xns_world.specs.CallPlay.{endpoint_at, with_endpoint, EndpointActs, I
 use Rattle.xns_world.specs.CallWorld.{Parties, CallWorld, calls_made, in_world, carried_at, step, settles, call_delivers, call_happens}
 use Rattle.xns_world.specs.Settling.{most_steps, stepped_out}
 use Rattle.xns_world.specs.ServeEnd.{IsServed}
-use Rattle.item_world.specs.World.{World, end_of, flushes, ticks, channel_of, handed_at, sent_at}
+use Rattle.item_world.specs.World.{World, end_at, flushes, ticks, channel_of, handed_at, sent_at}
 use Rattle.item_world.specs.EndLaws.{EndLaws}
 
 -- ---- an end whose world goes on elsewhere
@@ -96,11 +96,11 @@ server_stepped p laws e w b h i =
     pair_of p (record e { b = b }) v (other_calling p e.a w v l.there (l.made refl) (l.listed refl) (h A)) i
 
 -- an endpoint goes on that accepts and hands up nothing, and the other end stays
-quiet_pair : {S : Type 0} (p : Parties S) (e : CallPair S) (w : CallWorld) (u : World) (side : Side) (endpoint : Held) → IsQuiet (channel_of w.world) (channel_of u) → end_of u (other side) ≡ end_of w.world (other side) → StandsFor endpoint (end_of u side) → IsCallPair p e w → IsCallPair p (with_endpoint e side endpoint) (in_world w u)
+quiet_pair : {S : Type 0} (p : Parties S) (e : CallPair S) (w : CallWorld) (u : World) (side : Side) (endpoint : Held) → IsQuiet (channel_of w.world) (channel_of u) → end_at u (other side) ≡ end_at w.world (other side) → StandsFor endpoint (end_at u side) → IsCallPair p e w → IsCallPair p (with_endpoint e side endpoint) (in_world w u)
 quiet_pair p e w u A endpoint q same stands h = pair_of p (with_endpoint e A endpoint) (in_world w u) (quiet_calling p e.a w u endpoint q stands (h A)) (other_serving p e.b w (in_world w u) same (h B))
 quiet_pair p e w u B endpoint q same stands h = pair_of p (with_endpoint e B endpoint) (in_world w u) (other_calling p e.a w (in_world w u) same refl refl (h A)) (quiet_serving p e.b w u endpoint q stands (h B))
 
-stands_at : {S : Type 0} (p : Parties S) (e : CallPair S) (w : CallWorld) (side : Side) → IsCallPair p e w → StandsFor (endpoint_at e side) (end_of w.world side)
+stands_at : {S : Type 0} (p : Parties S) (e : CallPair S) (w : CallWorld) (side : Side) → IsCallPair p e w → StandsFor (endpoint_at e side) (end_at w.world side)
 stands_at p e w A h = (h A).stands
 stands_at p e w B h = (h B).stands
 
@@ -117,7 +117,7 @@ moves_at moves e side t endpoint n m is h = acts_at (λ (s : Side) (w v : World)
 
 -- the endpoint that acts accepts and hands up nothing
 acted : {S : Type 0} → EndLaws → (p : Parties S) (e f : CallPair S) (n m : Network) (w : CallWorld) (u : World) (side : Side) (leads : World → World → Type 0) → EndpointActs e f n m side leads → leads w.world u → IsQuiet (channel_of w.world) (channel_of u)
-    → end_of u (other side) ≡ end_of w.world (other side) → IsCallPair p e w → IsNetwork n w.world → IsCallPlaying p (record { ends = f; network = m }) (in_world w u)
+    → end_at u (other side) ≡ end_at w.world (other side) → IsCallPair p e w → IsNetwork n w.world → IsCallPlaying p (record { ends = f; network = m }) (in_world w u)
 acted {S} laws p e f n m w u side leads a led q same h network =
     let end = a.stands laws w.world u led (record { stands = stands_at p e w side h; network = network }) in
     record {
@@ -132,7 +132,7 @@ pub settled : {S : Type 0} (p : Parties S) (e f : CallPair S) (n m : Network) (w
 settled p e f n m w side g b h network a =
     let laws = g.answering.ends in
     let v = stepped_out (step p side) w in
-    let s : State = end_of v.world side in
+    let s : State = end_at v.world side in
     let holds = (steps_hold p side w most_steps g b.holds).holds in
     subst (λ (u : CallWorld). IsCallPlaying p (record { ends = f; network = m }) u) (sym (settles_is p side w))
     (acted laws p e f n m v (flushes v.world side) side (λ v u. flushes v side ≡ u) a refl (g.answering.network.items.quiet v.world (events.flushing side) tt holds) (g.answering.network.moves.there v.world side (after_flush s) (flush_answer s)) h ((steps_leave p g.answering side w most_steps).network n network))
@@ -145,7 +145,7 @@ pub record Heard {S : Type 0} (serving : Serving S) (cs : List Call) (p : Partie
   pub playing : IsCallPlaying p play w
 
 heard : {S : Type 0} (serving : Serving S) (cs : List Call) (p : Parties S) (e f : CallPair S) (n m : Network) (w : CallWorld) (u : World) (side : Side) (leads : World → World → Type 0) → IsReady serving cs p w → IsCallPlaying p (record { ends = e; network = n }) w
-    → EndpointActs e f n m side leads → leads w.world u → Holds u → IsQuiet (channel_of w.world) (channel_of u) → end_of u (other side) ≡ end_of w.world (other side) → Heard serving cs p (record { ends = f; network = m }) (in_world w u)
+    → EndpointActs e f n m side leads → leads w.world u → Holds u → IsQuiet (channel_of w.world) (channel_of u) → end_at u (other side) ≡ end_at w.world (other side) → Heard serving cs p (record { ends = f; network = m }) (in_world w u)
 heard serving cs p e f n m w u side leads r h a led holds q same = record {
   ready = record { given = r.given; between = quiet_between p w u r.between holds q; serving_is = r.serving_is; calls_are = r.calls_are };
   playing = acted r.given.answering.ends p e f n m w u side leads a led q same h.ends h.network;
@@ -163,7 +163,7 @@ pub ticked : {S : Type 0} (serving : Serving S) (cs : List Call) (p : Parties S)
     → EndpointActs e f n m side (λ w v. ticks w side ≡ v) → Heard serving cs p (record { ends = f; network = m }) (in_world w (ticks w.world side))
 ticked serving cs p e f n m w side r h a =
     let holds = r.between.holds.holds in
-    let s : State = end_of w.world side in
+    let s : State = end_at w.world side in
     heard serving cs p e f n m w (ticks w.world side) side (λ w v. ticks w side ≡ v) r h a refl (r.given.world.each w.world (events.ticking side) tt holds) (r.given.answering.network.items.quiet w.world (events.ticking side) tt holds) (r.given.answering.network.moves.there w.world side (after_tick s) (tick_answer s))
 
 -- ---- deliveries in turn

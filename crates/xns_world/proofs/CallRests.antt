@@ -11,10 +11,10 @@ use Rattle.item_world.proofs.Sides.{same_end, same_other}
 use Rattle.item_world.specs.Channel.{IsQuiet}
 use Rattle.item_world.specs.Events as events
 use Rattle.item_world.specs.Events.{undelivered}
-use Rattle.item_world.specs.Landing.{landing, reached}
+use Rattle.item_world.specs.Landing.{landing, world_reached}
 use Rattle.item_world.specs.Laws.{NoWorldIsStuck}
 use Rattle.item_world.specs.Side.{other}
-use Rattle.item_world.specs.World.{World, end_of, flushes, ticks, channel_of}
+use Rattle.item_world.specs.World.{World, end_at, flushes, ticks, channel_of}
 use Rattle.item_world.specs.declared.event.Event.{Event}
 use Rattle.item_world.specs.declared.event.Event.TheVariants.{Deliver, Rest, Tick, Foreign, Send, Take}
 use Rattle.item_world.specs.declared.side.Side.{Side}
@@ -29,24 +29,24 @@ use Rattle.xns_world.specs.CallLaws.{PartiesLaws}
 use Rattle.xns_world.specs.CallOrder.{CallsHold, IsBetween}
 use Rattle.xns_world.specs.CallProgress.{CallsGoOn}
 use Rattle.xns_world.specs.CallWorld.{Parties, CallWorld, next_out, outcomes_read, in_world, has_outcome, may_call, caller_step, or_caller, step_with, step, lists_outcome, makes, settling_steps, settles, call_delivers, call_steps_of, call_happens}
-use Rattle.xns_world.specs.Settling.{onward, steps, most_steps, stepped_out}
+use Rattle.xns_world.specs.Settling.{onward, after_steps, most_steps, stepped_out}
 
 -- ---- a side that is as it was rests as it did
 
 pub record SameSide {S : Type 0} (p : Parties S) (w v : CallWorld) (side : Side) : Type 0 where
   pub next : next_out p v side ≡ next_out p w side
-  pub full : is_full (end_of v.world side) ≡ is_full (end_of w.world side)
-  pub waiting : waiting_count (end_of v.world side) ≡ waiting_count (end_of w.world side)
+  pub full : is_full (end_at v.world side) ≡ is_full (end_at w.world side)
+  pub waiting : waiting_count (end_at v.world side) ≡ waiting_count (end_at w.world side)
   pub caller : caller_step p w side ≡ None → caller_step p v side ≡ None
 
 pub rests_by : {S : Type 0} (p : Parties S) (w v : CallWorld) (side : Side) (o : Option Item) → next_out p w side ≡ o
     → SameSide p w v side → Resting p w side → step p side v ≡ None
 rests_by p w v side (Some x) e same rest =
-    let s : State = end_of v.world side in
+    let s : State = end_at v.world side in
     ap (λ (o : Option Item). step_with p v side o) (same.next ∙ e)
     ∙ (ap (λ (b : Bool). or_caller p v side (if b then None else Some (after_send s x))) (same.full ∙ rest.full x e) ∙ same.caller rest.caller)
 rests_by p w v side None e same rest =
-    let s : State = end_of v.world side in
+    let s : State = end_at v.world side in
     let none : nat_lt 0 (waiting_count s) ≡ false = le-ltb 0 (waiting_count s) (omega (arith, same.waiting, rest.idle e)) in
     ap (λ (o : Option Item). step_with p v side o) (same.next ∙ e)
     ∙ (ap (λ (b : Bool). or_caller p v side (if b then Some (after_take s) else None)) none ∙ same.caller rest.caller)
@@ -68,8 +68,8 @@ may_with p w n = n == w.made && nat_lt w.made (length p.calls)
 
 -- where the network alone moved, a side is the same
 pub quiet_side : {S : Type 0} (p : Parties S) (w : CallWorld) (v : World) (side : Side)
-    → IsQuiet (channel_of w.world) (channel_of v) → is_full (end_of v side) ≡ is_full (end_of w.world side)
-    → waiting_count (end_of v side) ≡ waiting_count (end_of w.world side)
+    → IsQuiet (channel_of w.world) (channel_of v) → is_full (end_at v side) ≡ is_full (end_at w.world side)
+    → waiting_count (end_at v side) ≡ waiting_count (end_at w.world side)
     → SameSide p w (in_world w v) side
 quiet_side p w v side q full waiting =
     let read : outcomes_read p (in_world w v) ≡ outcomes_read p w = same_read p w v (q.handed A) in
@@ -110,7 +110,7 @@ sent_full s n false = (refl, refl)
 pub flush_side : {S : Type 0} (p : Parties S) (w : CallWorld) (side : Side) → PartiesLaws p → CallsHold p w
     → SameSide p w (in_world w (flushes w.world side)) side
 flush_side p w side g h =
-    let s : State = end_of w.world side in
+    let s : State = end_at w.world side in
     let e = same_end w.world side (after_flush s) (flush_answer s) in
     let l = sent_full s (send_limit s) (is_open s.ends) in
     quiet_side p w (flushes w.world side) side (g.answering.network.items.quiet w.world (events.flushing side) tt h.holds) (ap is_full e ∙ l.0) (ap waiting_count e ∙ l.1)
@@ -118,14 +118,14 @@ flush_side p w side g h =
 pub tick_side : {S : Type 0} (p : Parties S) (w : CallWorld) (side : Side) → PartiesLaws p → CallsHold p w
     → SameSide p w (in_world w (ticks w.world side)) side
 tick_side p w side g h =
-    let s : State = end_of w.world side in
+    let s : State = end_at w.world side in
     let e = same_end w.world side (after_tick s) (tick_answer s) in
     let l = sent_full s (send_limit s) (is_open s.ends && nat_lt s.acknowledged (send_limit s)) in
     quiet_side p w (ticks w.world side) side (g.answering.network.items.quiet w.world (events.ticking side) tt h.holds) (ap is_full e ∙ l.0) (ap waiting_count e ∙ l.1)
 
 -- ---- a side settles
 
-pub steps_none : {X : Type 0} (next : X → Option X) (x : X) → next x ≡ None → (n : ℕ) → steps next x n ≡ x
+pub steps_none : {X : Type 0} (next : X → Option X) (x : X) → next x ≡ None → (n : ℕ) → after_steps next x n ≡ x
 steps_none next x none zero = refl
 steps_none {X} next x none (suc n) = ap (λ (y : X). onward y (next y)) (steps_none next x none n) ∙ ap (λ (o : Option X). onward x o) none
 
@@ -138,17 +138,17 @@ no_less v None h = omega arith
 no_less v (Some u) h = omega (arith, h)
 
 pub rises_first : {S : Type 0} (p : Parties S) (side : Side) (w u : CallWorld) (n : ℕ) → PartiesLaws p → CallsHold p w
-    → step p side w ≡ Some u → total w < total (steps (step p side) w (suc n))
+    → step p side w ≡ Some u → total w < total (after_steps (step p side) w (suc n))
 rises_first p side w u zero g h is = subst (λ (o : Option CallWorld). total w < total (onward w o)) (sym is) (subst (λ (o : Option CallWorld). Rises w o) is (step_rises p w side g h))
 rises_first p side w u (suc n) g h is =
-    let v : CallWorld = steps (step p side) w (suc n) in
+    let v : CallWorld = after_steps (step p side) w (suc n) in
     omega (arith, rises_first p side w u n g h is, no_less v (step p side v) (step_rises p v side g (steps_hold p side w (suc n) g h)))
 
 pub settle_rises : {S : Type 0} (p : Parties S) (side : Side) (w u : CallWorld) → PartiesLaws p → CallsHold p w
     → step p side w ≡ Some u → total w < total (settles p side w)
 settle_rises p side w u g h is =
     let v : CallWorld = stepped_out (step p side) w in
-    let up : total w < total v = subst (λ (n : ℕ). total w < total (steps (step p side) w n)) (sym steps_are) (rises_first p side w u 256 g h is) in
+    let up : total w < total v = subst (λ (n : ℕ). total w < total (after_steps (step p side) w n)) (sym steps_are) (rises_first p side w u 256 g h is) in
     let now : CallsHold p v = steps_hold p side w most_steps g h in
     let same = quiet_total v (flushes v.world side) (g.answering.network.items.quiet v.world (events.flushing side) tt now.holds) in
     omega (arith, up, same, ap total (settles_is p side w))
@@ -178,7 +178,7 @@ settled_rest p side w g stuck on b none =
     let v : CallWorld = stepped_out (step p side) w in
     let h : CallsHold p v = steps_hold p side w most_steps g b.holds in
     let q = g.answering.network.items.quiet v.world (events.flushing side) tt h.holds in
-    let t : State = end_of v.world side in
+    let t : State = end_at v.world side in
     let e = same_other v.world side (after_flush t) (flush_answer t) in
     let u : CallWorld = in_world v (flushes v.world side) in
     let here : step p side u ≡ None = still_rests p v u side (flush_side p v side g h) (settles_end p side w g b) in
@@ -197,7 +197,7 @@ delivered_rest p w k (Some l) is g stuck r =
     let q = g.answering.network.items.land w.world k l h is in
     let e = g.answering.network.moves.land w.world k l is in
     let v : CallWorld = in_world w l.1 in
-    let on : CallsGoOn p v = subst (λ (o : Option (Side × World)). CallsGoOn p (in_world w (reached w.world o))) is (other_on p w (events.arrival k) tt tt g stuck r.on) in
+    let on : CallsGoOn p v = subst (λ (o : Option (Side × World)). CallsGoOn p (in_world w (world_reached w.world o))) is (other_on p w (events.arrival k) tt tt g stuck r.on) in
     let none : step p (other l.0) v ≡ None = still_rests p w v (other l.0) (quiet_side p w l.1 (other l.0) q (ap is_full e) (ap waiting_count e)) (r.rests (other l.0)) in
     subst (AtRest p) (sym (arrived p w k l is)) (settled_rest p l.0 v g stuck on (quiet_between p w l.1 r.between (g.world.land w.world k l h is) q) none)
 
@@ -211,7 +211,7 @@ pub event_rests : {S : Type 0} (p : Parties S) (w : CallWorld) (e : Event) → P
 event_rests p w (Deliver k) g stuck r = delivered_rest p w k (landing w.world k) refl g stuck r
 event_rests p w Rest g stuck r = subst (AtRest p) (sym (deliveries_all p w (undelivered 0 w.world.bag))) (all_rest p w (undelivered 0 w.world.bag) g stuck r)
 event_rests p w (Tick side) g stuck r =
-    let s : State = end_of w.world side in
+    let s : State = end_at w.world side in
     let h = r.between.holds.holds in
     let q = g.answering.network.items.quiet w.world (events.ticking side) tt h in
     let v : CallWorld = in_world w (ticks w.world side) in

@@ -3,13 +3,13 @@ use Rattle.std.proofs.Common.{◌≡◌, ℕ, zero, suc, List, [], ◌∷◌, �
 use Rattle.std.proofs.lemmas.List.Sums.{fold-append}
 use Rattle.item_world.specs.declared.side.Side.{Side}
 use Rattle.item_world.specs.Events as events
-use Rattle.item_world.specs.Landing.{landing, reached}
-use Rattle.item_world.specs.World.{World, flushes, start, end_of, moved, ticks, channel_of, sent_at, handed_at}
+use Rattle.item_world.specs.Landing.{landing, world_reached}
+use Rattle.item_world.specs.World.{World, flushes, start, end_at, moved, ticks, channel_of, sent_at, handed_at}
 use Rattle.xns_world.proofs.CallCarries.{quiet_holds, faces, same_read, steps_hold, settles_end}
 use Rattle.xns_world.specs.CallLaws.{PartiesLaws, ServerLaws}
 use Rattle.xns_world.specs.CallOrder.{CallsHold, AllListed, IsBetween, MeetNoFault}
 use Rattle.xns_world.specs.CallWorld.{Parties, CallWorld, in_world, step, CallStep, arrival, noise, ticking, acting, flushing, resending, telling, call_stepped, all_call_stepped, acting_steps, call_arrival_steps, call_deliveries, settles, call_delivers, calls_made, put_out, outcomes_read, call_start, call_happens, both_settled, run_calls}
-use Rattle.xns_world.specs.Settling.{most_steps, onward, steps, stepped_out}
+use Rattle.xns_world.specs.Settling.{most_steps, onward, after_steps, stepped_out}
 use Rattle.std.proofs.lemmas.Bool.{ltb-false}
 use Rattle.std.proofs.lemmas.List.Elements.{All-nil}
 use Rattle.courier_messages.specs.RawCalls.{RawCall}
@@ -38,11 +38,11 @@ use Rattle.xns_world.proofs.Stepping.{by_step}
 -- ---- what an event comes to
 
 -- one step, and then n more
-first_step : {X : Type 0} (next : X → Option X) (x : X) (n : ℕ) → steps next x (suc n) ≡ steps next (onward x (next x)) n
+first_step : {X : Type 0} (next : X → Option X) (x : X) (n : ℕ) → after_steps next x (suc n) ≡ after_steps next (onward x (next x)) n
 first_step next x zero = refl
 first_step {X} next x (suc n) = ap (λ (y : X). onward y (next y)) (first_step next x n)
 
-acting_all : {S : Type 0} (p : Parties S) (w : CallWorld) (side : Side) (n : ℕ) → all_call_stepped p w (acting_steps side n) ≡ steps (step p side) w n
+acting_all : {S : Type 0} (p : Parties S) (w : CallWorld) (side : Side) (n : ℕ) → all_call_stepped p w (acting_steps side n) ≡ after_steps (step p side) w n
 acting_all p w side zero = refl
 acting_all p w side (suc n) = acting_all p (onward w (step p side w)) side n ∙ sym (first_step (step p side) w n)
 
@@ -59,7 +59,7 @@ settles_is p side w =
 pub arrived : {S : Type 0} (p : Parties S) (w : CallWorld) (k : ℕ) (l : Side × World) → landing w.world k ≡ Some l → call_delivers p w k ≡ settles p l.0 (in_world w l.1)
 arrived p w k l is =
     ap (λ (o : Option (Side × World)). all_call_stepped p w (call_arrival_steps k o)) is
-    ∙ ap (λ (o : Option (Side × World)). settles p l.0 (in_world w (reached w.world o))) is
+    ∙ ap (λ (o : Option (Side × World)). settles p l.0 (in_world w (world_reached w.world o))) is
 
 pub arrived_nowhere : {S : Type 0} (p : Parties S) (w : CallWorld) (k : ℕ) → landing w.world k ≡ None → call_delivers p w k ≡ w
 arrived_nowhere p w k none = ap (λ (o : Option (Side × World)). all_call_stepped p w (call_arrival_steps k o)) none
@@ -73,7 +73,7 @@ deliveries_all p w (k ∷ ks) =
 -- ---- each small step keeps what is always true
 
 -- a small step of the network alone
-other_holds : {S : Type 0} (p : Parties S) (w : CallWorld) (s : events.Step) → events.IsStep s → events.IsOther s → PartiesLaws p → CallsHold p w → CallsHold p (in_world w (events.stepped w.world s))
+other_holds : {S : Type 0} (p : Parties S) (w : CallWorld) (s : events.SmallStep) → events.IsStep s → events.IsOther s → PartiesLaws p → CallsHold p w → CallsHold p (in_world w (events.stepped w.world s))
 other_holds p w s fits other g h = quiet_holds p w (events.stepped w.world s) h (g.world.each w.world s fits h.holds) (g.answering.network.items.quiet w.world s other h.holds)
 
 pub step_holds : {S : Type 0} (p : Parties S) (w : CallWorld) (s : CallStep) → PartiesLaws p → CallsHold p w → CallsHold p (call_stepped p w s)
@@ -93,7 +93,7 @@ all_hold p w (s ∷ ss) g h = all_hold p (call_stepped p w s) ss g (step_holds p
 
 -- a side's steps leave the other end and the network; those of a server's side also the calls made and listed
 pub record Leaves (side : Side) (w v : CallWorld) : Type 0 where
-  pub there : end_of v.world (other side) ≡ end_of w.world (other side)
+  pub there : end_at v.world (other side) ≡ end_at w.world (other side)
   pub network : (n : Network) → IsNetwork n w.world → IsNetwork n v.world
   pub later : Later w.world v.world
   pub made : side ≡ B → v.made ≡ w.made
@@ -103,7 +103,7 @@ leaves_itself : NetworkLaws → (side : Side) (w : CallWorld) → Leaves side w 
 leaves_itself laws side w = record { there = refl; network = λ n h. h; later = laws.goes_on.itself w.world; made = λ b. refl; listed = λ b. refl }
 
 -- an end moves that sends and takes nothing
-leaves_moved : NetworkLaws → (side : Side) (w : CallWorld) (t : State) → t.taken ≡ (end_of w.world side).taken → Leaves side w (in_world w (moved w.world side t []))
+leaves_moved : NetworkLaws → (side : Side) (w : CallWorld) (t : State) → t.taken ≡ (end_at w.world side).taken → Leaves side w (in_world w (moved w.world side t []))
 leaves_moved laws side w t same = record {
   there = laws.moves.there w.world side t [];
   network = λ n h. laws.quiet n w.world side t h (ap length same);
@@ -116,18 +116,18 @@ step_leaves : {S : Type 0} (p : Parties S) → ServerLaws p.serving p.service �
 step_leaves p laws side w =
     let on : Later w.world w.world = laws.network.goes_on.itself w.world in
     by_step p w (λ t o. Leaves t w (onward w o)) (record {
-      sent = λ t x is full. leaves_moved laws.network t w (after_send (end_of w.world t) x) (laws.ends.hears.send (end_of w.world t) x).taken;
-      fed = λ t is. leaves_moved laws.network t w (after_take (end_of w.world t)) (laws.ends.hears.take (end_of w.world t)).taken;
+      sent = λ t x is full. leaves_moved laws.network t w (after_send (end_at w.world t) x) (laws.ends.hears.send (end_at w.world t) x).taken;
+      fed = λ t is. leaves_moved laws.network t w (after_take (end_at w.world t)) (laws.ends.hears.take (end_at w.world t)).taken;
       listed = λ is. record { there = refl; network = λ n h. h; later = on; made = λ b. refl; listed = λ b. absurd (cc) };
       made = λ may. record { there = refl; network = λ n h. h; later = on; made = λ b. absurd (cc); listed = λ b. refl };
       rests = λ is. leaves_itself laws.network A w;
       stays = leaves_itself laws.network B w;
     }) side
 
-pub steps_leave : {S : Type 0} (p : Parties S) → ServerLaws p.serving p.service → (side : Side) (w : CallWorld) (n : ℕ) → Leaves side w (steps (step p side) w n)
+pub steps_leave : {S : Type 0} (p : Parties S) → ServerLaws p.serving p.service → (side : Side) (w : CallWorld) (n : ℕ) → Leaves side w (after_steps (step p side) w n)
 steps_leave p laws side w zero = leaves_itself laws.network side w
 steps_leave p laws side w (suc n) =
-    let v = steps (step p side) w n in
+    let v = after_steps (step p side) w n in
     let before = steps_leave p laws side w n in
     let now = step_leaves p laws side v in
     record {

@@ -18,7 +18,7 @@ use Rattle.xns_spp.specs.State.{State, IsState, numbers_of}
 use Rattle.xns_spp.specs.declared.item.Item.{Item}
 use Rattle.item_world.specs.Channel.{IsQuiet}
 use Rattle.item_world.specs.Invariant.{Holds}
-use Rattle.item_world.specs.World.{World, end_of, channel_of, sent_at, handed_at}
+use Rattle.item_world.specs.World.{World, end_at, channel_of, sent_at, handed_at}
 use Rattle.item_world.specs.declared.side.Side.{Side}
 use Rattle.item_world.specs.declared.side.Side.TheVariants.{A, B}
 use Rattle.xns_world.proofs.CallCarries.{element_at, faces}
@@ -31,30 +31,30 @@ use Rattle.xns_world.specs.CallWorld.{Parties, CallWorld, calls_made, put_out, n
 -- ---- what is so where no side takes a step
 
 pub record Resting {S : Type 0} (p : Parties S) (w : CallWorld) (side : Side) : Type 0 where
-  pub full : (x : Item) → next_out p w side ≡ Some x → is_full (end_of w.world side) ≡ true
-  pub idle : next_out p w side ≡ None → length (end_of w.world side).taken ≤ (end_of w.world side).handed
+  pub full : (x : Item) → next_out p w side ≡ Some x → is_full (end_at w.world side) ≡ true
+  pub idle : next_out p w side ≡ None → length (end_at w.world side).taken ≤ (end_at w.world side).handed
   pub caller : caller_step p w side ≡ None
 
 pub rest_full : {S : Type 0} (p : Parties S) (w : CallWorld) (side : Side) (x : Item) (b : Bool)
-    → is_full (end_of w.world side) ≡ b → next_out p w side ≡ Some x
-    → or_caller p w side (if b then None else Some (after_send (end_of w.world side) x)) ≡ None → Resting p w side
+    → is_full (end_at w.world side) ≡ b → next_out p w side ≡ Some x
+    → or_caller p w side (if b then None else Some (after_send (end_at w.world side) x)) ≡ None → Resting p w side
 rest_full p w side x true is out none = record { full = λ y e. is; idle = λ e. absurd (cc); caller = none }
 rest_full p w side x false is out none = absurd (cc)
 
 pub rest_idle : {S : Type 0} (p : Parties S) (w : CallWorld) (side : Side) (b : Bool)
-    → nat_lt 0 (waiting_count (end_of w.world side)) ≡ b → next_out p w side ≡ None
-    → or_caller p w side (if b then Some (after_take (end_of w.world side)) else None) ≡ None → Resting p w side
+    → nat_lt 0 (waiting_count (end_at w.world side)) ≡ b → next_out p w side ≡ None
+    → or_caller p w side (if b then Some (after_take (end_at w.world side)) else None) ≡ None → Resting p w side
 rest_idle p w side true is out none = absurd (cc)
 rest_idle p w side false is out none = record {
   full = λ y e. absurd (cc);
-  idle = λ e. omega (arith, ltb-false 0 (waiting_count (end_of w.world side)) is);
+  idle = λ e. omega (arith, ltb-false 0 (waiting_count (end_at w.world side)) is);
   caller = none;
 }
 
 pub rest_by : {S : Type 0} (p : Parties S) (w : CallWorld) (side : Side) (o : Option Item) → next_out p w side ≡ o
     → step_with p w side o ≡ None → Resting p w side
-rest_by p w side (Some x) out none = rest_full p w side x (is_full (end_of w.world side)) refl out none
-rest_by p w side None out none = rest_idle p w side (nat_lt 0 (waiting_count (end_of w.world side))) refl out none
+rest_by p w side (Some x) out none = rest_full p w side x (is_full (end_at w.world side)) refl out none
+rest_by p w side None out none = rest_idle p w side (nat_lt 0 (waiting_count (end_at w.world side))) refl out none
 
 pub resting : {S : Type 0} (p : Parties S) (w : CallWorld) (side : Side) → step p side w ≡ None → Resting p w side
 resting p w side none = rest_by p w side (next_out p w side) refl none
@@ -72,8 +72,8 @@ next_same p w v side q =
     ap (λ (l : List Item). slice_get l (length (sent_at v side))) (put_out_same p w v side q)
     ∙ ap (λ (l : List Item). slice_get (put_out p w side) (length l)) (q.accepted side)
 
-pub handed_count : (w : World) → Holds w → (side : Side) → length (handed_at w side) ≡ (end_of w side).handed
-handed_count w h side = omega (arith, length-take (end_of w side).handed (end_of w side).taken, (h.ends side).fits.bounds.handed_taken)
+pub handed_count : (w : World) → Holds w → (side : Side) → length (handed_at w side) ≡ (end_at w side).handed
+handed_count w h side = omega (arith, length-take (end_at w side).handed (end_at w side).taken, (h.ends side).fits.bounds.handed_taken)
 
 pub not_full : (s : State) → IsState s → length s.accepted ≤ s.acknowledged → length s.accepted < most_items
     → is_full s ≡ false
@@ -114,7 +114,7 @@ caller_front p w g h = begins_then (handed_at w.world A) (sent_at w.world B) (pu
 
 -- while the caller has an item out the server has none that its full end would hold back
 pub not_both_out : {S : Type 0} (p : Parties S) (w : CallWorld) (x y : Item) → PartiesLaws p → AllIsAnswered p.serving p.service
-    → CallsGoOn p w → next_out p w A ≡ Some x → next_out p w B ≡ Some y → is_full (end_of w.world B) ≡ true → ⊥
+    → CallsGoOn p w → next_out p w A ≡ Some x → next_out p w B ≡ Some y → is_full (end_at w.world B) ≡ true → ⊥
 not_both_out p w x y g sessions on out back full =
     let h = on.holds in
     let here = slice_get_within (put_out p w A) (length (sent_at w.world A)) x out in
@@ -125,7 +125,7 @@ not_both_out p w x y g sessions on out back full =
     (omega (arith, all_made p w h, on.waits)) in
     elim apart as (λ o. ⊥) [
       | inl all ↦ absurd (omega (arith, all, read, there))
-      | inr one ↦ empty_full (end_of w.world B) (h.holds.ends B).fits (omega (arith, one, there)) full
+      | inr one ↦ empty_full (end_at w.world B) (h.holds.ends B).fits (omega (arith, one, there)) full
     ]
 
 -- how much goes out at most

@@ -13,7 +13,7 @@ use Rattle.xns_world.proofs.CallCarries.{at_place, not_refused, room_of, room_mo
 use Rattle.xns_world.proofs.Stepping.{by_end, steps_are, GoesOn, IfGoesOn, steps_keep, steps_end}
 use Rattle.xns_world.specs.CallLaws.{ServerLaws}
 use Rattle.xns_world.specs.ServeEnd.{next_item_out}
-use Rattle.xns_world.specs.Settling.{handed_up_by, most_steps, serve_step, stepped_out, steps}
+use Rattle.xns_world.specs.Settling.{handed_up_by, most_steps, serve_step, stepped_out, after_steps}
 use Rattle.courier_messages.specs.Conversation.{conversation, Phase, ending}
 use Rattle.courier_messages.specs.Bounds.{bytes_in}
 use Rattle.courier_messages.specs.Called.{calls_of, all_calls, server_ending}
@@ -165,7 +165,7 @@ within_goes serving s v a brings h = by_step (serve_step serving s v) (step_goes
   by_step None goes out = tt
   by_step (Some u) goes out = record { keeps = record { fits = goes.keeps.fits; out = out }; fewer = goes.fewer }
 
-pub steps_within : {S : Type 0} (serving : Serving S) (s : S) (v : State) (n : ℕ) → ServerLaws serving s → AnItemBringsAtMostOneAnswer serving s → Within serving s v → Within serving s (steps (serve_step serving s) v n)
+pub steps_within : {S : Type 0} (serving : Serving S) (s : S) (v : State) (n : ℕ) → ServerLaws serving s → AnItemBringsAtMostOneAnswer serving s → Within serving s v → Within serving s (after_steps (serve_step serving s) v n)
 steps_within serving s v n a brings h = steps_keep (serve_step serving s) (Within serving s) left_of (λ u k. within_goes serving s u a brings k) v n h
 
 pub settles_within : {S : Type 0} (serving : Serving S) (s : S) (w : Served) → ServerLaws serving s → AnItemBringsAtMostOneAnswer serving s → Within serving s w.end → Within serving s (serve_settles serving s w).end

@@ -15,7 +15,7 @@ use Rattle.item_world.specs.declared.side.Side.TheVariants.{B}
 use Rattle.xns_world.specs.CallLaws.{ServerLaws}
 use Rattle.xns_world.specs.CallPlay.{IsServing}
 use Rattle.xns_world.specs.CallWorld.{Parties, CallWorld, or_caller, step}
-use Rattle.xns_world.specs.Settling.{Stepped, handed_up_by, end_step_with, serve_step, onward, most_steps, steps, stepped_out}
+use Rattle.xns_world.specs.Settling.{Stepped, handed_up_by, end_step_with, serve_step, onward, most_steps, after_steps, stepped_out}
 use Rattle.item_world.specs.EndLaws.{EndLaws}
 use Rattle.std.proofs.lemmas.List.Elements.{All-nil, All-push}
 use Rattle.courier_messages.specs.Conversation.{Phase, conversation, conversation_fault, ending}
@@ -184,10 +184,10 @@ onward_end p w None = refl
 onward_end p w (Some v) = refl
 
 -- the server's side of a world takes the steps of a server's end
-pub server_side : {S : Type 0} (p : Parties S) (w : CallWorld) (n : ℕ) → (steps (step p B) w n).world.b ≡ steps (serve_step p.serving p.service) w.world.b n
+pub server_side : {S : Type 0} (p : Parties S) (w : CallWorld) (n : ℕ) → (after_steps (step p B) w n).world.b ≡ after_steps (serve_step p.serving p.service) w.world.b n
 server_side p w zero = refl
 server_side p w (suc n) =
-    let x = steps (step p B) w n in
+    let x = after_steps (step p B) w n in
     onward_end p x (serve_step p.serving p.service x.world.b)
     ∙ ap (λ (v : State). onward v (serve_step p.serving p.service v)) (server_side p w n)
 

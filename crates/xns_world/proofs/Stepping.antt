@@ -1,11 +1,11 @@
 -- Steps that are taken until none applies, what is so of the step that an end or a side takes, and what a call's clauses leave.
 use Rattle.std.proofs.Common.{◌≡◌, ℕ, zero, suc, ◌+◌, ◌-◌, ◌<◌, ◌≤◌, Bool, true, false, Option, Some, None, refl, sym, ◌∙◌, ap, subst, arith, Result, Ok, Err}
-use Rattle.xns_world.specs.Settling.{most_steps, onward, steps, stepped_out, Stepped, end_step_with}
+use Rattle.xns_world.specs.Settling.{most_steps, onward, after_steps, stepped_out, Stepped, end_step_with}
 use Rattle.std.specs.Prelude.{OnOk, IfOk, nat_lt, if◌then◌else◌}
 use Rattle.xns_spp.specs.Sending.{is_full, waiting_count, after_send, after_take}
 use Rattle.xns_spp.specs.State.{State}
 use Rattle.xns_spp.specs.declared.item.Item.{Item}
-use Rattle.item_world.specs.World.{end_of}
+use Rattle.item_world.specs.World.{end_at}
 use Rattle.item_world.specs.declared.side.Side.{Side}
 use Rattle.item_world.specs.declared.side.Side.TheVariants.{A, B}
 use Rattle.xns_world.specs.CallWorld.{Parties, CallWorld, or_caller, next_out, sends_next, feeds_session, lists_outcome, makes, has_outcome, may_call, caller_step, step}
@@ -35,10 +35,10 @@ unfolding IfGoesOn
 onward_keeps K left x None k i = k
 onward_keeps K left x (Some y) k i = i.keeps
 
-pub steps_keep : {X : Type 0} (step : X → Option X) (K : X → Type 0) (left : X → ℕ) → EachGoesOn step K left → (x : X) (n : ℕ) → K x → K (steps step x n)
+pub steps_keep : {X : Type 0} (step : X → Option X) (K : X → Type 0) (left : X → ℕ) → EachGoesOn step K left → (x : X) (n : ℕ) → K x → K (after_steps step x n)
 steps_keep step K left go x zero k = k
 steps_keep step K left go x (suc n) k =
-    let y = steps step x n in
+    let y = after_steps step x n in
     let here = steps_keep step K left go x n k in
     onward_keeps K left y (step y) here (go y here)
 
@@ -59,10 +59,10 @@ unfolding IfGoesOn Below
 below_onward step K left n most x None is i b = subst (Below left (suc n) most x) (sym is) tt
 below_onward step K left n most x (Some y) is i b = below left (suc n) most y (step y) (omega (arith, b, i.fewer))
 
-steps_below : {X : Type 0} (step : X → Option X) (K : X → Type 0) (left : X → ℕ) → EachGoesOn step K left → (x : X) (n : ℕ) → K x → Below left n (left x) (steps step x n) (step (steps step x n))
+steps_below : {X : Type 0} (step : X → Option X) (K : X → Type 0) (left : X → ℕ) → EachGoesOn step K left → (x : X) (n : ℕ) → K x → Below left n (left x) (after_steps step x n) (step (after_steps step x n))
 steps_below step K left go x zero k = below left 0 (left x) x (step x) (omega arith)
 steps_below step K left go x (suc n) k =
-    let y = steps step x n in
+    let y = after_steps step x n in
     below_onward step K left n (left x) y (step y) refl (go y (steps_keep step K left go x n k)) (steps_below step K left go x n k)
 
 none_below : {X : Type 0} (K : X → Type 0) (left : X → ℕ) (n most : ℕ) (x : X) (o : Option X) → most ≤ n → IfGoesOn K left x o → Below left n most x o → o ≡ None
@@ -91,34 +91,34 @@ stepped_not x None P h = record { none = refl; here = h }
 stepped_not x (Some y) P h = absurd h
 
 -- where no step applies nothing goes on
-steps_stay : {X : Type 0} (step : X → Option X) (x : X) (n k m : ℕ) → m ≡ k + n → step (steps step x n) ≡ None → steps step x m ≡ steps step x n
-steps_stay step x n zero m is none = let e : m ≡ n = omega arith in ap (λ (i : ℕ). steps step x i) e
+steps_stay : {X : Type 0} (step : X → Option X) (x : X) (n k m : ℕ) → m ≡ k + n → step (after_steps step x n) ≡ None → after_steps step x m ≡ after_steps step x n
+steps_stay step x n zero m is none = let e : m ≡ n = omega arith in ap (λ (i : ℕ). after_steps step x i) e
 steps_stay {X} step x n (suc k) m is none =
     let e : m ≡ suc (k + n) = omega arith in
     let same = steps_stay step x n k (k + n) refl none in
-    ap (λ (i : ℕ). steps step x i) e
+    ap (λ (i : ℕ). after_steps step x i) e
     ∙ (ap (λ (y : X). onward y (step y)) same
-    ∙ ap (λ (o : Option X). onward (steps step x n) o) none)
+    ∙ ap (λ (o : Option X). onward (after_steps step x n) o) none)
 
-stepped_all : {X : Type 0} (step : X → Option X) (x : X) (n : ℕ) → n ≤ most_steps → step (steps step x n) ≡ None → steps step x n ≡ stepped_out step x
+stepped_all : {X : Type 0} (step : X → Option X) (x : X) (n : ℕ) → n ≤ most_steps → step (after_steps step x n) ≡ None → after_steps step x n ≡ stepped_out step x
 stepped_all step x n h none =
     let count : most_steps ≡ (most_steps - n) + n = omega arith in
     sym (steps_stay step x n (most_steps - n) most_steps count none)
 
-pub stepped_end : {X : Type 0} (step : X → Option X) (x : X) (n : ℕ) → n ≡ most_steps → steps step x n ≡ stepped_out step x
-stepped_end step x n is = ap (λ (k : ℕ). steps step x k) is
+pub stepped_end : {X : Type 0} (step : X → Option X) (x : X) (n : ℕ) → n ≡ most_steps → after_steps step x n ≡ stepped_out step x
+stepped_end step x n is = ap (λ (k : ℕ). after_steps step x k) is
 
 -- the program took one step more
-pub goes_further : {X : Type 0} (step : X → Option X) (x : X) (n : ℕ) (b : Bool) (P : X → Type 0) → b ≡ true → Stepped b (steps step x n) (step (steps step x n)) P → P (steps step x (n + 1))
+pub goes_further : {X : Type 0} (step : X → Option X) (x : X) (n : ℕ) (b : Bool) (P : X → Type 0) → b ≡ true → Stepped b (after_steps step x n) (step (after_steps step x n)) P → P (after_steps step x (n + 1))
 goes_further step x n b P is h =
-    let y = steps step x n in
+    let y = after_steps step x n in
     let next : suc n ≡ n + 1 = omega arith in
-    subst (λ (k : ℕ). P (steps step x k)) next (stepped_on y (step y) P (subst (λ (c : Bool). Stepped c y (step y) P) is h))
+    subst (λ (k : ℕ). P (after_steps step x k)) next (stepped_on y (step y) P (subst (λ (c : Bool). Stepped c y (step y) P) is h))
 
 -- no step applied
-pub stops_there : {X : Type 0} (step : X → Option X) (x : X) (n : ℕ) (b : Bool) (P : X → Type 0) → b ≡ false → n ≤ most_steps → Stepped b (steps step x n) (step (steps step x n)) P → P (stepped_out step x)
+pub stops_there : {X : Type 0} (step : X → Option X) (x : X) (n : ℕ) (b : Bool) (P : X → Type 0) → b ≡ false → n ≤ most_steps → Stepped b (after_steps step x n) (step (after_steps step x n)) P → P (stepped_out step x)
 stops_there step x n b P is few h =
-    let y = steps step x n in
+    let y = after_steps step x n in
     let stop = stepped_not y (step y) P (subst (λ (c : Bool). Stepped c y (step y) P) is h) in
     subst P (stepped_all step x n few stop.none) stop.here
 
@@ -148,8 +148,8 @@ by_end v None P send take none = if_waiting v P (nat_lt 0 (waiting_count v)) (ta
 
 -- what a side can do, and that it does nothing
 pub record Cases {S : Type 0} (p : Parties S) (w : CallWorld) (P : Side → Option CallWorld → Type 0) : Type 0 where
-  pub sent : (side : Side) (x : Item) → next_out p w side ≡ Some x → is_full (end_of w.world side) ≡ false → P side (Some (sends_next w side x))
-  pub fed : (side : Side) → nat_lt 0 (waiting_count (end_of w.world side)) ≡ true → P side (Some (feeds_session w side))
+  pub sent : (side : Side) (x : Item) → next_out p w side ≡ Some x → is_full (end_at w.world side) ≡ false → P side (Some (sends_next w side x))
+  pub fed : (side : Side) → nat_lt 0 (waiting_count (end_at w.world side)) ≡ true → P side (Some (feeds_session w side))
   pub listed : has_outcome p w ≡ true → P A (Some (lists_outcome w))
   pub made : may_call p w ≡ true → P A (Some (makes w))
   pub rests : has_outcome p w ≡ false → P A None
@@ -165,4 +165,4 @@ by_either p w P h A = by_caller p w P h (has_outcome p w) (may_call p w) refl re
 by_either p w P h B = h.stays
 
 pub by_step : {S : Type 0} (p : Parties S) (w : CallWorld) (P : Side → Option CallWorld → Type 0) → Cases p w P → (side : Side) → P side (step p side w)
-by_step p w P h side = by_end (end_of w.world side) (next_out p w side) (λ o. P side (or_caller p w side o)) (h.sent side) (λ none is. h.fed side is) (by_either p w P h side)
+by_step p w P h side = by_end (end_at w.world side) (next_out p w side) (λ o. P side (or_caller p w side o)) (h.sent side) (λ none is. h.fed side is) (by_either p w P h side)

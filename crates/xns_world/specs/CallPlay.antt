@@ -21,7 +21,7 @@ use Rattle.xns_world.specs.declared.serving.ServingEnd.{ServingEnd}
 use Rattle.item_world.specs.declared.side.Side.{Side}
 use Rattle.item_world.specs.declared.side.Side.TheVariants.{A, B}
 use Rattle.xns_world.specs.CallWorld.{Parties, CallWorld, calls_made, seen_at, carried_at, service_at}
-use Rattle.item_world.specs.World.{World, handed_at, sent_at, packets_of}
+use Rattle.item_world.specs.World.{World, handed_at, sent_at, sent_packets}
 
 -- the history of the session of the caller's end
 abbrev pub caller_history : {S : Type 0} → Parties S → CallWorld → caller.CallerHistory
@@ -43,7 +43,7 @@ pub record IsCallTrace {S : Type 0} (p : Parties S) (t : CallTrace S) (w : CallW
   pub carried : t.carried.items ≡ map call_of (carried_at w)
   pub seen : map seen_model t.seen.items ≡ seen_at p w
   pub service : t.service ≡ service_at p w
-  pub bag : t.bag ≡ packets_of w.world
+  pub bag : t.bag ≡ sent_packets w.world
 
 abbrev pub endpoint_at : {S : Type 0} → CallPair S → Side → Held
 endpoint_at e A = e.a.endpoint

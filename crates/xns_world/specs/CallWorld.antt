@@ -13,10 +13,10 @@ use Rattle.item_world.specs.declared.setup.Setup.{Setup}
 use Rattle.item_world.specs.declared.side.Side.{Side}
 use Rattle.item_world.specs.declared.side.Side.TheVariants.{A, B}
 use Rattle.item_world.specs.Events.{undelivered}
-use Rattle.item_world.specs.Landing.{landing, reached}
+use Rattle.item_world.specs.Landing.{landing, world_reached}
 use Rattle.item_world.specs.UserSteps.{resends, sends_system_packet}
 use Rattle.xns_world.specs.Settling.{end_step_with, most_steps, onward}
-use Rattle.item_world.specs.World.{World, start, end_of, moved, flushes, ticks, overhears, sends, takes, sent_at, handed_at}
+use Rattle.item_world.specs.World.{World, start, end_at, moved, flushes, ticks, overhears, sends, takes, sent_at, handed_at}
 
 -- the service with its table, the state that it begins in, and the calls that are to be made
 pub record Parties (S : Type 0) : Type 0 where
@@ -87,7 +87,7 @@ or_caller p w side (Some v) = Some (in_world w (moved w.world side v []))
 or_caller p w side None = caller_step p w side
 
 abbrev pub step_with : {S : Type 0} → Parties S → CallWorld → Side → Option Item → Option CallWorld
-step_with p w side o = or_caller p w side (end_step_with (end_of w.world side) o)
+step_with p w side o = or_caller p w side (end_step_with (end_at w.world side) o)
 
 -- the first step that applies: the session has an item out and the end is not full: it is sent; none is out and an item
 -- waits: the session is fed it; an outcome is there: it is listed; no call is unanswered: the next is made
@@ -109,7 +109,7 @@ pub data CallStep : Type 0 where
   telling : Side → (asks : Bool) → CallStep
 
 abbrev pub call_stepped : {S : Type 0} → Parties S → CallWorld → CallStep → CallWorld
-call_stepped p w (arrival k) = in_world w (reached w.world (landing w.world k))
+call_stepped p w (arrival k) = in_world w (world_reached w.world (landing w.world k))
 call_stepped p w (noise side bytes) = in_world w (overhears w.world side bytes)
 call_stepped p w (ticking side) = in_world w (ticks w.world side)
 call_stepped p w (acting side) = onward w (step p side w)

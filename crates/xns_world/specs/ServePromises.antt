@@ -13,7 +13,7 @@ use Rattle.xns_spp.specs.State.{State, IsState}
 use Rattle.xns_spp.specs.declared.item.Item.{Item}
 use Rattle.xns_world.specs.Serve.{Served, serve}
 use Rattle.xns_world.specs.ServeEnd.{next_item_out}
-use Rattle.xns_world.specs.Settling.{handed_up_by, serve_step, steps, stepped_out}
+use Rattle.xns_world.specs.Settling.{handed_up_by, serve_step, after_steps, stepped_out}
 use Rattle.item_world.specs.Setup.{IsSetup, IsGood}
 use Rattle.item_world.specs.declared.setup.Setup.{Setup}
 use Rattle.xns_idp.specs.Packet.{AreBytes}
@@ -53,4 +53,4 @@ pub record ServedEndsStayWithinBounds {S : Type 0} (serving : Serving S) (IsServ
       → IsServedWithin serving s (serve serving s setup packets)
   -- an end and what is out are within their bounds after each of the steps by which the end settles
   pub settling : (s : S) (v : State) (n : ℕ) → IsServiceState s → IsState v → IsOutShort serving s v
-      → IsState (steps (serve_step serving s) v n) × IsOutShort serving s (steps (serve_step serving s) v n)
+      → IsState (after_steps (serve_step serving s) v n) × IsOutShort serving s (after_steps (serve_step serving s) v n)

@@ -11,7 +11,7 @@ ghost use Rattle.xns_world.specs.CallLaws.{ServerLaws};
 ghost use Rattle.xns_world.specs.ServeEnd.{IsServed, IsHearing, next_item_out, fault_noted};
 ghost use Rattle.xns_world.specs.Settling.{serve_step, stepped_out, Stepped};
 ghost use Rattle.item_world.specs.Setup.{IsGood};
-ghost use Rattle.item_world.specs.World.{start, end_of};
+ghost use Rattle.item_world.specs.World.{start, end_at};
 ghost use Rattle.item_world.specs.declared.side.Side.TheVariants.{B};
 
 use crate::calling::MOST_STEPS;
@@ -44,7 +44,7 @@ impl<'a, S: Service> ServingEnd<'a, S> {
         requires listed { table_model table.now ≡ S.serving.table }
         requires checked { IsCheckedTable (table_model table.now) }
         requires state { S.IsServiceState service }
-        ensures { IfOk result (λ e. IsServed S.serving service e (end_of (start setup.now) B)) }
+        ensures { IfOk result (λ e. IsServed S.serving service e (end_at (start setup.now) B)) }
     {
         let endpoint = setup.end(alloc, Side::B)?;
         let server = Server::new(alloc, table, service)?;

@@ -109,15 +109,15 @@ refusals_of words = or_else (fault_of program_app words)
 
 -- the words ask for that: for a mode, over the first file that they name, with calls named by the programs that they name, or for the
 -- programs of all files
-abbrev pub Asks : Request → List Text → Type 0
-Asks (Run mode file times descriptions) words = (named_subcommand words ≡ Some (name_of mode))
+abbrev pub AsksFor : Request → List Text → Type 0
+AsksFor (Run mode file times descriptions) words = (named_subcommand words ≡ Some (name_of mode))
     × (option_map (λ text. text.now) file ≡ slice_get (named_files words) 0) × (times ≡ named_times words)
     × (texts descriptions.items ≡ named_descriptions words)
-Asks (Programs files) words = (named_subcommand words ≡ Some (codes "programs")) × (texts files.items ≡ named_files words)
+AsksFor (Programs files) words = (named_subcommand words ≡ Some (codes "programs")) × (texts files.items ≡ named_files words)
 
 -- the words `xns` and the mode's name
-abbrev pub words_of : Mode → List Text
-words_of mode = codes "xns" ∷ name_of mode ∷ []
+abbrev pub mode_words : Mode → List Text
+mode_words mode = codes "xns" ∷ name_of mode ∷ []
 
 -- the words `xns` and the mode's name, and the name of a file
 abbrev pub words_with_file : Mode → List Text

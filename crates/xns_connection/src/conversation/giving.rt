@@ -6,7 +6,7 @@ ghost use Rattle.xns_spp.specs.Sending.{after_flush, flush_answer};
 ghost use Rattle.std.specs.Option.{is_some, option_to_list};
 ghost use Rattle.xns_spp.specs.State.{State};
 ghost use Rattle.xns_spp.specs.Telling.{after_resend, resend_answer};
-ghost use Rattle.xns_connection.specs.Giving.{Giving, GivesAs, IsGiving, IsShort, flushed, giving, has_packets, newer, next_of, older};
+ghost use Rattle.xns_connection.specs.Giving.{Giving, GivesAs, IsGiving, MayStopAt, flushed, giving, has_packets, newer, next_of, older};
 
 use crate::conversation::Conversation;
 use crate::owed::Owed;
@@ -162,7 +162,7 @@ impl Conversation {
     ) -> Result<Option<Bytes>, AllocError>
         ensures side { (self.new.side ≡ self.old.side) × (self.new.closing ≡ self.old.closing) }
         ensures at { IfOk result (λ p. (s : State) → StandsFor self.old.endpoint s → GivesAs (next_of (giving self.old owed.old s)) p self.new owed.new) }
-        ensures short { OnErr result ((s : State) → StandsFor self.old.endpoint s → (y : Giving) × IsShort (giving self.old owed.old s) y
+        ensures short { OnErr result ((s : State) → StandsFor self.old.endpoint s → (y : Giving) × MayStopAt (giving self.old owed.old s) y
             × IsGiving self.new owed.new y) }
         ensures memory { OnErr result ((s : State) → StandsFor self.old.endpoint s → is_some (next_of (giving self.old owed.old s)).0 ≡ true) }
     {

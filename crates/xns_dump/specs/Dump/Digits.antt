@@ -9,7 +9,7 @@ HasValues digits values =
     (i : ℕ) → i < length digits → (hex_digit_value (slice_index digits i) ≡ Some (slice_index values i)) × (slice_index values i < 16)
 
 -- the two rooms hold the values and the bytes of the longest line, and `used` bytes are within the second
-pub record HasRoom (value_room byte_room : List ℕ) (used : ℕ) : Type 0 where
+pub record HasDigitRoom (value_room byte_room : List ℕ) (used : ℕ) : Type 0 where
   pub values : most_line_bytes ≤ length value_room
   pub bytes : most_line_bytes / 2 ≤ length byte_room
   pub count : used ≤ length byte_room

@@ -15,12 +15,12 @@ use Rattle.xns_dump.specs.Layers.Text.{line_of}
 use Rattle.xns_lines.specs.Lines.{without_return}
 
 -- a space or a tab
-abbrev pub is_blank : ℕ → Bool
-is_blank byte = byte == 32 || byte == 9
+abbrev pub is_space_or_tab : ℕ → Bool
+is_space_or_tab byte = byte == 32 || byte == 9
 
 -- the digits of a line
 unfoldable pub digits_of : List ℕ → List ℕ
-digits_of line = filter (λ byte. not (is_blank byte)) (without_return line)
+digits_of line = filter (λ byte. not (is_space_or_tab byte)) (without_return line)
 
 -- why the digits spell no bytes: an odd number of them comes before a bad digit, whose place counts from 0
 unfoldable pub hex_refusal_text : FromHexError → List ℕ

@@ -22,15 +22,15 @@ abbrev pub numbering : BTreeMap Flow ℕ → DataPacket → ℕ
 numbering last packet = number_near (get flow_cmp last packet.0) packet.1
 
 -- a data packet, if there is one, with its number
-abbrev pub numbered : (DataPacket → ℕ) → Option DataPacket → Option Numbered
-numbered number None = None
-numbered number (Some packet) = Some (record { flow = packet.0; sequence = packet.1; item = number packet })
+abbrev pub with_its_number : (DataPacket → ℕ) → Option DataPacket → Option Numbered
+with_its_number number None = None
+with_its_number number (Some packet) = Some (record { flow = packet.0; sequence = packet.1; item = number packet })
 
-abbrev pub AreWords : List DataPacket → Type 0
-AreWords [] = Unit {0}
-AreWords (packet ∷ packets) = (packet.1 < 65536) × AreWords packets
+abbrev pub AreSequencesWords : List DataPacket → Type 0
+AreSequencesWords [] = Unit {0}
+AreSequencesWords (packet ∷ packets) = (packet.1 < 65536) × AreSequencesWords packets
 
 -- the map has the number of the last item of each flow of these packets
 pub record NumbersStandFor (last : BTreeMap Flow ℕ) (packets : List DataPacket) : Type 0 where
   pub numbers : (flow : Flow) → get flow_cmp last flow ≡ last_number (fields_of flow packets)
-  pub words : AreWords packets
+  pub words : AreSequencesWords packets

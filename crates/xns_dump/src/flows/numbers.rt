@@ -3,7 +3,7 @@ ghost use Rattle.std.specs.Prelude.{◌≡◌, ◌++◌, [], ◌∷◌, ℕ, Lis
 ghost use Rattle.std.specs.Option.{option_to_list};
 ghost use Rattle.std.specs.BTreeMap.{IsUnchanged};
 ghost use Rattle.xns_dump.specs.Flows.{DataPacket, item_number};
-ghost use Rattle.xns_dump.specs.Flows.Numbers.{NumbersStandFor, number_near, numbered, numbering};
+ghost use Rattle.xns_dump.specs.Flows.Numbers.{NumbersStandFor, number_near, with_its_number, numbering};
 
 use crate::flows::flow::Flow;
 use crate::flows::numbered::Numbered;
@@ -56,7 +56,7 @@ impl FlowNumbers {
     /// Keeps the number of a data packet's item, if there is one. Where memory is refused, nothing has changed.
     pub(crate) fn note_item(&mut self, item: Option<Numbered>) -> Result<(), AllocError>
         ensures after { OnOk result ((number : DataPacket → ℕ) (packet : Option DataPacket) (earlier : List DataPacket) → item
-            ≡ numbered number packet → number ≡ item_number earlier
+            ≡ with_its_number number packet → number ≡ item_number earlier
             → NumbersStandFor self.old.last earlier → NumbersStandFor self.new.last (earlier ++ option_to_list packet)) }
         ensures unchanged { OnErr result (IsUnchanged self.old.last self.new.last) }
     {

@@ -16,7 +16,7 @@ use xns_connection::laws::{
 impl Host {
     ghost use Rattle.xns_host.specs.Hosting.{ActsIn, EachActs, IsApart};
     ghost use Rattle.xns_host.specs.Identifiers.{StaysInOrder};
-    ghost use Rattle.xns_host.specs.Places.{Acts, ActsAt, AsksEvent, AsksPacket, resting};
+    ghost use Rattle.xns_host.specs.Places.{ActsOneByOne, ActsAt, AsksEvent, AsksPacket, resting};
     ghost use Rattle.xns_host.specs.Standing.{StaysSetUp};
     ghost use Rattle.xns_host.specs.Turn.{GivesOut, TellsNext, places_of};
     ghost use Rattle.xns_host.specs.declared.guest.Guest.{Guest};
@@ -99,7 +99,7 @@ impl Host {
 
     /// Does all that is due, of each connection.
     fn act_all(&mut self, now: u64)
-        ensures one_by_one { Acts now (places_of self.old) (places_of self.new) }
+        ensures one_by_one { ActsOneByOne now (places_of self.old) (places_of self.new) }
         ensures acts { now < last_time → EachActs now self.old.guests.items self.new.guests.items }
         ensures order { StaysInOrder self.old.register.identifiers self.new.register.identifiers }
         ensures strays { self.new.strays ≡ self.old.strays }

@@ -31,8 +31,8 @@ impl Host {
     ghost use Rattle.xns_host.specs.Coming.{Comes, Opens, Seats};
     ghost use Rattle.xns_host.specs.Hosting.{HasNoRoom, IsAllInUse, IsThere, address_in};
     ghost use Rattle.xns_host.specs.Identifiers.{StaysInOrder};
-    ghost use Rattle.xns_host.specs.Ours.{AsksEcho, HasSocket, IsOf, IsSentBy, IsToSocket, QuotesOurs};
-    ghost use Rattle.xns_host.specs.Places.{Turns};
+    ghost use Rattle.xns_host.specs.Ours.{AsksEcho, HasSocket, IsOfGuest, IsSentBy, IsToSocket, QuotesOurs};
+    ghost use Rattle.xns_host.specs.Places.{PlaceTurns};
     ghost use Rattle.xns_host.specs.Quotes.{is_sent_by};
     ghost use Rattle.xns_host.specs.Register.{number_by, peer_at, peer_cmp};
     ghost use Rattle.xns_host.specs.Services.{programs_at};
@@ -152,7 +152,7 @@ impl Host {
     /// Closes the connection of which an Error packet quotes a packet that went out lately; whether there is such a connection.
     fn refused(&mut self, now: u64, packet: &Packet<'_>) -> bool
         ensures refuses { packet.now.kind ≡ ERROR → result ≡ true → (quotes : QuotesOurs (whole_of self.old) (packet_model packet.now))
-            × Turns (GuestUnserved now quotes.quote.error) quotes.number (places_of self.old) (places_of self.new) }
+            × PlaceTurns (GuestUnserved now quotes.quote.error) quotes.number (places_of self.old) (places_of self.new) }
         ensures foreign { result ≡ false → QuotesOurs (whole_of self.old) (packet_model packet.now) → ⊥ }
         ensures rest { result ≡ false → places_of self.new ≡ places_of self.old }
         ensures register { self.new.register ≡ self.old.register }
@@ -175,7 +175,7 @@ impl Host {
     #[tactic(auto, using(crate::proofs::Noting::put_back, crate::proofs::Turns::put_registered, crate::proofs::Turns::put_undone))]
     fn not_served(&mut self, now: u64, number: usize, quote: &Quote) -> bool
         ensures turn { result ≡ true → IsThere (IsSentBy quote.now) (slice_get self.old.guests.items number)
-            × Turns (GuestUnserved now quote.now.error) number (places_of self.old) (places_of self.new) }
+            × PlaceTurns (GuestUnserved now quote.now.error) number (places_of self.old) (places_of self.new) }
         ensures foreign { result ≡ false → (g : Guest) (s : State) → slice_get self.old.guests.items number ≡ Some (Some g)
             → StandsFor g.connection.conversation.endpoint s → is_sent_by g s quote.now ≡ false }
         ensures rest { result ≡ false → places_of self.new ≡ places_of self.old }
@@ -232,9 +232,9 @@ impl Host {
     #[tactic(auto, using(crate::proofs::Noting::put_back, crate::proofs::Turns::put_registered, crate::proofs::Turns::put_undone))]
     fn hear(&mut self, now: u64, number: usize, confirms: bool, packet: &SppPacket) -> bool
         requires { IsSppPacket packet.now }
-        ensures turn { result ≡ true → IsThere (IsOf packet.now) (slice_get self.old.guests.items number)
+        ensures turn { result ≡ true → IsThere (IsOfGuest packet.now) (slice_get self.old.guests.items number)
             × ((b : List ℕ) → spp_packet_of b ≡ Ok packet.now
-            → Turns (GuestHears now b confirms) number (places_of self.old) (places_of self.new)) }
+            → PlaceTurns (GuestHears now b confirms) number (places_of self.old) (places_of self.new)) }
         ensures foreign { result ≡ false → (g : Guest) (s : State) → slice_get self.old.guests.items number ≡ Some (Some g)
             → StandsFor g.connection.conversation.endpoint s → is_ours_at s.ends packet.now ≡ false }
         ensures rest { result ≡ false → places_of self.new ≡ places_of self.old }

@@ -4,7 +4,7 @@ use Rattle.courier_calls.specs.Calls.{CallModel, raw}
 use Rattle.courier_calls.specs.Tally.{tally}
 use Rattle.xns_idp.specs.declared.address.Address.{Address}
 use Rattle.xns_world.specs.CallWorld.{CallWorld, Parties, carried_at, run_calls, seen_at, service_at}
-use Rattle.item_world.specs.World.{packets_of}
+use Rattle.item_world.specs.World.{sent_packets}
 use Rattle.item_world.specs.declared.event.Event.{Event}
 use Rattle.item_world.specs.declared.setup.Setup.{Setup}
 use Rattle.xns_sim.specs.Sim.Trace.{trace_text}
@@ -26,7 +26,7 @@ abbrev pub script_parties : List CallModel → Parties ℕ
 script_parties calls = record { serving = tally; service = 0; calls = map raw calls }
 
 abbrev pub world_text : Parties ℕ → CallWorld → List ℕ
-world_text p w = trace_text (length p.calls) (length (carried_at w)) (seen_at p w) (service_at p w) (length (packets_of w.world))
+world_text p w = trace_text (length p.calls) (length (carried_at w)) (seen_at p w) (service_at p w) (length (sent_packets w.world))
 
 -- the text that is printed of these calls, when these events happen
 unfoldable pub play_text : List CallModel → List Event → List ℕ

@@ -4,7 +4,7 @@ use Rattle.courier_messages.specs.declared.fault.SessionFault.{SessionFault}
 use Rattle.courier_messages.specs.declared.head.Head.{Head}
 use Rattle.courier_messages.specs.Phases.{run, said}
 use Rattle.courier_messages.specs.Text.{signs}
-use Rattle.courier_calls.specs.Server.{Judges}
+use Rattle.courier_calls.specs.Server.{ServerJudges}
 use Rattle.courier_calls.proofs.Judging.{fault_first, nothing_yet, a_call, another}
 use Rattle.courier_calls.proofs.server.judge.Goals as goal
 
@@ -13,7 +13,7 @@ returns-in_err-head c =
     let ms = said c.args.incoming.now (signs c.args.item.now) in
     let q = run c.args.incoming.now (signs c.args.item.now) in
     let w : c.from_residual.result ≡ Err c.in_err-head.field-0.0 = search rules in
-    subst (λ (r : Result (Unit {0}) SessionFault). Judges c.args.incoming.now r ms q) (sym w) (fault_first c.in_err-head.field-0.0 ms q (rw c.as_slice.ensures at c.in_err-head.ensures))
+    subst (λ (r : Result (Unit {0}) SessionFault). ServerJudges c.args.incoming.now r ms q) (sym w) (fault_first c.in_err-head.field-0.0 ms q (rw c.as_slice.ensures at c.in_err-head.ensures))
 
 pub returns-in_default : goal.returns-in_default
 returns-in_default c =

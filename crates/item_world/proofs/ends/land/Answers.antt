@@ -9,7 +9,7 @@ use Rattle.item_world.proofs.Networks.{end_reached_by}
 use Rattle.item_world.proofs.Sides.{lands_as, comes_as}
 use Rattle.item_world.proofs.ends.land.Goals as goal
 use Rattle.item_world.specs.Network.{IsEnd}
-use Rattle.item_world.specs.World.{World, end_of}
+use Rattle.item_world.specs.World.{World, end_at}
 use Rattle.item_world.specs.declared.emitted.Emitted.{Emitted}
 
 always : {T E P : Type 0} (r : Result T E) → P → OnOk r P
@@ -25,7 +25,7 @@ returns-clause-network c =
     ok_then c.deliver.result c.deliver.ensures.delivers (λ delivered laws w x h is.
     let side = c.args.side in
     let k = c.args.number in
-    let s = end_of w side in
+    let s = end_at w side in
     let there : slice_get c.args.network.now.packets k ≡ Some x = ap (λ (t : List Emitted). slice_get t k) h.network.bag ∙ is in
     let bytes = c.bytes.ensures x there in
     let answer = c.in_ok-received.ensures.answer s h.stands ∙ ap (receive_answer s) bytes in

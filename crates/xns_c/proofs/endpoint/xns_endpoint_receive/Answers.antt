@@ -1,5 +1,5 @@
 use Rattle.std.proofs.Common.{refl, rules}
-use Rattle.xns_c.specs.Handle.{line_of}
+use Rattle.xns_c.specs.Handle.{kept_endpoint_of}
 use Rattle.xns_c.proofs.Kept.{taken}
 use Rattle.xns_c.proofs.endpoint.xns_endpoint_receive.Goals as goal
 
@@ -8,7 +8,7 @@ returns-in-Err c = record {
   stands = search rules;
   told = search rules;
   memory = λ s keeps _ _.
-      (refl, c.in-Err.ensures.memory s (taken (line_of c.args.handle.now) c.in-Some.connection.value c.deref_mut.result.now s c.in-Some.ensures.answer c.deref_mut.ensures.value keeps));
+      (refl, c.in-Err.ensures.memory s (taken (kept_endpoint_of c.args.handle.now) c.in-Some.connection.value c.deref_mut.result.now s c.in-Some.ensures.answer c.deref_mut.ensures.value keeps));
   packets = search rules;
   short = search rules;
   none = search rules;

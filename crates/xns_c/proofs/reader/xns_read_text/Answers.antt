@@ -1,6 +1,6 @@
 use Rattle.std.proofs.Common.{◌∙◌, ◌++◌, ◌-◌, ℕ, List, length, take, drop, ap, sym, refl, arith}
 use Rattle.courier_types.specs.Value.{ValueModel}
-use Rattle.xns_c.specs.Cursor.{ahead, moved}
+use Rattle.xns_c.specs.Cursor.{ahead, further_on}
 use Rattle.xns_c.proofs.Texts.{text_told, text_sound, text_cut, text_none, same_filled}
 use Rattle.xns_c.proofs.reader.xns_read_text.Goals as goal
 
@@ -36,7 +36,7 @@ pub returns-clause-read : goal.returns-clause-read
 returns-clause-read c = λ bytes taken _ e _.
     let told = text_told c.ahead.result.now (ahead c.args.words.now c.args.cursor.now) c.from-count.result c.ahead.ensures.words c.in-len1-up.len_at_least c.from-count.ensures c.if-others-wanted.false bytes taken e in
     let filled = same_filled (take (length c.ahead.result.now - 1) (drop 1 c.ahead.result.now)) c.args.text.now c.fill_bytes.new.bytes bytes c.from-count.result c.if-text-count.false c.fill_bytes.ensures told.2 in
-    (refl, (sym told.0, ap (λ (l : List ℕ). l ++ drop c.from-count.result c.args.text.now) filled ∙ ap (λ (n : ℕ). bytes ++ drop n c.args.text.now) (sym told.0)), ap (moved c.args.cursor.now) (sym told.1))
+    (refl, (sym told.0, ap (λ (l : List ℕ). l ++ drop c.from-count.result c.args.text.now) filled ∙ ap (λ (n : ℕ). bytes ++ drop n c.args.text.now) (sym told.0)), ap (further_on c.args.cursor.now) (sym told.1))
 
 pub returns-clause-short : goal.returns-clause-short
 returns-clause-short c = λ bytes taken _ e more.

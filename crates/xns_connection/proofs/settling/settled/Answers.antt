@@ -1,7 +1,7 @@
 use Rattle.std.proofs.Common.{rules}
 use Rattle.std.proofs.Math.Logic.{∥∥₁_elim, ∥∥₁_map}
 use Rattle.std.proofs.Props.{props}
-use Rattle.xns_connection.specs.Moving.{scene}
+use Rattle.xns_connection.specs.Moving.{conversation_scene}
 use Rattle.xns_connection.proofs.Settled.{still_drained}
 use Rattle.xns_connection.proofs.Steps.{goes_on_by, left_history}
 use Rattle.xns_connection.proofs.settling.settled.Goals as goal
@@ -13,7 +13,7 @@ after_moving-requires c = record {
     closed_due = c.requires.fits.closed_due;
     deaf = λ some. ∥∥₁_elim c.requires.stands (Prim.hlevel props) (λ x.
         let k = c.settle-moved.ensures.settles x.0 x.1 in
-        still_drained c.settle-moved.new.self (scene c.args.conversation.now x.0) k.0 c.settle-moved.result k.1 k.2 (c.requires.fits.deaf some));
+        still_drained c.settle-moved.new.self (conversation_scene c.args.conversation.now x.0) k.0 c.settle-moved.result k.1 k.2 (c.requires.fits.deaf some));
   };
 }
 

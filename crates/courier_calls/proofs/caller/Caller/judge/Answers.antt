@@ -7,7 +7,7 @@ use Rattle.courier_messages.specs.Text.{signs}
 use Rattle.courier_messages.specs.Head.{head_in, with_words}
 use Rattle.courier_messages.specs.Refusal.{Stops}
 use Rattle.courier_calls.specs.Table.{table_model}
-use Rattle.courier_calls.specs.Caller.{CallerState, Judges, head_fault}
+use Rattle.courier_calls.specs.Caller.{CallerState, CallerJudges, head_fault}
 use Rattle.courier_calls.proofs.HeadFaults.{fault_first, nothing_yet, wrong_head, right_head}
 use Rattle.courier_calls.proofs.caller.Caller.judge.Goals as goal
 
@@ -18,7 +18,7 @@ returns-in_err-head c =
     let e = c.in_err-head.field-0.0 in
     let w : c.from_residual.result ≡ Err e = search rules in
     let told = subst (λ (v : CallerState). Stops e ⊥ ((run v.phase (signs x) ≡ Err e) × (said v.phase (signs x) ≡ []))) c.self.view_is (rw c.as_slice.ensures at c.in_err-head.ensures) in
-    subst (λ (r : Result (Unit {0}) SessionFault). Judges old r (said old.phase (signs x)) (run old.phase (signs x))) (sym w)
+    subst (λ (r : Result (Unit {0}) SessionFault). CallerJudges old r (said old.phase (signs x)) (run old.phase (signs x))) (sym w)
     (fault_first old e (said old.phase (signs x)) (run old.phase (signs x)) told)
 
 pub returns-in_default : goal.returns-in_default

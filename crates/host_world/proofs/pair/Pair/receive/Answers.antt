@@ -8,7 +8,7 @@ use Rattle.xns_spp.specs.declared.dropped.Dropped.{Dropped}
 use Rattle.xns_agenda.specs.Waiting.{HearsAt, no_word, still}
 use Rattle.xns_connection.specs.Deeds.{heard}
 use Rattle.xns_connection.specs.Step.{Step, is_ours_by}
-use Rattle.xns_connection.specs.Telling.{Hears}
+use Rattle.xns_connection.specs.Telling.{HearsBytes}
 use Rattle.xns_connection.specs.declared.connection.Connection.{Connection}
 use Rattle.host_world.specs.Pairing.{connection_at}
 use Rattle.host_world.proofs.Paired.{at_side, heard_there, hears_none, pair_heard, pair_stays, pair_takes_in, pair_unchanged, put_back}
@@ -21,10 +21,10 @@ returns-clause-takes_in c =
 
 pub returns-clause-hears : goal.returns-clause-hears
 returns-clause-hears c =
-    pair_heard (λ (x y : Connection). Hears x.conversation y.conversation c.args.bytes.now × HearsAt c.args.now x.wait y.wait) c.args.self.now c.at.result.now c.receive.new.self c.args.side
+    pair_heard (λ (x y : Connection). HearsBytes x.conversation y.conversation c.args.bytes.now × HearsAt c.args.now x.wait y.wait) c.args.self.now c.at.result.now c.receive.new.self c.args.side
     c.args.now c.args.bytes.now c.in-Ok.packet c.receive.result c.at.ensures.value (sym c.in-Ok.ensures.value)
     (λ step. (heard_there c.a_step_keeps_its_promises.ensures c.args.now c.args.bytes.now c.at.result.now c.receive.new.self step, step.steps)) c.receive.ensures.step
-    (λ none. subst (λ (y : Connection). Hears c.at.result.now.conversation y.conversation c.args.bytes.now × HearsAt c.args.now c.at.result.now.wait y.wait) (sym (c.receive.ensures.foreign none)) (
+    (λ none. subst (λ (y : Connection). HearsBytes c.at.result.now.conversation y.conversation c.args.bytes.now × HearsAt c.args.now c.at.result.now.wait y.wait) (sym (c.receive.ensures.foreign none)) (
       hears_none c.foreign_bytes_change_nothing.ensures c.at.result.now.conversation c.args.bytes.now c.in-Ok.packet (sym c.in-Ok.ensures.value)
           (λ s stands. c.receive.ensures.ours s stands ∙ ap is_ours_by none),
       no_word still,

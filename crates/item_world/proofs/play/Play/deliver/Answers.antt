@@ -6,7 +6,7 @@ use Rattle.item_world.proofs.play.Play.deliver.Goals as goal
 use Rattle.item_world.specs.declared.participant.Participant.{Participant}
 use Rattle.item_world.specs.Landing.{landing}
 use Rattle.item_world.specs.Play.{IsParticipant, IsPlaying}
-use Rattle.item_world.specs.World.{World, end_of}
+use Rattle.item_world.specs.World.{World, end_at}
 
 pub returns-in_default : goal.returns-in_default
 returns-in_default c laws w h =
@@ -18,7 +18,7 @@ returns c =
     let k = c.args.number in
     let side = c.in-Some.side in
     let l = some_landing (landing w k) side (c.in-Some.ensures.lands w h.network) in
-    let here = subst (λ (p : Participant). IsParticipant p (end_of w side)) (sym c.at.ensures.value) (h.ends side) in
+    let here = subst (λ (p : Participant). IsParticipant p (end_at w side)) (sym c.at.ensures.value) (h.ends side) in
     let end = c.in_ok-land.ensures.stands laws w l.0 (record { stands = here.stands; network = h.network }) l.1 in
     let landed = lands_there laws c.args.self.now.ends c.land.new.network w l.0 k side c.at.result.now c.land.new.endpoint h.ends c.at.ensures.value l.1 end in
     subst (λ (v : World). IsPlaying c.flush.new.self v) (sym (delivers_lands w k ∙ ap (flushed w) l.1)) (flushes laws l.0 landed))

@@ -7,12 +7,12 @@ use Rattle.item_world.proofs.Plays.{stays_there}
 use Rattle.item_world.proofs.play.Play.overhear.Goals as goal
 use Rattle.item_world.specs.declared.participant.Participant.{Participant}
 use Rattle.item_world.specs.Play.{IsParticipant, IsPlaying, with_side}
-use Rattle.item_world.specs.World.{World, end_of}
+use Rattle.item_world.specs.World.{World, end_at}
 
 pub returns-in_ok-receive : goal.returns-in_ok-receive
 returns-in_ok-receive c laws w h =
     let side = c.args.side in
-    let s = end_of w side in
+    let s = end_at w side in
     let b = c.args.bytes.now in
     let here = subst (λ (p : Participant). IsParticipant p s) (sym c.at.ensures.value) (h.ends side) in
     let not_ours : is_ours s b ≡ false = sym (c.is_ours.ensures s here.stands) ∙ c.if-not-is_ours.true in
@@ -24,7 +24,7 @@ pub returns-else-not-is_ours : goal.returns-else-not-is_ours
 returns-else-not-is_ours c laws w h =
     let side = c.args.side in
     let b = c.args.bytes.now in
-    let s = end_of w side in
+    let s = end_at w side in
     let here = subst (λ (p : Participant). IsParticipant p s) (sym c.at.ensures.value) (h.ends side) in
     subst (λ (v : World). IsPlaying (record c.args.self.now { ends = with_side c.args.self.now.ends side (record c.at.result.now { endpoint = c.at.result.now.endpoint }) }) v) (sym (foreign_changes_nothing laws w side b))
     (stays_there c.args.self.now w side c.at.result.now c.at.result.now.endpoint h here here.stands)

@@ -5,10 +5,10 @@ use Rattle.clap.specs.Words.{fault_of, is_simple, is_simple_and_free, subcommand
 use Rattle.xns.proofs.Refusals.{is_free}
 use Rattle.xns_command.specs.declared.mode.Mode.{Mode}
 use Rattle.xns_command.specs.declared.mode.Mode.TheVariants.{Calls, Dump, Sim}
-use Rattle.xns.specs.Command.Arguments.{flag_in, program_app, texts, times_by, values_in, words_of, words_of_named_calls, words_of_programs, words_with_file}
+use Rattle.xns.specs.Command.Arguments.{flag_in, program_app, texts, times_by, values_in, mode_words, words_of_named_calls, words_of_programs, words_with_file}
 use Rattle.xns.proofs.command.arguments.named_in.Goals as goal
 
-is_taken : (mode : Mode) → takes program_app (words_of mode) ≡ true
+is_taken : (mode : Mode) → takes program_app (mode_words mode) ≡ true
 unfolding clap_on_literals
 is_taken Dump = refl
 is_taken Calls = refl

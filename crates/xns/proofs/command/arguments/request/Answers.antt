@@ -5,10 +5,10 @@ use Rattle.xns.proofs.Refusals.{by_clap, by_name}
 use Rattle.xns_command.specs.declared.mode.Mode.{Mode}
 use Rattle.xns_command.specs.declared.mode.Mode.TheVariants.{Calls, Dump, Sim}
 use Rattle.xns_command.specs.Modes.{name_of}
-use Rattle.xns.specs.Command.Arguments.{is_programs, named_subcommand, texts, words_of, words_of_named_calls, words_of_programs, words_with_file}
+use Rattle.xns.specs.Command.Arguments.{is_programs, named_subcommand, texts, mode_words, words_of_named_calls, words_of_programs, words_with_file}
 use Rattle.xns.proofs.command.arguments.request.Goals as goal
 
-is_named : (mode : Mode) → (named_subcommand (words_of mode) ≡ Some (name_of mode)) × (named_subcommand (words_with_file mode) ≡ Some (name_of mode))
+is_named : (mode : Mode) → (named_subcommand (mode_words mode) ≡ Some (name_of mode)) × (named_subcommand (words_with_file mode) ≡ Some (name_of mode))
 unfolding clap_on_literals
 is_named Dump = (refl, refl)
 is_named Calls = (refl, refl)

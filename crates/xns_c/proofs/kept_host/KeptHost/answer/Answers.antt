@@ -2,7 +2,7 @@ use Rattle.std.proofs.Common.{◌≡◌, ap, refl, subst, rules}
 use Rattle.courier_sessions.specs.declared.answer.Answer.{Answer}
 use Rattle.xns_connection.specs.Deeds.{gave}
 use Rattle.xns_connection.specs.Reasons.{answer_fault_of}
-use Rattle.xns_c.specs.Hosts.{Turns}
+use Rattle.xns_c.specs.Hosts.{HostTurns}
 use Rattle.xns_c.specs.declared.kept_host.KeptHost.{KeptHost}
 use Rattle.xns_c.proofs.Hosts.{turned}
 use Rattle.xns_c.proofs.kept_host.KeptHost.answer.Goals as goal
@@ -20,7 +20,7 @@ returns c =
     record {
       turns = λ a is.
           let same : c.in-Some.answer ≡ a = search rules in
-          subst (λ (x : Answer). Turns c.args.self.now c.let_go.new.self c.args.now c.args.number (gave x c.args.words.now) (λ t. answer_fault_of t x c.args.words.now) c.host_told-result.result) same
+          subst (λ (x : Answer). HostTurns c.args.self.now c.let_go.new.self c.args.now c.args.number (gave x c.args.words.now) (λ t. answer_fault_of t x c.args.words.now) c.host_told-result.result) same
           (turned c.args.self.now c.let_go.new.self c.answer.new.self c.args.now c.args.number (gave c.in-Some.answer c.args.words.now) (λ t. answer_fault_of t c.in-Some.answer c.args.words.now)
           c.answer.result c.host_told-result.result host (search rules) c.host_told-result.ensures c.answer.ensures.turn c.answer.ensures.none c.answer.ensures.refused);
       bad = λ none. absurd (search rules);

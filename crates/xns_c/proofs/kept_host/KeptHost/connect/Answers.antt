@@ -5,14 +5,14 @@ use Rattle.xns_host.specs.declared.host_fault.HostFault.{HostFault}
 use Rattle.xns_host.specs.declared.host_fault.HostFault.TheVariants.{NoRoom}
 use Rattle.xns_c.specs.Faults.{host_fault_number}
 use Rattle.xns_c.specs.Hosts.{ends_fault, number_told}
-use Rattle.xns_c.specs.Structs.{address_in}
+use Rattle.xns_c.specs.Structs.{address_of_struct}
 use Rattle.xns_c.proofs.Hosts.{fault_by, no_room_by, unused}
 use Rattle.xns_c.proofs.kept_host.KeptHost.connect.Goals as goal
 
 pub returns-in-Ok-clause-connects : goal.returns-in-Ok-clause-connects
 returns-in-Ok-clause-connects c =
     let is : c.connect.result ≡ Ok c.in-Ok.found = c.in-Ok.is in
-    let same : ends_fault c.args.self.now c.args.socket c.address.result ≡ ends_fault c.args.self.now c.args.socket (address_in c.args.peer.now)
+    let same : ends_fault c.args.self.now c.args.socket c.address.result ≡ ends_fault c.args.self.now c.args.socket (address_of_struct c.args.peer.now)
     = ap (λ (to : Address). ends_fault c.args.self.now c.args.socket to) c.address.ensures in
     record {
       wrong = λ f at. let bad = c.connect.ensures.wrong f (same ∙ at) in absurd (cc);
@@ -31,7 +31,7 @@ returns-in-Ok-clause-connects c =
 pub returns-in-Err-clause-connects : goal.returns-in-Err-clause-connects
 returns-in-Err-clause-connects c =
     let is : c.connect.result ≡ Err c.in-Err.fault = c.in-Err.is in
-    let same : ends_fault c.args.self.now c.args.socket c.address.result ≡ ends_fault c.args.self.now c.args.socket (address_in c.args.peer.now)
+    let same : ends_fault c.args.self.now c.args.socket c.address.result ≡ ends_fault c.args.self.now c.args.socket (address_of_struct c.args.peer.now)
     = ap (λ (to : Address). ends_fault c.args.self.now c.args.socket to) c.address.ensures in
     record {
       wrong = λ f at.

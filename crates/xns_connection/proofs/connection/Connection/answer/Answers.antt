@@ -1,6 +1,6 @@
 use Rattle.std.proofs.Common.{ap, refl}
 use Rattle.xns_connection.specs.Deeds.{gave}
-use Rattle.xns_connection.specs.Moving.{scene}
+use Rattle.xns_connection.specs.Moving.{conversation_scene}
 use Rattle.xns_connection.specs.declared.conversation.Conversation.{Conversation}
 use Rattle.xns_connection.proofs.Steps.{same_history, same_timed, step_by}
 use Rattle.xns_connection.proofs.Dues.{fits_same}
@@ -26,4 +26,4 @@ pub returns-clause-step : goal.returns-clause-step
 returns-clause-step c =
     let k = c.in_ok-answer.ensures in
     step_by c.args.now (gave c.args.kind c.args.words.now) c.args.self.now _ c.answer.new.self k.endpoint
-    (λ s. ap (λ (t : Conversation). scene t s) (k.is refl)) (λ s. refl) (λ s. refl) c.settled.ensures.moved k.answer (λ steps. steps) k.packets refl
+    (λ s. ap (λ (t : Conversation). conversation_scene t s) (k.is refl)) (λ s. refl) (λ s. refl) c.settled.ensures.moved k.answer (λ steps. steps) k.packets refl

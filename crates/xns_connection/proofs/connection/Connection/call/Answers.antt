@@ -1,7 +1,7 @@
 use Rattle.std.proofs.Common.{ap, refl}
-use Rattle.xns_connection.specs.Calls.{call_model}
+use Rattle.xns_connection.specs.Calls.{raw_of_call}
 use Rattle.xns_connection.specs.Deeds.{made}
-use Rattle.xns_connection.specs.Moving.{scene}
+use Rattle.xns_connection.specs.Moving.{conversation_scene}
 use Rattle.xns_connection.specs.declared.conversation.Conversation.{Conversation}
 use Rattle.xns_connection.proofs.Steps.{same_history, same_timed, step_by}
 use Rattle.xns_connection.proofs.Dues.{fits_same}
@@ -26,5 +26,5 @@ settled-requires-clause-stands c = same_history _ _ c.call.ensures.endpoint c.ar
 pub returns-clause-step : goal.returns-clause-step
 returns-clause-step c =
     let k = c.in_ok-call.ensures in
-    step_by c.args.now (made (call_model c.args.call.now)) c.args.self.now _ c.call.new.self k.endpoint
-    (λ s. ap (λ (t : Conversation). scene t s) (k.is refl)) (λ s. refl) (λ s. refl) c.settled.ensures.moved k.answer (λ steps. steps) k.packets refl
+    step_by c.args.now (made (raw_of_call c.args.call.now)) c.args.self.now _ c.call.new.self k.endpoint
+    (λ s. ap (λ (t : Conversation). conversation_scene t s) (k.is refl)) (λ s. refl) (λ s. refl) c.settled.ensures.moved k.answer (λ steps. steps) k.packets refl

@@ -1,7 +1,7 @@
 use Rattle.std.proofs.Common.{ap, refl}
 use Rattle.xns_connection.specs.Closing.{drains}
 use Rattle.xns_connection.specs.Deeds.{asked}
-use Rattle.xns_connection.specs.Moving.{scene}
+use Rattle.xns_connection.specs.Moving.{conversation_scene}
 use Rattle.xns_connection.specs.declared.conversation.Conversation.{Conversation}
 use Rattle.xns_connection.proofs.Dues.{fits_same}
 use Rattle.xns_connection.proofs.Steps.{same_history, step_by}
@@ -20,6 +20,6 @@ invariant_of-self-clause-stands c = c.settled.ensures.stands
 pub returns : goal.returns
 returns c = record {
   step = step_by c.args.now asked c.args.self.now _ c.close.new.self (ap (λ (t : Conversation). t.endpoint) c.close.ensures.rest)
-      (λ s. ap (λ (t : Conversation). scene t s) c.close.ensures.rest) (λ s. refl) (λ s. refl) c.settled.ensures.moved tt (λ k. k)
+      (λ s. ap (λ (t : Conversation). conversation_scene t s) c.close.ensures.rest) (λ s. refl) (λ s. refl) c.settled.ensures.moved tt (λ k. k)
       (ap (λ (t : Conversation). t.packets) c.close.ensures.rest) refl;
 }

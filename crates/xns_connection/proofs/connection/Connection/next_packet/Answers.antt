@@ -3,7 +3,7 @@ use Rattle.xns_connection.proofs.Dead.{dead_closed}
 use Rattle.xns_connection.proofs.Moments.{steps_then}
 use Rattle.xns_connection.proofs.Nexts.{given_history, next_alive, none_dead, so_on_err, unless_closed, waits_closed}
 use Rattle.xns_connection.specs.Connecting.{is_dead}
-use Rattle.xns_connection.specs.Moving.{scene}
+use Rattle.xns_connection.specs.Moving.{conversation_scene}
 use Rattle.xns_connection.specs.Step.{GivesNext}
 use Rattle.xns_connection.proofs.Steps.{moved_steps}
 use Rattle.xns_connection.proofs.connection.Connection.next_packet.Goals as goal
@@ -36,7 +36,7 @@ returns-then-is_dead c = let step : GivesNext c.args.now _ c.args.self.now _ = r
   beside = (refl, refl);
   closed = refl;
   told = refl;
-  waits = λ s stands. waits_closed c.move_owed.new.self.closed c.move_owed.new.self.wait (scene c.move_owed.new.self.conversation s) c.args.now (dead_closed c.move_owed.new.self.closed (search rules));
+  waits = λ s stands. waits_closed c.move_owed.new.self.closed c.move_owed.new.self.wait (conversation_scene c.move_owed.new.self.conversation s) c.args.now (dead_closed c.move_owed.new.self.closed (search rules));
   steps = moved_steps c.args.self.now.owed.moving c.args.now c.args.self.now c.move_owed.new.self c.move_owed.ensures.moved;
 } in record { step = step }
 

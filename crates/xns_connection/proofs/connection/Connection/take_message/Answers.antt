@@ -3,7 +3,7 @@ use Rattle.xns_spp.specs.Held.{Held, StandsFor}
 use Rattle.std.proofs.Common.{◌≡◌, ◌∙◌, ap, sym, false, None, rules}
 use Rattle.std.specs.Prelude.{not}
 use Rattle.xns_connection.specs.Deeds.{took}
-use Rattle.xns_connection.specs.Moving.{is_calm, scene}
+use Rattle.xns_connection.specs.Moving.{is_calm, conversation_scene}
 use Rattle.xns_connection.specs.Step.{calmly, moving_on, none_waits, parts_of}
 use Rattle.xns_connection.specs.declared.conversation.Conversation.{Conversation}
 use Rattle.xns_connection.proofs.Steps.{calm_then, first_no, same_connection, second_no, step_by}
@@ -24,7 +24,7 @@ returns-then-is_calm-clause-step c =
     calmly (λ z. absurd (cc))
     (λ s stands.
     let value = c.is_calm.ensures.value s (subst (λ (e : Held). StandsFor e s) (sym k.endpoint) stands) in
-    calm_then c.args.self.now c.take_message.new.self s idle (ap (λ (t : Conversation). scene t s) k.is) (sym value ∙ c.if-is_calm.true))
+    calm_then c.args.self.now c.take_message.new.self s idle (ap (λ (t : Conversation). conversation_scene t s) k.is) (sym value ∙ c.if-is_calm.true))
     (ap (λ (t : Conversation). record (parts_of c.args.self.now) { conversation = t }) k.is)
 
 pub returns-clause-step : goal.returns-clause-step
@@ -32,12 +32,12 @@ returns-clause-step c =
     let k = c.in_ok-message.ensures in
     moving_on (λ z. absurd (cc))
     (λ s stands.
-    let same = ap (λ (t : Conversation). scene t s) k.is in
+    let same = ap (λ (t : Conversation). conversation_scene t s) k.is in
     elim c.else-not-self.branch [
       | else-not-self-via-then-not-self+else-is_calm w ↦ second_no (not c.args.self.now.owed.moving) _ (ap is_calm (sym same) ∙ (sym (w.is_calm.ensures.value s (subst (λ (e : Held). StandsFor e s) (sym k.endpoint) stands)) ∙ w.if-is_calm.false))
       | else-not-self-via-else-not-self w ↦ first_no (not c.args.self.now.owed.moving) _ (cc)
     ])
-    (step_by c.args.now took c.args.self.now _ c.take_message.new.self k.endpoint (λ s. ap (λ (t : Conversation). scene t s) k.is) (λ s. refl) (λ s. refl)
+    (step_by c.args.now took c.args.self.now _ c.take_message.new.self k.endpoint (λ s. ap (λ (t : Conversation). conversation_scene t s) k.is) (λ s. refl) (λ s. refl)
     c.settled.ensures.moved tt (λ steps. steps) k.packets refl)
 
 pub invariant_of-self-then-is_calm-clause-stands : goal.invariant_of-self-then-is_calm-clause-stands

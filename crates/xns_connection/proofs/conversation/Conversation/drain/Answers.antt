@@ -1,6 +1,6 @@
 use Rattle.std.proofs.Common.{◌≡◌, ◌∙◌, ℕ, refl, sym, subst, rules}
 use Rattle.xns_spp.specs.Sending.{waiting_count}
-use Rattle.xns_connection.specs.Moving.{IsAt, Scene, scene, taken_one, taken_many}
+use Rattle.xns_connection.specs.Moving.{IsAt, ConversationScene, conversation_scene, taken_one, taken_many}
 use Rattle.xns_connection.proofs.Scenes.{at_first, many_more, then_at}
 use Rattle.xns_connection.proofs.conversation.Conversation.drain.Goals as goal
 
@@ -13,7 +13,7 @@ loop-turn-preserved c = (
   c.take_one.ensures.drains,
   c.take_one.ensures.packets ∙ c.loop-turn.invariant.1,
   λ s stands.
-      subst (λ (x : Scene). IsAt c.take_one.new.self x) (sym (many_more c.loop-turn.turn (scene c.args.self.now s)))
+      subst (λ (x : ConversationScene). IsAt c.take_one.new.self x) (sym (many_more c.loop-turn.turn (conversation_scene c.args.self.now s)))
       (then_at taken_one (c.loop-turn.invariant.2 s stands) c.take_one.ensures.at),
 )
 
@@ -23,4 +23,4 @@ returns-clause-packets c = c.loop-turn.invariant.1
 pub returns-clause-at : goal.returns-clause-at
 returns-clause-at c = λ s stands.
     let all : c.loop-turn.turn ≡ waiting_count s = search rules in
-    subst (λ (n : ℕ). IsAt c.loop-turn.self (taken_many n (scene c.args.self.now s))) all (c.loop-turn.invariant.2 s stands)
+    subst (λ (n : ℕ). IsAt c.loop-turn.self (taken_many n (conversation_scene c.args.self.now s))) all (c.loop-turn.invariant.2 s stands)

@@ -4,7 +4,7 @@ use Rattle.std.proofs.Common.{◌≡◌, OnErr, Err, Result, rules, true}
 use Rattle.std.specs.Option.{is_some}
 use Rattle.std.specs.declared.alloc.AllocError.{AllocError}
 use Rattle.xns_spp.specs.State.{State}
-use Rattle.xns_connection.specs.Giving.{Giving, GivesAs, IsGiving, IsShort, at_first, giving, next_of, older}
+use Rattle.xns_connection.specs.Giving.{Giving, GivesAs, IsGiving, MayStopAt, at_first, giving, next_of, older}
 use Rattle.xns_spp.specs.Held.{StandsFor}
 use Rattle.xns_connection.proofs.Nexts.{next_at, next_short, next_wanted, older_wanted}
 use Rattle.xns_connection.proofs.conversation.Conversation.next_packet.Goals as goal
@@ -25,7 +25,7 @@ pub returns-in_err-packet-clause-short : goal.returns-in_err-packet-clause-short
 returns-in_err-packet-clause-short c =
     let is : c.from_residual.result ≡ Err c.in_err-packet.field-0.0 = search rules in
     subst (λ (r : Result (Option (List ℕ)) AllocError). OnErr r ((s : State) → StandsFor c.args.self.now.endpoint s
-    → (y : Giving) × IsShort (giving c.args.self.now c.args.owed.now s) y × IsGiving c.older_packet.new.self c.older_packet.new.owed y)) (sym is)
+    → (y : Giving) × MayStopAt (giving c.args.self.now c.args.owed.now s) y × IsGiving c.older_packet.new.self c.older_packet.new.owed y)) (sym is)
     (λ s stands. (giving c.args.self.now c.args.owed.now s, at_first, c.in_err-packet.ensures.stays s stands))
 
 pub returns-clause-memory : goal.returns-clause-memory

@@ -1,5 +1,5 @@
 use Rattle.std.proofs.Common.{subst, ◌≡◌, refl, rules, arith, Ok}
-use Rattle.xns_connection.specs.Calls.{call_model}
+use Rattle.xns_connection.specs.Calls.{raw_of_call}
 use Rattle.xns_connection.specs.Deeds.{made}
 use Rattle.xns_connection.specs.Reasons.{call_fault_of}
 use Rattle.xns_host.specs.Refusing.{TellsRefusal}
@@ -10,17 +10,17 @@ use Rattle.xns_host.proofs.host.Host.call.Goals as goal
 pub note-requires-clause-others : goal.note-requires-clause-others
 note-requires-clause-others c =
     stays_noted c.args.self.now.agenda c.args.self.now.guests.items c.as_slice.result.now c.args.number c.index_mut.result.now c.in-Some.guest c.call.new.self
-    c.args.self.now.noted c.in-Some.is (step_stays c.a_step_keeps_its_promises.ensures c.a_connection_keeps_its_end.ensures c.tell-now.result (made (call_model c.args.call.now)) _ _ c.in_ok-call.ensures.step) (omega arith) (search rules) (search rules)
+    c.args.self.now.noted c.in-Some.is (step_stays c.a_step_keeps_its_promises.ensures c.a_connection_keeps_its_end.ensures c.tell-now.result (made (raw_of_call c.args.call.now)) _ _ c.in_ok-call.ensures.step) (omega arith) (search rules) (search rules)
 
 pub invariant_of-self-2-clause-registered : goal.invariant_of-self-2-clause-registered
 invariant_of-self-2-clause-registered c =
     stays_registered c.args.self.now.register c.args.self.now.guests.items c.args.number c.index_mut.result.now c.in-Some.guest c.call.new.self
-    c.args.self.now.registered c.in-Some.is (step_stays c.a_step_keeps_its_promises.ensures c.a_connection_keeps_its_end.ensures c.tell-now.result (made (call_model c.args.call.now)) _ _ c.in_ok-call.ensures.step) (omega arith) (search rules)
+    c.args.self.now.registered c.in-Some.is (step_stays c.a_step_keeps_its_promises.ensures c.a_connection_keeps_its_end.ensures c.tell-now.result (made (raw_of_call c.args.call.now)) _ _ c.in_ok-call.ensures.step) (omega arith) (search rules)
 
 pub invariant_of-self-2-clause-not_done : goal.invariant_of-self-2-clause-not_done
 invariant_of-self-2-clause-not_done c =
     stays_undone c.args.self.now.guests.items c.args.number c.index_mut.result.now c.in-Some.guest c.call.new.self
-    c.args.self.now.not_done c.in-Some.is (step_undone c.tell-now.result (made (call_model c.args.call.now)) _ _ c.in_ok-call.ensures.step.step) (omega arith) (search rules)
+    c.args.self.now.not_done c.in-Some.is (step_undone c.tell-now.result (made (raw_of_call c.args.call.now)) _ _ c.in_ok-call.ensures.step.step) (omega arith) (search rules)
 
 pub returns-clause-none : goal.returns-clause-none
 returns-clause-none c = λ none.
@@ -28,11 +28,11 @@ returns-clause-none c = λ none.
 
 pub returns-clause-turn : goal.returns-clause-turn
 returns-clause-turn c =
-    turned c.args.now c.args.number c.tell-now.result (made (call_model c.args.call.now)) c.args.self.now _ c.index_mut.result.now c.in-Some.guest c.call.new.self c.tell-now.ensures.result (omega arith) (search rules) c.in-Some.is
+    turned c.args.now c.args.number c.tell-now.result (made (raw_of_call c.args.call.now)) c.args.self.now _ c.index_mut.result.now c.in-Some.guest c.call.new.self c.tell-now.ensures.result (omega arith) (search rules) c.in-Some.is
     c.in_ok-call.ensures.step refl (λ place there. c.note.ensures.is place (search rules))
     (record { clock = c.tell-now.ensures.told; network = refl; host = refl; settings = refl; services = refl; register = refl; strays = refl })
 
 pub returns-clause-refused : goal.returns-clause-refused
 returns-clause-refused c = λ g there.
     let same : c.in-Some.guest ≡ g = is_the_one c.args.self.now.guests.items c.args.number c.index_mut.result.now c.in-Some.guest g (omega arith) (search rules) c.in-Some.is there in
-    subst (λ (x : Guest). TellsRefusal (call_fault_of x.connection.conversation (call_model c.args.call.now)) (Ok tt)) same c.in_ok-call.ensures.refused
+    subst (λ (x : Guest). TellsRefusal (call_fault_of x.connection.conversation (raw_of_call c.args.call.now)) (Ok tt)) same c.in_ok-call.ensures.refused

@@ -2,9 +2,9 @@ use Rattle.std.proofs.Common.{◌≡◌, ◌<◌, ◌∙◌, inl, inr, arith, re
 use Rattle.xns_idp.specs.declared.address.Address.{Address}
 use Rattle.xns_spp.specs.State.{initiator_state}
 use Rattle.xns_agenda.specs.Agenda.{HasNoNumber}
-use Rattle.xns_host.specs.Hosting.{IsPlace, address_in}
+use Rattle.xns_host.specs.Hosting.{IsPlaceForNew, address_in}
 use Rattle.xns_connection.specs.Ends.{opener_of}
-use Rattle.xns_host.specs.Identifiers.{IsNext}
+use Rattle.xns_host.specs.Identifiers.{IsNextIdentifier}
 use Rattle.xns_host.specs.Knowing.{opener_to}
 use Rattle.xns_host.specs.declared.peer.Peer.{Peer}
 use Rattle.xns_host.specs.Settings.{IsMadeBy}
@@ -50,14 +50,14 @@ returns-in_default-next-clause-room c = λ right z.
 
 pub returns-in_default-calling-clause-full : goal.returns-in_default-calling-clause-full
 returns-in_default-calling-clause-full c = λ right none.
-    let place : IsPlace c.args.self.now.guests.items c.in-Some-place.number
+    let place : IsPlaceForNew c.args.self.now.guests.items c.in-Some-place.number
     = gets_place c.args.self.now.agenda c.args.self.now.guests.items c.args.self.now.noted c.place.ensures.room c.args.self.now.sized
     (c.place.ensures.some c.in-Some-place.number c.in-Some-place.is) in
     absurd (not_both c.args.self.now.guests.items none place)
 
 pub returns-clause-full : goal.returns-clause-full
 returns-clause-full c = λ right none.
-    let place : IsPlace c.args.self.now.guests.items c.in-Some-place.number
+    let place : IsPlaceForNew c.args.self.now.guests.items c.in-Some-place.number
     = gets_place c.args.self.now.agenda c.args.self.now.guests.items c.args.self.now.noted c.place.ensures.room c.args.self.now.sized
     (c.place.ensures.some c.in-Some-place.number c.in-Some-place.is) in
     absurd (not_both c.args.self.now.guests.items none place)
@@ -80,7 +80,7 @@ returns-clause-connects c = record {
       tag = 0;
     };
     there = taken_there c.args.self.now.guests.items c.put_in.new.guests.items c.args.self.now.agenda c.put_in.new.agenda c.in-Some-place.number _ c.put_in.ensures.places (omega (arith, c.in-Some-place.ensures.within, c.args.self.now.sized));
-    next = subst (λ (i : ℕ). IsNext c.args.self.now.register.identifiers i) (told_id c.in-Ok.connection.conversation _ c.in-Ok.ensures.tells)
+    next = subst (λ (i : ℕ). IsNextIdentifier c.args.self.now.register.identifiers i) (told_id c.in-Ok.connection.conversation _ c.in-Ok.ensures.tells)
         c.in-Some-next.ensures.next;
     tells = subst (λ (i : ℕ). Tells c.in-Ok.connection.conversation (new_story None (initiator_state
         (address_in c.args.self.now.network c.args.self.now.host c.args.socket) i c.args.peer c.args.self.now.settings.window c.args.self.now.settings.backlog)))

@@ -20,7 +20,7 @@ use Rattle.xns_host.proofs.Joining.{OpenedBy, all_joined, joined_as, joined_open
 use Rattle.xns_host.proofs.Undone.{came_not_done, not_done_new}
 use Rattle.xns_connection.specs.Ends.{opener_of}
 use Rattle.xns_host.specs.Knowing.{opener_to}
-use Rattle.xns_host.specs.Identifiers.{Ids, IsNext, TurnsOver}
+use Rattle.xns_host.specs.Identifiers.{Ids, IsNextIdentifier, TurnsOver}
 use Rattle.xns_host.proofs.host.Host.open.Goals as goal
 
 pub invariant_of-self : goal.invariant_of-self
@@ -72,7 +72,7 @@ returns-clause-opened c = λ n made.
     let one : c.in-Some.number ≡ n = cc in
     let t = subst (λ (a : Ids). (i : ℕ) × TurnsOver a c.put_in.new.register.identifiers i) c.enter.ensures.identifiers
     (turned_over c.enter.new.self.identifiers c.take.new.self.identifiers c.put_in.new.register.identifiers _ c.in-Some-next.id c.take.result
-    (subst (λ (a : Ids). IsNext a c.in-Some-next.id) (sym c.enter.ensures.identifiers) c.in-Some-next.ensures.next) c.take.ensures.given c.take.ensures.some
+    (subst (λ (a : Ids). IsNextIdentifier a c.in-Some-next.id) (sym c.enter.ensures.identifiers) c.in-Some-next.ensures.next) c.take.ensures.given c.take.ensures.some
     c.put_in.ensures.order) in
     subst (λ (m : ℕ). Seats c.args.now c.args.via (whole_of c.args.self.now) c.args.socket c.args.peer c.args.peer_id c.args.programs.items m c.put_in.new.register
     (places_with c.put_in.new.guests.items c.put_in.new.agenda)) one
@@ -89,7 +89,7 @@ returns-clause-opened c = λ n made.
       place = gets_place c.args.self.now.agenda c.args.self.now.guests.items c.args.self.now.noted c.place.ensures.room c.args.self.now.sized
           (c.place.ensures.some c.in-Some.number c.in-Some.is);
       answering = record {
-        next = subst (λ (i : ℕ). IsNext c.args.self.now.register.identifiers i) (told_id c.in-Ok.connection.conversation _ c.in-Ok.ensures.tells)
+        next = subst (λ (i : ℕ). IsNextIdentifier c.args.self.now.register.identifiers i) (told_id c.in-Ok.connection.conversation _ c.in-Ok.ensures.tells)
             c.in-Some-next.ensures.next;
         tells = subst (λ (i : ℕ). Tells c.in-Ok.connection.conversation (new_story (Some c.args.programs.items) (responder_state
             (address_in c.args.self.now.network c.args.self.now.host c.args.socket) i c.args.peer c.args.peer_id c.args.self.now.settings.window

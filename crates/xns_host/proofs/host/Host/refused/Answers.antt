@@ -2,7 +2,7 @@ use Rattle.std.proofs.Common.{◌≡◌, ◌∙◌, rules, subst, sym, ℕ, Some
 use Rattle.xns_idp.specs.Packet.{packet_model}
 use Rattle.xns_host.specs.Hosting.{IsThere}
 use Rattle.xns_host.specs.Ours.{IsSentBy}
-use Rattle.xns_host.specs.Places.{Turns}
+use Rattle.xns_host.specs.Places.{PlaceTurns}
 use Rattle.xns_host.specs.Turn.{places_of, whole_of}
 use Rattle.xns_host.specs.Went.{GuestUnserved}
 use Rattle.xns_host.specs.declared.guest.Guest.{Guest}
@@ -21,7 +21,7 @@ returns-clause-refuses c = λ kind yes.
         owner = sym c.owner.ensures ∙ c.in-Some-owner.is;
         there = subst (λ (m : ℕ). IsThere (IsSentBy c.in-Some.quote) (slice_get c.args.self.now.guests.items m)) c.from.ensures both.0;
       },
-      subst (λ (m : ℕ). Turns (λ (g h : Guest). GuestUnserved c.args.now c.in-Some.quote.error g h) m (places_of c.args.self.now) (places_of c.not_served.new.self))
+      subst (λ (m : ℕ). PlaceTurns (λ (g h : Guest). GuestUnserved c.args.now c.in-Some.quote.error g h) m (places_of c.args.self.now) (places_of c.not_served.new.self))
           c.from.ensures both.1,
     )
 

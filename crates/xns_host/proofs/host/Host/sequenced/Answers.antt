@@ -4,8 +4,8 @@ use Rattle.xns_idp.specs.Packet.{broadcast, packet_model}
 use Rattle.xns_spp.specs.Packet.{SppPacketModel, opener_of}
 use Rattle.xns_host.specs.Coming.{foreign}
 use Rattle.xns_host.specs.Hosting.{IsThere, confirms}
-use Rattle.xns_host.specs.Ours.{IsOf}
-use Rattle.xns_host.specs.Places.{Turns}
+use Rattle.xns_host.specs.Ours.{IsOfGuest}
+use Rattle.xns_host.specs.Places.{PlaceTurns}
 use Rattle.xns_host.specs.Services.{programs_at}
 use Rattle.xns_host.specs.Turn.{places_of, whole_of}
 use Rattle.xns_host.specs.Went.{GuestHears}
@@ -46,10 +46,10 @@ returns-in-Some-clause-comes c = λ taken read.
     comes_heard c.args.now c.args.via c.args.bytes.now (whole_of c.args.self.now) _ c.hear.result c.in-Ok.packet c.in-Some.number is (search rules) named
     (λ yes.
     let both = c.hear.ensures.turn yes in (
-      subst (λ (n : ℕ). IsThere (IsOf c.in-Ok.packet) (slice_get c.args.self.now.guests.items n)) c.from.ensures both.0,
-      subst (λ (n : ℕ). Turns (λ (g h : Guest). GuestHears c.args.now c.args.bytes.now (confirms c.in-Ok.packet) g h) n (places_of c.args.self.now)
+      subst (λ (n : ℕ). IsThere (IsOfGuest c.in-Ok.packet) (slice_get c.args.self.now.guests.items n)) c.from.ensures both.0,
+      subst (λ (n : ℕ). PlaceTurns (λ (g h : Guest). GuestHears c.args.now c.args.bytes.now (confirms c.in-Ok.packet) g h) n (places_of c.args.self.now)
           (places_of c.hear.new.self)) c.from.ensures
-          (subst (λ (m : ℕ). Turns (λ (g h : Guest). GuestHears c.args.now c.args.bytes.now (not (m == 0)) g h) c.from.result (places_of c.args.self.now)
+          (subst (λ (m : ℕ). PlaceTurns (λ (g h : Guest). GuestHears c.args.now c.args.bytes.now (not (m == 0)) g h) c.from.result (places_of c.args.self.now)
           (places_of c.hear.new.self)) id (both.1 c.args.bytes.now is)),
     ))
     (λ no. sequenced_not_ours (whole_of c.args.self.now) c.args.bytes.now (packet_model c.args.carrier.now) taken read c.requires.kind
