@@ -6,6 +6,7 @@ use Rattle.xns_spp.specs.declared.item.Item.{Item}
 use Rattle.xns_spp.specs.Item.{IsItem}
 use Rattle.courier_types.specs.Laws.{WrittenValueIsRead}
 use Rattle.courier_messages.specs.declared.fault.SessionFault.{SessionFault}
+use Rattle.courier_messages.specs.declared.message.Message.{Message}
 use Rattle.courier_messages.specs.Message.{most_bytes}
 use Rattle.courier_messages.specs.Text.{signs}
 use Rattle.courier_messages.specs.Conversation.{Phase, conversation}
