@@ -10,7 +10,7 @@ from ._library import address_of, unsigned, words_of
 from ._links import Carrier, checked, not_blocking
 from ._objects import Host
 from ._programs import together
-from ._serving import CLOSING, UNSPECIFIED, Programs, close_all, failed, give, guarded, note_closed
+from ._serving import CLOSING, UNSPECIFIED, Programs, Replies, close_all, failed, guarded, note_closed
 from ._station import Other, Station, file_of
 from ._told import Address, Answer, Call, Closed, Event, Reply, rejects
 
@@ -185,7 +185,7 @@ class _AsyncServer:
     """One run of `serve_async`."""
 
     def __init__(self, station: Station, answered: Callable[[Call], Any], stopped: asyncio.Event) -> None:
-        self._station, self._host, self._answered = station, station.host, answered
+        self._station, self._host, self._answered, self._replies = station, station.host, answered, Replies(station.host)
         self._tasks: Set[asyncio.Future] = set()
         self._called: Dict[int, Call] = {}  # by the connection the call that is carried out, until the connection is closed
         self._there: Optional[Set[int]] = None  # the connections that are to be closed
@@ -231,6 +231,7 @@ class _AsyncServer:
             if isinstance(event, Closed):
                 note_closed(self._host, event)
                 self._called.pop(event.number, None)
+                self._replies.forget(event.number)
                 (self._there or set()).discard(event.number)
             elif isinstance(event, Call) and self._there is None:
                 self._called[event.number] = event
@@ -238,7 +239,8 @@ class _AsyncServer:
                 self._tasks.add(task)
                 task.add_done_callback(self._tasks.discard)
             elif isinstance(event, Call):
-                give(self._host, self._station.now, event, rejects(UNSPECIFIED))
+                self._replies.give(self._station.now, event, rejects(UNSPECIFIED))
+        self._replies.give_kept(self._station.now)
         if self._there is not None and not self._there:
             self._gone.set()
 
@@ -251,7 +253,7 @@ class _AsyncServer:
             reply = failed(call, error)
         if self._called.get(call.number) is call:  # else the number may be another connection's by now
             del self._called[call.number]
-            give(self._host, self._station.time(), call, reply)
+            self._replies.give(self._station.time(), call, reply)
             self._pump.turn_alone()
 
 
@@ -266,7 +268,7 @@ async def serve_async(
 ) -> None:
     """Serves clients in a loop of asyncio, as `serve` does. `answer` may be a coroutine function: while it waits, other calls are carried out. The reply
     to a call whose connection is closed meanwhile is let go. It ends once the event is set, or its task is cancelled, and closes the connections. An `OSError`
-    says within a second that the socket was closed."""
+    says within a second that the socket, or the link, was closed."""
     if stop is not None and not inspect.iscoroutinefunction(getattr(stop, "wait", None)):
         raise TypeError(f"stop is no event of asyncio: it is of type {type(stop).__name__}")
     served, answered = together(programs, answer)

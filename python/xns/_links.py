@@ -1,5 +1,6 @@
 """What carries packets: the protocol of a carrier, frames on Ethernet, and the hubs of emulators."""
 import contextlib
+import errno
 import secrets
 import select
 import socket
@@ -22,7 +23,8 @@ class Carrier(Protocol):
     A place is where a packet comes from or goes to: what `recvfrom` gives is given back to `sendto`. It can be a key of a dict."""
 
     def fileno(self) -> int:
-        """The file that can be read once a packet is there. Below 0 while there is none: it is then asked for again within a second."""
+        """The file that can be read once a packet is there. Below 0 while there is none: it is then asked for again within a second. An `OSError` ends whoever
+        asks, as that of a link that is closed."""
 
     def setblocking(self, flag: bool) -> None:
         """Is called with False before the first packet."""
@@ -57,10 +59,15 @@ class _Link:
     """A carrier that is closed by `close`, or at the end of a `with`. `station`: the six bytes of its own station."""
 
     station: bytes
+    _is_closed = False
 
     def close(self) -> None:
         """Ends the link, for good."""
-        raise NotImplementedError
+        self._is_closed = True
+
+    def _check(self) -> None:
+        if self._is_closed:
+            raise OSError(errno.EBADF, "the link is closed")
 
     def __enter__(self):
         return self
@@ -83,7 +90,20 @@ class Ethernet(_Link):
             self._socket.close()
             raise
         self.station = self._socket.getsockname()[4]
-        self.fileno, self.setblocking, self.close = self._socket.fileno, self._socket.setblocking, self._socket.close
+
+    def close(self) -> None:
+        """Ends the link, for good."""
+        super().close()
+        self._socket.close()
+
+    def fileno(self) -> int:
+        """The file of its frames. `OSError` once it is closed."""
+        self._check()
+        return self._socket.fileno()
+
+    def setblocking(self, flag: bool) -> None:
+        """Whether the other methods wait."""
+        self._socket.setblocking(flag)
 
     def recvfrom(self, size: int) -> Tuple[bytes, bytes]:
         """The next packet to this station or to all, and the station that it comes from. Frames to others, which come where the interface is promiscuous,
@@ -121,7 +141,8 @@ class NetHub(_Link):
         self._stream.setblocking(False)
 
     def _reached(self) -> socket.socket:
-        """The stream. `OSError` while the hub is gone."""
+        """The stream. `OSError` while the hub is gone, and once it is left."""
+        self._check()
         if self._stream is None:
             if time.monotonic() < self._tried + self.AGAIN:
                 raise BlockingIOError
@@ -135,11 +156,14 @@ class NetHub(_Link):
 
     def close(self) -> None:
         """Leaves the hub, for good."""
+        super().close()
         self._lose()
-        self._tried = float("inf")
 
     def fileno(self) -> int:
-        return -1 if self._stream is None else self._stream.fileno()
+        """The file of its stream, below 0 while the hub is gone. `OSError` once it is closed."""
+        self._check()
+        stream = self._stream  # another thread may close it
+        return -1 if stream is None else stream.fileno()
 
     def setblocking(self, flag: bool) -> None:
         """Changes nothing: a hub never blocks."""

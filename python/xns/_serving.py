@@ -3,9 +3,9 @@ import contextlib
 import logging
 import socket
 import threading
-from typing import Any, Callable, Iterable, Optional, Set, Tuple, Union
+from typing import Any, Callable, Dict, Iterable, Iterator, Optional, Set, Tuple, Union
 
-from ._errors import ArgumentsError, ClosingError, NoCallError, NoConnectionError, XnsError
+from ._errors import ArgumentsError, ClosingError, NoCallError, NoConnectionError, NoMemoryError, XnsError
 from ._library import address_of
 from ._links import Carrier, checked, not_blocking
 from ._objects import Host
@@ -31,18 +31,49 @@ def failed(call: Call, error: Exception) -> Reply:
     return rejects(UNSPECIFIED)
 
 
-def give(host: Host, now: int, call: Call, reply: Reply) -> None:
-    """Answers a call, unless its connection has closed. A reply that can't be given is a failure of the call."""
-    for one in (reply, rejects(UNSPECIFIED)):
+def _copied(reply: Reply) -> Reply:
+    """The reply, with words of its own."""
+    kind, words, code = reply
+    return Reply(kind, [*words], code)
+
+
+class Replies:
+    """Gives calls their replies. One that is refused memory is kept, and given at a turn behind."""
+
+    def __init__(self, host: Host) -> None:
+        self._host = host
+        self._kept: Dict[int, Tuple[Call, Reply]] = {}  # by the connection
+
+    def give(self, now: int, call: Call, reply: Reply) -> None:
+        """Answers a call, unless its connection has closed. A reply that can't be given is a failure of the call."""
+        for one in (reply, rejects(UNSPECIFIED)):
+            try:
+                self._put(now, call, one)
+                return
+            except (ClosingError, NoConnectionError, NoCallError):
+                return
+            except Exception as error:
+                failed(call, error)
+        with contextlib.suppress(XnsError):  # not even a reject can be given
+            self._host.close(now, call.number)
+
+    def _put(self, now: int, call: Call, reply: Reply) -> None:
+        if isinstance(reply, tuple) and any(isinstance(one, Iterator) for one in reply):  # it gives its words once
+            reply = _copied(reply)
         try:
-            host.answer(now, call.number, one)
-            return
-        except (ClosingError, NoConnectionError, NoCallError):
-            return
-        except Exception as error:
-            failed(call, error)
-    with contextlib.suppress(XnsError):  # there is no memory, not even for a reject
-        host.close(now, call.number)
+            self._host.answer(now, call.number, reply)
+        except NoMemoryError:
+            self._kept[call.number] = call, _copied(reply)
+
+    def give_kept(self, now: int) -> None:
+        """Gives what is kept, or keeps it on. Is called at each turn: one comes within a second."""
+        kept, self._kept = self._kept, {}
+        for call, reply in kept.values():
+            self.give(now, call, reply)
+
+    def forget(self, number: int) -> None:
+        """Lets go what is kept for a connection that is closed: the number may be another one's by now."""
+        self._kept.pop(number, None)
 
 
 def note_closed(host: Host, closed: Closed) -> None:
@@ -100,24 +131,26 @@ class Server:
                 raise TypeError(f"stop is no event: it is of type {type(stop).__name__}")
             with Host(self._own, **self._settings) as host, not_blocking(self._carrier):
                 host.serve(self._own.socket, self._programs)
-                station = Station(self._carrier, host, guarded(self._other))
+                station, replies = Station(self._carrier, host, guarded(self._other)), Replies(host)
                 try:
                     while not (self._is_stopped or stop is not None and stop.is_set()):
                         station.wait(also=self._bell.fileno(), **({} if stop is None else {"most": _LOOKED_AT}))
-                        self._turn(station)
+                        self._turn(station, replies)
                 finally:
-                    self._close(station)
+                    self._close(station, replies)
         finally:
             self._bell.close()
             self._ringer.close()
 
-    def _turn(self, station: Station) -> None:
+    def _turn(self, station: Station, replies: Replies) -> None:
         station.take_in()
         for event in station.host.events():
             if isinstance(event, Call):
-                give(station.host, station.now, event, self._reply(event))
+                replies.give(station.now, event, self._reply(event))
             elif isinstance(event, Closed):
                 note_closed(station.host, event)
+                replies.forget(event.number)
+        replies.give_kept(station.now)
         station.send()
 
     def _reply(self, call: Call) -> Reply:
@@ -126,7 +159,8 @@ class Server:
         except Exception as error:
             return failed(call, error)
 
-    def _close(self, station: Station) -> None:
+    @staticmethod
+    def _close(station: Station, replies: Replies) -> None:
         host, until = station.host, milliseconds() + CLOSING
         there = close_all(host, station.now)
         station.send()
@@ -135,9 +169,11 @@ class Server:
             station.take_in()
             for event in host.events():
                 if isinstance(event, Call):
-                    give(host, station.now, event, rejects(UNSPECIFIED))
+                    replies.give(station.now, event, rejects(UNSPECIFIED))
                 elif isinstance(event, Closed):
                     there.discard(event.number)
+                    replies.forget(event.number)
+            replies.give_kept(station.now)
             station.send()
 
 
@@ -158,5 +194,6 @@ def serve(
     servers of one program follow each other in their versions; else `serve` raises a ValueError. `other` is given each packet that is not the host's, as one
     of a packet exchange, with the place that it comes from.
 
-    It returns once the event `stop` is set; a `Server` can be stopped by its `stop`. The connections are closed then, also where Ctrl-C ends it."""
+    It returns once the event `stop` is set; a `Server` can be stopped by its `stop`. The connections are closed then, also where Ctrl-C ends it. An `OSError`
+    says within a second that the socket, or the link, was closed."""
     Server(carrier, own, programs, answer, other, **settings).run(stop)

@@ -14,8 +14,7 @@ from ._told import Address
 
 _LONGEST_DATAGRAM = 2048
 _MOST_AT_ONCE = 64  # packets that are taken in before some go out
-_MOST_WAIT = 3_600_000  # milliseconds that are waited at a time: poll takes no number from 2^31 on
-_AGAIN = 1000  # milliseconds after which a carrier without a file is looked at again
+_AGAIN = 1000  # milliseconds after which a carrier is looked at again: it may have no file, and no poll says that another thread has closed it
 _SOURCE = slice(18, 30)  # where the source stands in a packet
 
 Other = Optional[Callable[[bytes, Any], None]]
@@ -115,20 +114,21 @@ class Station:
         wakes = [time for time in (self.host.wake(), until) if time is not None]
         return max(0, min(wakes) - milliseconds()) if wakes else None
 
-    def wait(self, until: Optional[int] = None, also: Optional[int] = None, most: int = _MOST_WAIT) -> None:
-        """Waits until a packet comes, the host wants to be asked, this time is there, so many milliseconds have passed, or `also`, a file, can be read."""
+    def wait(self, until: Optional[int] = None, also: Optional[int] = None, most: int = _AGAIN) -> None:
+        """Waits until a packet comes, the host wants to be asked, this time is there, so many milliseconds have passed, or `also`, a file, can be read.
+        Whoever calls it again is told by an `OSError` that the carrier was closed meanwhile."""
         rest, file = self.rest(until), file_of(self.carrier)
         if self._files != (file, also):
             self._files, self._waiting = (file, also), select.poll()
             for one in (file, also):
                 if one is not None:
                     self._waiting.register(one, select.POLLIN)
-        self._waiting.poll(min(most if file is not None else min(most, _AGAIN), _MOST_WAIT if rest is None else rest))
+        self._waiting.poll(most if rest is None else min(most, rest))
         self.time()
 
 
 def file_of(carrier: Carrier) -> Optional[int]:
-    """The file of a carrier. None while it has none. A socket that is closed is an error."""
+    """The file of a carrier. None while it has none. `OSError` of a socket or a link that is closed."""
     file = carrier.fileno()
     if file < 0 and isinstance(carrier, socket.socket):
         raise OSError(errno.EBADF, "the socket is closed")

@@ -17,7 +17,7 @@ _SOL_PACKET, _ADD_MEMBERSHIP, _PROMISCUOUS = 263, 1, 1
 _FORCE_ROOM = 33  # SO_RCVBUFFORCE
 _ROOM = 1 << 22  # bytes that the kernel keeps meanwhile
 _SIZE = 2048
-_LOOKED_AT = 0.2  # seconds after which it is looked whether a signal came
+_LOOKED_AT = 200  # milliseconds after which it is looked whether a signal came
 _SIGNALLED = 128  # the status of a program that a signal ended is so much and the signal's number, as shells have it
 _LEFT = 1.0  # seconds in which what came before the signal is written still, where frames never cease
 
@@ -47,14 +47,20 @@ def _opened(interface: str) -> socket.socket:
 
 
 def _copy(frames: socket.socket, lines: BinaryIO, count: Optional[int]) -> bool:
-    """Writes each packet as a line of hex, up to so many, until SIGINT or SIGTERM comes: what came before that is written still. Whether a signal came."""
+    """Writes each packet as a line of hex, up to so many, until SIGINT or SIGTERM comes: what came before that is written still. Whether a signal came.
+    `BrokenPipeError` once nobody reads the lines, also where no packet comes."""
     stops: List[float] = []
     for one in (signal.SIGINT, signal.SIGTERM):
         signal.signal(one, lambda *_: stops.append(time.monotonic()))
+    waiting = select.poll()
+    waiting.register(frames, select.POLLIN)
+    waiting.register(lines, 0)  # that it broke is told unasked
     while count is None or count > 0:
-        is_there = select.select([frames], [], [], 0 if stops else _LOOKED_AT)[0]
-        if stops and (not is_there or time.monotonic() > stops[0] + _LEFT):
+        told = [file for file, _ in waiting.poll(0 if stops else _LOOKED_AT)]
+        if stops and (frames.fileno() not in told or time.monotonic() > stops[0] + _LEFT):
             break
+        if lines.fileno() in told:
+            raise BrokenPipeError
         try:
             packet, (_, kind, *_) = frames.recvfrom(_SIZE)
         except OSError:  # nothing is there, or the interface is down for a while

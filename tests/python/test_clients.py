@@ -75,6 +75,50 @@ class Refused(xns.Host):
         return super().packets(now)
 
 
+class RefusedReplies(xns.Host):
+    """A host that is refused memory for replies, two times of three, once it has read their words."""
+
+    asked = 0
+
+    def answer(self, now, number, reply):
+        self.asked += 1
+        if self.asked % 3:
+            _ = [*reply.words]
+            raise xns.NoMemoryError
+        super().answer(now, number, reply)
+
+
+def told_at_closing(carrier):
+    """What a server says whose carrier another thread closes, where nothing is due."""
+    told = []
+
+    def serves():
+        try:
+            xns.serve(carrier, SERVER, [], answers)
+        except OSError as error:
+            told.append(error.strerror)
+
+    thread = threading.Thread(target=serves, daemon=True)
+    thread.start()
+    time.sleep(0.1)
+    carrier.close()
+    thread.join(5)
+    return told
+
+
+def told_at_closing_by_asyncio(carrier):
+    """The same of one of asyncio."""
+
+    async def play():
+        server = asyncio.ensure_future(xns.serve_async(carrier, SERVER, [], answers))
+        await asyncio.sleep(0.1)
+        carrier.close()
+        ended, _ = await asyncio.wait([server], timeout=5)
+        return [one.exception().strerror for one in ended]
+
+    return asyncio.run(play())
+
+
 class OverUdp(unittest.TestCase):
     def setUp(self):
         self.there, self.here = bound(), bound()
@@ -239,11 +283,13 @@ class OverUdp(unittest.TestCase):
                 threading.Timer(0.3, setattr, (one, "is_down", False)).start()
                 self.assertEqual(client.call(7, 1, 1, [5]).words, [5])
 
-    def test_packets_that_are_refused_memory_go_out_later(self):
+    def calls_by(self, host, answer=answers):
+        """A call of the server and of that of asyncio, with hosts of this class."""
+
         async def calls():
             with bound() as udp:
                 stop = asyncio.Event()
-                server = asyncio.ensure_future(xns.serve_async(udp, SERVER, [(7, 1, 1)], answers, stop=stop, **QUICK))
+                server = asyncio.ensure_future(xns.serve_async(udp, SERVER, [(7, 1, 1)], answer, stop=stop, **QUICK))
                 async with xns.AsyncClient(self.here, udp.getsockname(), CLIENT, SERVER, **QUICK) as client:
                     self.assertEqual((await client.call(7, 1, 1, [4])).words, [4])
                 stop.set()
@@ -251,10 +297,23 @@ class OverUdp(unittest.TestCase):
 
         with contextlib.ExitStack() as patched:
             for module in ("_serving", "_client", "_asynchronous"):
-                patched.enter_context(unittest.mock.patch(f"xns.{module}.Host", Refused))
-            with serving(self.there), self.client() as client:
+                patched.enter_context(unittest.mock.patch(f"xns.{module}.Host", host))
+            with serving(self.there, answer), self.client() as client:
                 self.assertEqual(client.call(7, 1, 1, [3]).words, [3])
             asyncio.run(calls())
+
+    def test_packets_that_are_refused_memory_go_out_later(self):
+        self.calls_by(Refused)
+
+    def test_replies_that_are_refused_memory_are_given_later(self):
+        carried_out = []
+
+        def once(call):
+            carried_out.append(call.words)
+            return xns.returns(iter(call.words))
+
+        self.calls_by(RefusedReplies, once)
+        self.assertEqual(carried_out, [[3], [4]])
 
     def test_the_carrier_of_the_page(self):
         page = (pathlib.Path(__file__).resolve().parents[2] / "docs" / "NETWORKS.md").read_text(encoding="utf-8")
@@ -269,6 +328,9 @@ class OverUdp(unittest.TestCase):
         self.there.close()
         with self.assertRaises(OSError):
             xns.serve(self.there, SERVER, [], answers)
+
+    def test_a_socket_that_another_thread_closes_ends_the_server_within_a_second(self):
+        self.assertEqual(told_at_closing(self.there), ["the socket is closed"])
 
     def test_many_clients_at_once(self):
         with serving(self.there, connections=20):
@@ -451,6 +513,10 @@ class HubTest(unittest.TestCase):
         with self.assertRaises(ValueError):
             xns.nethub(LOCAL, self.hub.port, b"short")
 
+    def test_a_link_that_is_closed_ends_the_server_within_a_second(self):
+        for told in (told_at_closing, told_at_closing_by_asyncio):
+            self.assertEqual(told(self.link(SERVER.host)), ["the link is closed"])
+
     def test_times_where_frames_of_others_never_cease(self):
         """The hub itself floods, for ten seconds at most."""
         frame = (SERVER.host * 2 + b"\x06\x00").ljust(60, b"\0")
@@ -499,6 +565,15 @@ class EthernetTest(unittest.TestCase):
         link._socket = types.SimpleNamespace(recvfrom=lambda size: next(to_others))
         with self.assertRaises(BlockingIOError):
             link.recvfrom(2048)
+
+    def test_a_link_that_is_closed_ends_the_server_within_a_second(self):
+        for told in (told_at_closing, told_at_closing_by_asyncio):
+            udp = bound()
+            frames = types.SimpleNamespace(bind=lambda place: None, getsockname=lambda: ("eth0", 0x0600, 0, 1, SERVER.host), recvfrom=udp.recvfrom,
+                                           fileno=udp.fileno, setblocking=udp.setblocking, close=udp.close)
+            with unittest.mock.patch("socket.socket", lambda *_: frames):
+                link = xns.ethernet("eth0")
+            self.assertEqual(told(link), ["the link is closed"])
 
 
 if __name__ == "__main__":

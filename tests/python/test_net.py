@@ -64,6 +64,32 @@ class Serving:
         self.status = self.process.returncode
 
 
+@contextlib.contextmanager
+def watched(frames):
+    """The file of the program to which `watch` gives these frames. Signals are then handled as before."""
+    handlers = {number: signal.getsignal(number) for number in (signal.SIGINT, signal.SIGTERM)}
+    with tempfile.TemporaryDirectory() as folder:
+        program = pathlib.Path(folder) / "xns"
+        program.touch(0o700)
+        try:
+            with mock.patch("xns._watch._opened", lambda interface: contextlib.nullcontext(frames)), mock.patch("xns._watch.program", lambda: str(program)):
+                yield program
+        finally:
+            for number, handler in handlers.items():
+                signal.signal(number, handler)
+
+
+@contextlib.contextmanager
+def interrupted_after(seconds):
+    """Ctrl-C comes after so many seconds, unless it ends before."""
+    timer = threading.Timer(seconds, os.kill, (os.getpid(), signal.SIGINT))
+    timer.start()
+    try:
+        yield
+    finally:
+        timer.cancel()
+
+
 class NetTest(unittest.TestCase):
     def test_a_tally(self):
         with Serving() as serving:
@@ -178,20 +204,24 @@ class NetTest(unittest.TestCase):
         near, far = socket.socketpair()
         far.send(b"there")
         frames = types.SimpleNamespace(fileno=near.fileno, recvfrom=lambda size: (bytes(30), ("eth0", 0x0600, 0, 1, bytes(6))))
-        handlers = {number: signal.getsignal(number) for number in (signal.SIGINT, signal.SIGTERM)}
-        with near, far, tempfile.TemporaryDirectory() as folder:
-            program = pathlib.Path(folder) / "xns"
-            program.touch(0o700)
+        with near, far, watched(frames) as program:
             for does, count, wanted in (("cat; exit 3", 2, 3), ("cat", 2, 0), ("exit 3", None, 3), ("kill $$", None, 143), ("cat; exit 3", None, 0)):
                 program.write_text(f"#!/bin/sh\nexec > /dev/null\n{does}\n", encoding="utf-8")
-                if (count, wanted) == (None, 0):
-                    threading.Timer(0.3, os.kill, (os.getpid(), signal.SIGINT)).start()
-                try:
-                    with mock.patch("xns._watch._opened", lambda interface: contextlib.nullcontext(frames)), mock.patch("xns._watch.program", lambda: str(program)):
-                        self.assertEqual(watch("eth0", "calls", count), wanted, does)
-                finally:
-                    for number, handler in handlers.items():
-                        signal.signal(number, handler)
+                with interrupted_after(0.3) if (count, wanted) == (None, 0) else contextlib.nullcontext():
+                    self.assertEqual(watch("eth0", "calls", count), wanted, does)
+
+    def test_a_watch_ends_with_its_reader_where_no_frame_comes(self):
+        near, far = socket.socketpair()
+        near.setblocking(False)
+        reader, writer = os.pipe()
+        with near, far, watched(near) as program, open(writer, "w", encoding="utf-8") as lines:
+            for does, wanted in (("exit 3", 3), ("exec < /dev/null; sleep 0.3; exit 4", 4), ("kill $$", 143)):
+                program.write_text(f"#!/bin/sh\n{does}\n", encoding="utf-8")
+                with interrupted_after(5):
+                    self.assertEqual(watch("eth0", "calls", None), wanted, does)
+            os.close(reader)
+            with mock.patch("sys.stdout", lines), interrupted_after(5), self.assertRaises(BrokenPipeError):
+                watch("eth0", None, None)
 
     def test_words(self):
         for words in ((), ("pong",), ("ping",), ("ping", SERVER), ("ping", SERVER, "--udp", "0"), ("ping", SERVER, "--udp", "1", "-i", "lo"),

@@ -3,10 +3,12 @@ import contextlib
 import socket
 import threading
 import time
+import types
 import unittest
 
 import xns
 from relay import LOCAL, Peer, bound, send_all_kinds
+from xns._serving import Replies
 
 SERVER, CLIENT = xns.Address(1, bytes.fromhex("0000aa000102"), 5), xns.Address(1, bytes.fromhex("0000aa000304"), 1024)
 PROGRAMS = [(7, 1, 2)]
@@ -164,6 +166,40 @@ class Serving(unittest.TestCase):
             udp.sendto(xns.exchange_request(CLIENT, SERVER, 77, 5, b"abc"), self.udp.getsockname())
             self.assertEqual(xns.exchange_accept(SERVER, 77, udp.recv(2048)), b"cba")
         self.assertEqual(client.call(7, 1, 1, [6]).words, [6, 6])
+
+
+class RepliesTest(unittest.TestCase):
+    """Replies to calls of a host that has memory, or has none."""
+
+    def setUp(self):
+        self.has_memory, self.given, self.call = False, [], types.SimpleNamespace(number=1, program=7, version=1, procedure=1)
+        self.replies = Replies(types.SimpleNamespace(answer=self.answer))
+
+    def answer(self, now, number, reply):
+        words = [*reply.words]
+        if not self.has_memory:
+            raise xns.NoMemoryError
+        self.given.append((now, number, reply.kind, words))
+
+    def test_what_is_refused_memory_is_given_later_as_it_was(self):
+        words = [5, 6]
+        for reply in (xns.returns(words), xns.returns(iter(words)), (xns.Kind.RETURN, iter(words), 0)):
+            self.has_memory, self.given[:] = False, []
+            self.replies.give(1, self.call, reply)
+            self.replies.give_kept(2)
+            words[0], self.has_memory = 7, True
+            for now in (3, 4):
+                self.replies.give_kept(now)
+            self.assertEqual(self.given, [(3, 1, xns.Kind.RETURN, [5, 6])])
+            words[0] = 5
+
+    def test_what_is_kept_goes_with_its_connection(self):
+        self.replies.give(1, self.call, xns.returns([5]))
+        self.replies.forget(1)
+        self.replies.forget(2)
+        self.has_memory = True
+        self.replies.give_kept(2)
+        self.assertEqual(self.given, [])
 
 
 class Alone(unittest.TestCase):
