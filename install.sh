@@ -14,7 +14,7 @@ Proves and builds the program xns and the library for C, and installs under the 
     include/xns.h
     lib/libxns.a, lib/libxns.so and its versions, lib/pkgconfig/xns.pc
     share/man/man1/xns.1, share/man/man1/xns-net.1
-    share/doc/xns       the pages that help, manual page and header name, and an example
+    share/doc/xns       the pages that help, manual page and header name, those that they link to, and the examples
     share/xns           the module for Python, and the list of what was installed
 
 The Rattle kit (rt), a C compiler and ar are needed. Building takes half an hour or more the first
@@ -143,9 +143,12 @@ done
 version=$(cat VERSION)
 soname=libxns.so.${version%%.*}
 pages='C C-REFERENCE CAPTURES COURIER ENDPOINT FORMATS GLOSSARY NETWORKS NOTATION PROMISES PROOF PYTHON WORLD'
+for page in courier_calls courier_sessions host_world xns_agenda xns_connection xns_host; do pages="$pages crates/$page"; done
+examples=$(cd examples && echo *.hex c/*.[ch] courier/*.courier python/*.py)
 files="bin/xns bin/xns-net include/xns.h lib/libxns.a lib/libxns.so.$version lib/$soname lib/libxns.so lib/pkgconfig/xns.pc share/man/man1/xns.1 share/man/man1/xns-net.1"
 for page in $pages; do files="$files share/doc/xns/$page.md"; done
-files="$files share/doc/xns/examples/six-calls.hex share/xns/installed"
+for example in $examples; do files="$files share/doc/xns/examples/$example"; done
+files="$files share/xns/installed"
 modules=$(cd python/xns && echo *.py)
 for module in $modules; do files="$files share/xns/python/xns/$module"; done
 for file in $files; do
@@ -186,6 +189,12 @@ Libs: -L\${libdir} -lxns
 END
 for page in xns xns-net; do sed "s/@VERSION@/$version/" "docs/$page.1" > "$work/$page.1"; done
 
+# The pages' links lead to where the examples, the header and the module are installed.
+mkdir "$work/crates"
+for page in $pages; do
+    sed 's|](\.\./examples|](examples|g; s|](\.\./include/|](../../../include/|g; s|](\.\./python/|](../../xns/python/|g' "docs/$page.md" > "$work/$page.md"
+done
+
 # ---- the list: the files, the folders that were made here or by an earlier installation, and how many from PREFIX up were made
 
 : > "$work/old"
@@ -217,7 +226,7 @@ ln -sf "libxns.so.$version" "$root/lib/$soname"
 ln -sf "$soname" "$root/lib/libxns.so"
 install -m 644 "$work/xns.pc" "$root/lib/pkgconfig/xns.pc"
 for page in xns xns-net; do install -m 644 "$work/$page.1" "$root/share/man/man1/$page.1"; done
-for page in $pages; do install -m 644 "docs/$page.md" "$root/share/doc/xns/$page.md"; done
-install -m 644 examples/six-calls.hex "$root/share/doc/xns/examples/six-calls.hex"
+for page in $pages; do install -m 644 "$work/$page.md" "$root/share/doc/xns/$page.md"; done
+for example in $examples; do install -m 644 "examples/$example" "$root/share/doc/xns/examples/$example"; done
 for module in $modules; do install -m 644 "python/xns/$module" "$root/share/xns/python/xns/$module"; done
 for file in $files; do echo "$root/$file"; done

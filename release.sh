@@ -45,7 +45,7 @@ A program in C:            gcc program.c -IDIR/include DIR/lib/libxns.a
 The same by pkg-config:    PKG_CONFIG_PATH=DIR/lib/pkgconfig pkg-config --cflags --libs xns
 A program in Python:       PYTHONPATH=DIR/share/xns/python python3 program.py
 Hosts of a network:        DIR/bin/xns-net --help      man DIR/share/man/man1/xns-net.1
-The pages:                 DIR/share/doc/xns
+The pages, and examples:   DIR/share/doc/xns
 
 The program needs the C library (glibc), and a processor of x86-64-v2 (since about 2009). The
 library runs on every x86-64 processor. What is proved of them is in DIR/share/doc/xns/PROMISES.md.

@@ -32,12 +32,29 @@ holds() {
     if diff "$work/expected" "$work/there" > "$work/err"; then pass; else fail "$name"; fi
 }
 
+# Under a folder each relative link of an installed page leads to a file, or a folder, that is installed there too.
+links_lead() {
+    name=$1 top=$(readlink -f "$2")
+    find "$top/share/doc/xns" -name '*.md' | while read -r page; do
+        sed '/^```/,/^```/d' "$page" | grep -o '](\([^)#:]*\)[)#]' | sed "s|^](\(.*\).$|${page%/*} \1|"
+    done | sort -u > "$work/links"
+    while read -r folder link; do
+        target=$(readlink -f "$folder/$link")
+        case $target in "$top"/*) if [ -e "$target" ]; then continue; fi ;; esac
+        echo "a page of ${folder#"$top"/} links to $link"
+    done < "$work/links" > "$work/lost"
+    if [ -s "$work/links" ] && [ ! -s "$work/lost" ]; then pass; else fail "$name" "$work/lost"; fi
+}
+
 version=$(cat VERSION)
 pages='C C-REFERENCE CAPTURES COURIER ENDPOINT FORMATS GLOSSARY NETWORKS NOTATION PROMISES PROOF PYTHON WORLD'
-folders='bin include lib lib/pkgconfig share share/doc share/doc/xns share/doc/xns/examples share/man share/man/man1 share/xns share/xns/python share/xns/python/xns'
+folders='bin include lib lib/pkgconfig share share/doc share/doc/xns share/doc/xns/crates share/doc/xns/examples share/doc/xns/examples/c share/doc/xns/examples/courier share/doc/xns/examples/python share/man share/man/man1 share/xns share/xns/python share/xns/python/xns'
 files="bin/xns bin/xns-net include/xns.h lib/libxns.a lib/libxns.so lib/libxns.so.0 lib/libxns.so.$version lib/pkgconfig/xns.pc share/man/man1/xns.1 share/man/man1/xns-net.1"
 for page in $pages; do files="$files share/doc/xns/$page.md"; done
-files="$files share/doc/xns/examples/six-calls.hex share/xns/installed"
+for page in courier_calls courier_sessions host_world xns_agenda xns_connection xns_host; do files="$files share/doc/xns/crates/$page.md"; done
+examples=$(find examples -type f ! -name '*.pyc')
+for example in $examples; do files="$files share/doc/xns/$example"; done
+files="$files share/xns/installed"
 for module in python/xns/*.py; do files="$files share/xns/$module"; done
 
 mkdir -p "$work/kit/bin" "$work/kit/c" "$work/copy/crates/xns" "$work/copy/crates/xns_c"
@@ -129,6 +146,7 @@ rm "$work/kit/refuses"
 ends_with 'installing' 0 "$notice" sh "$script" "$work/made/deep"
 # shellcheck disable=SC2086
 holds 'what is there' "$work/made/deep" $folders $files
+links_lead 'the links of its pages' "$work/made/deep"
 ends_with 'and again' 0 "$notice" sh "$script" "$work/made/deep"
 expect 'taking it away' sh "$script" --uninstall "$work/made/deep"
 [ ! -e "$work/made" ] || fail 'a folder that was made is left'
