@@ -34,6 +34,11 @@ class Wrong(Doubles):
 """
 
 
+def setUpModule():
+    """Ctrl-C's signal is ignored in what a script's shell starts behind `&`, and in the children of that. Here it is not."""
+    unittest.addModuleCleanup(signal.signal, signal.SIGINT, signal.signal(signal.SIGINT, signal.default_int_handler))
+
+
 def run(*words, **more):
     ended = subprocess.run([*NET, *words], stdout=subprocess.PIPE, stderr=subprocess.PIPE, text=True, timeout=60, **more)
     return ended.returncode, ended.stdout, ended.stderr
