@@ -8,7 +8,7 @@ use Rattle.courier_messages.specs.declared.fault.SessionFault.TheVariants.{NoCom
 use Rattle.courier_messages.specs.declared.message.Message.{Message}
 use Rattle.courier_messages.specs.Conversation.{Phase, opening, fresh, inside}
 use Rattle.courier_messages.specs.Message.{message_of}
-use Rattle.courier_messages.specs.Phases.{run, step, closed, ◌then◌}
+use Rattle.courier_messages.specs.Phases.{run, after_sign, closed, ◌then◌}
 use Rattle.courier_messages.specs.Refusal.{KeepsNothing, MakeSecondPiece, MayBeKept, Stops, UnlessMemory}
 use Rattle.courier_messages.specs.Text.{Sign, byte, mark, signs}
 
@@ -30,7 +30,7 @@ mark_keeps_nothing (inside bytes) q h = by_message (message_of bytes) h where
 run_keeps_nothing : (p : Phase) (ss : List Sign) (q : Phase) → run p (ss ++ mark ∷ []) ≡ Ok q → KeepsNothing q
 unfolding run
 run_keeps_nothing p [] q h = mark_keeps_nothing p q h
-run_keeps_nothing p (s ∷ ss) q h = onward (step p s) (λ t k. run_keeps_nothing t ss q k) h where
+run_keeps_nothing p (s ∷ ss) q h = onward (after_sign p s) (λ t k. run_keeps_nothing t ss q k) h where
   onward : (r : Result Phase SessionFault) → ((t : Phase) → run t (ss ++ mark ∷ []) ≡ Ok q → KeepsNothing q) →
       (r then λ t. run t (ss ++ mark ∷ [])) ≡ Ok q → KeepsNothing q
   onward (Ok t) behind k = behind t k

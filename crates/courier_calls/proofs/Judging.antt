@@ -7,7 +7,7 @@ use Rattle.courier_messages.specs.declared.head.Head.{Head}
 use Rattle.courier_messages.specs.declared.head.Head.TheVariants as heads
 use Rattle.courier_messages.specs.declared.message.Message.{Message}
 use Rattle.courier_messages.specs.declared.message.Message.TheVariants.{Call, Reject, Return, Abort}
-use Rattle.courier_messages.specs.Called.{all_calls, calls_of, heard}
+use Rattle.courier_messages.specs.Called.{all_calls, calls_of, called_ending}
 use Rattle.courier_messages.specs.Conversation.{Phase}
 use Rattle.courier_messages.specs.Head.{head_in}
 use Rattle.courier_messages.specs.Refusal.{Stops}
@@ -21,10 +21,10 @@ use Rattle.courier_calls.proofs.Serves.{weaker}
 
 -- a fault of the text
 pub fault_first : (e : SessionFault) (ms : List Message) (q : Result Phase SessionFault) → Stops e ⊥ ((q ≡ Err e) × (ms ≡ []))
-    → Stops e ⊥ ((heard ms q ≡ Err e) × (calls_of ms ≡ []))
+    → Stops e ⊥ ((called_ending ms q ≡ Err e) × (calls_of ms ≡ []))
 unfolding all_calls calls_of
 fault_first e ms q =
-    weaker e (λ u. u) (λ h. (ap (λ (ns : List Message). heard ns q) h.1 ∙ h.0, ap (λ (ns : List Message). calls_of ns) h.1))
+    weaker e (λ u. u) (λ h. (ap (λ (ns : List Message). called_ending ns q) h.1 ∙ h.0, ap (λ (ns : List Message). calls_of ns) h.1))
 
 -- an item at which something is wrong
 pub refused_at : {S : Type 0} (serving : Serving S) (old new : ServerState S) (x : Item) (e : SessionFault) (r : Result (Option calls.Call) SessionFault) → r ≡ Err e
@@ -34,14 +34,14 @@ refused_at serving old new x e r hr s o h =
     (weaker e (λ u. absurd u) (λ w. record { stops = w.0; calls = w.1; state = s; out = o }) h)
 
 -- no message
-pub nothing_yet : (ms : List Message) (q : Result Phase SessionFault) → IsOk q → map head_in ms ≡ [] → IsOk (heard ms q)
+pub nothing_yet : (ms : List Message) (q : Result Phase SessionFault) → IsOk q → map head_in ms ≡ [] → IsOk (called_ending ms q)
 unfolding all_calls
 nothing_yet [] q k h = k
 nothing_yet (m ∷ ms) q k h = absurd cc
 
 -- a call
 pub a_call : (ms : List Message) (q : Result Phase SessionFault) (t p v k : ℕ) → IsOk q → map head_in ms ≡ heads.Call t p v k ∷ []
-    → IsOk (heard ms q)
+    → IsOk (called_ending ms q)
 unfolding all_calls
 a_call [] q t p v k is h = absurd cc
 a_call (Call t' p' v' k' words ∷ []) q t p v k is h = is
@@ -52,7 +52,7 @@ a_call (Abort t' e words ∷ ms) q t p v k is h = absurd cc
 
 -- another message
 pub another : (ms : List Message) (q : Result Phase SessionFault) (head : Head) → ((t p v k : ℕ) → head ≡ heads.Call t p v k → ⊥)
-    → map head_in ms ≡ head ∷ [] → (heard ms q ≡ Err BadReply) × (calls_of ms ≡ [])
+    → map head_in ms ≡ head ∷ [] → (called_ending ms q ≡ Err BadReply) × (calls_of ms ≡ [])
 unfolding all_calls calls_of
 another [] q head other h = absurd cc
 another (Call t p v k words ∷ ms) q head other h = let is : head ≡ heads.Call t p v k = cc in absurd (other t p v k is)

@@ -10,8 +10,8 @@ use Rattle.courier_messages.specs.Text.{signs}
 use Rattle.courier_messages.specs.Conversation.{Phase, conversation, ending}
 use Rattle.courier_messages.specs.Phases.{run, said, onwards, ◌then◌}
 use Rattle.courier_messages.specs.RawCalls.{RawCall}
-use Rattle.courier_messages.specs.Called.{calls_of, all_calls, heard, server_ending}
-use Rattle.courier_messages.specs.Laws.{IsFaultless, GoesOn, Stays}
+use Rattle.courier_messages.specs.Called.{calls_of, all_calls, called_ending, server_ending}
+use Rattle.courier_messages.specs.Laws.{IsFaultless, GoesOnWithItem, StaysFailed}
 use Rattle.courier_messages.proofs.More.{conversation_more, ending_more, item_one, unsaid}
 
 -- calls go on
@@ -54,7 +54,7 @@ heard_by false q p h = cc
 
 -- a server that is fed one more item
 
-pub goes : (F : List Item) (p : Phase) (x : Item) → server_ending F ≡ Ok p → GoesOn F p x
+pub goes : (F : List Item) (p : Phase) (x : Item) → server_ending F ≡ Ok p → GoesOnWithItem F p x
 goes F p x h =
     let was = heard_by (all_calls (conversation F)) (ending F) p h in
     let c : conversation (F ++ x ∷ []) ≡ conversation F ++ said p (signs x) =
@@ -63,15 +63,15 @@ goes F p x h =
     ending_more F x ∙ ap (λ (r : Result Phase SessionFault). r then λ t. run t (signs x)) was.1 in
     record {
       said_then = c;
-      ends = ap (λ (ms : List Message). heard ms (ending (F ++ x ∷ []))) c
+      ends = ap (λ (ms : List Message). called_ending ms (ending (F ++ x ∷ []))) c
           ∙ (ap (λ (b : Bool). if b then ending (F ++ x ∷ []) else Err BadReply) (all_append true (conversation F) (said p (signs x)) was.0)
-          ∙ ap (λ (r : Result Phase SessionFault). heard (said p (signs x)) r) e);
+          ∙ ap (λ (r : Result Phase SessionFault). called_ending (said p (signs x)) r) e);
       calls_then = ap (λ (ms : List Message). calls_of ms) c ∙ calls_append (conversation F) (said p (signs x)) was.0;
     }
 
 -- behind a fault
 
-stays_by : (F : List Item) (x : Item) (e : SessionFault) (b : Bool) → all_calls (conversation F) ≡ b → server_ending F ≡ Err e → Stays F x e
+stays_by : (F : List Item) (x : Item) (e : SessionFault) (b : Bool) → all_calls (conversation F) ≡ b → server_ending F ≡ Err e → StaysFailed F x e
 stays_by F x e true a h =
     let r : ending F ≡ Err e = sym (ap (λ (b : Bool). if b then ending F else Err BadReply) a) ∙ h in
     let c : conversation (F ++ x ∷ []) ≡ conversation F =
@@ -79,7 +79,7 @@ stays_by F x e true a h =
     let n : ending (F ++ x ∷ []) ≡ Err e = ending_more F x ∙ ap (λ (q : Result Phase SessionFault). q then λ t. run t (signs x)) r in
     record {
       calls = ap (λ (ms : List Message). calls_of ms) c;
-      ending = ap (λ (ms : List Message). heard ms (ending (F ++ x ∷ []))) c ∙ (ap (λ (b : Bool). if b then ending (F ++ x ∷ []) else Err BadReply) a ∙ n);
+      ending = ap (λ (ms : List Message). called_ending ms (ending (F ++ x ∷ []))) c ∙ (ap (λ (b : Bool). if b then ending (F ++ x ∷ []) else Err BadReply) a ∙ n);
     }
 stays_by F x e false a h =
     let more = onwards (ending F) (λ t. said t (signs x)) in
@@ -89,12 +89,12 @@ stays_by F x e false a h =
           ∙ (sym (ap (λ (b : Bool). if b then ending F else Err BadReply) a) ∙ h);
     }
 
-pub stays_failed : (F : List Item) (x : Item) (e : SessionFault) → server_ending F ≡ Err e → Stays F x e
+pub stays_failed : (F : List Item) (x : Item) (e : SessionFault) → server_ending F ≡ Err e → StaysFailed F x e
 stays_failed F x e h = stays_by F x e (all_calls (conversation F)) refl h
 
 -- an item that brings a fault ends no call
 
-uncalled : (ms : List Message) (q : Result Phase SessionFault) (e : SessionFault) → length ms ≤ 1 → ((d : SessionFault) → q ≡ Err d → ms ≡ []) → heard ms q ≡ Err e → calls_of ms ≡ []
+uncalled : (ms : List Message) (q : Result Phase SessionFault) (e : SessionFault) → length ms ≤ 1 → ((d : SessionFault) → q ≡ Err d → ms ≡ []) → called_ending ms q ≡ Err e → calls_of ms ≡ []
 unfolding all_calls calls_of
 uncalled [] q e few quiet h = refl
 uncalled (Call t p v c w ∷ []) q e few quiet h = absurd (let k = quiet e h in cc)

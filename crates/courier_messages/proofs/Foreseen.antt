@@ -13,7 +13,7 @@ use Rattle.courier_messages.specs.declared.message.Message.{Message}
 use Rattle.courier_messages.specs.Conversation.{Phase, inside, range_bytes}
 use Rattle.courier_messages.specs.Head.{head_in}
 use Rattle.courier_messages.specs.Inside.{IsHeld, kept_at, phase_in}
-use Rattle.courier_messages.specs.Phases.{step, ended, run, said, onwards, ◌then◌}
+use Rattle.courier_messages.specs.Phases.{after_sign, ended, run, said, onwards, ◌then◌}
 use Rattle.courier_messages.specs.Refusal.{Foresees, KeepsNothing, Stops}
 use Rattle.courier_messages.specs.Text.{Sign, byte, mark, signs, end_of, item_of}
 use Rattle.courier_messages.proofs.Runs.{signs_open, run_append, said_append, said_bytes, run_mark, said_mark, without_mark, weaker}
@@ -27,7 +27,7 @@ with_mark : (x : Item) → x.stream ≡ 0 → x.last ≡ true → signs x ≡ ma
 with_mark x h l = signs_open x h ∙ ap (λ (b : Bool). map byte x.body ++ end_of b) l
 
 -- an item with a mark leads where the mark leads behind the bytes of the item
-ran_to_mark : (p q : Phase) (x : Item) → x.stream ≡ 0 → x.last ≡ true → run p (map byte x.body) ≡ Ok q → run p (signs x) ≡ step q mark
+ran_to_mark : (p q : Phase) (x : Item) → x.stream ≡ 0 → x.last ≡ true → run p (map byte x.body) ≡ Ok q → run p (signs x) ≡ after_sign q mark
 ran_to_mark p q x h l r =
     ap (run p) (with_mark x h l) ∙ run_append p (map byte x.body) (mark ∷ [])
     ∙ ap (λ (t : Result Phase SessionFault). t then λ q. run q (mark ∷ [])) r ∙ run_mark q
@@ -38,17 +38,17 @@ said_to_mark p q x h l r =
     ap (said p) (with_mark x h l) ∙ said_append p bytes (mark ∷ []) ∙ ap (λ (ms : List Message). ms ++ onwards (run p bytes) (λ q. said q (mark ∷ []))) (said_bytes p x.body)
     ∙ ap (λ (t : Result Phase SessionFault). onwards t (λ q. said q (mark ∷ []))) r ∙ said_mark q
 
-pub foreseen_mark : (seen : Result (Option Head) SessionFault) (p q : Phase) (x : Item) → x.stream ≡ 0 → x.last ≡ true → run p (map byte x.body) ≡ Ok q → Foresees seen (step q mark) (ended q mark)
+pub foreseen_mark : (seen : Result (Option Head) SessionFault) (p q : Phase) (x : Item) → x.stream ≡ 0 → x.last ≡ true → run p (map byte x.body) ≡ Ok q → Foresees seen (after_sign q mark) (ended q mark)
     → Foresees seen (run p (signs x)) (said p (signs x))
 foreseen_mark seen p q x h l r f =
     subst (λ (t : Result Phase SessionFault). Foresees seen t (said p (signs x))) (sym (ran_to_mark p q x h l r))
-    (subst (λ (ms : List Message). Foresees seen (step q mark) ms) (sym (said_to_mark p q x h l r)) f)
+    (subst (λ (ms : List Message). Foresees seen (after_sign q mark) ms) (sym (said_to_mark p q x h l r)) f)
 
 -- where no bytes are kept and a mark behind an item's bytes ends a message, the item with the mark leads to where none
 -- are kept
 pub whole_run : (p : Phase) (stage : Stage) (skipped : ℕ) (pieces body : List ℕ) → length pieces ≡ 0
     → run p (map byte body) ≡ Ok (phase_in stage (drop skipped (kept_at stage (pieces ++ body))))
-    → step (phase_in stage (drop skipped (kept_at stage body))) mark ≡ Ok (inside []) → run p (signs (item_of 0 true body)) ≡ Ok (inside pieces)
+    → after_sign (phase_in stage (drop skipped (kept_at stage body))) mark ≡ Ok (inside []) → run p (signs (item_of 0 true body)) ≡ Ok (inside pieces)
 whole_run p stage skipped [] body e r s = ran_to_mark p _ (item_of 0 true body) refl refl r ∙ s
 whole_run p stage skipped (b ∷ pieces) body e r s = (cc)
 

@@ -6,7 +6,7 @@ use Rattle.courier_messages.specs.declared.fault.SessionFault.{SessionFault}
 use Rattle.courier_messages.specs.declared.message.Message.{Message}
 use Rattle.courier_messages.specs.Text.{Sign, signs, byte, mark, foreign, end_of}
 use Rattle.courier_messages.specs.Conversation.{Phase, opening, conversation, ending, fresh, inside}
-use Rattle.courier_messages.specs.Phases.{run, said, onwards, ◌then◌, step, ended, closed, good}
+use Rattle.courier_messages.specs.Phases.{run, said, onwards, ◌then◌, after_sign, ended, closed, good}
 use Rattle.courier_messages.specs.RawCalls.{RawCall, transaction_of, call_message, call_items, caller_items}
 use Rattle.courier_messages.specs.Cutting.{cut, versions_item}
 use Rattle.courier_messages.proofs.Runs.{run_append, run_mark, said_append, said_bytes, said_mark, said_stream}
@@ -59,7 +59,7 @@ unread_mark : (r : Result Message MessageFault) (e : SessionFault) → closed r 
 unread_mark (Ok m) e h = absurd cc
 unread_mark (Err d) e h = refl
 
-unended : (p : Phase) (e : SessionFault) → step p mark ≡ Err e → ended p mark ≡ []
+unended : (p : Phase) (e : SessionFault) → after_sign p mark ≡ Err e → ended p mark ≡ []
 unended (opening bytes) e h = refl
 unended fresh e h = refl
 unended (inside bytes) e h = unread_mark (message_of bytes) e h

@@ -15,7 +15,7 @@ use Rattle.courier_messages.specs.declared.message.Message.{Message}
 use Rattle.courier_messages.specs.Message.{message_of, IsMessage}
 use Rattle.courier_messages.specs.Text.{Sign, byte, mark, foreign, end_of, signs, written}
 use Rattle.courier_messages.specs.Conversation.{versions_fault, Phase, opening, fresh, inside, conversation}
-use Rattle.courier_messages.specs.Phases.{fresh_unless, opened, closed, step, ended, good, ◌then◌, onwards, said}
+use Rattle.courier_messages.specs.Phases.{fresh_unless, opened, closed, after_sign, ended, good, ◌then◌, onwards, said}
 use Rattle.courier_messages.proofs.Signs.{conversation_is}
 use Rattle.courier_messages.proofs.MessageWords.{read_is_spelled, byte_words}
 
@@ -60,7 +60,7 @@ more_bytes : (bytes : List ℕ) (b : ℕ) (full : Bool) → AreBytes bytes → b
 more_bytes bytes b true h k = tt
 more_bytes bytes b false h k = All-append (λ x. x < 2 ^ 8) bytes (b ∷ []) h (one_byte b k)
 
-step_bytes : (p : Phase) (s : Sign) → HoldsBytes p → IsByte s → IfGoes (step p s)
+step_bytes : (p : Phase) (s : Sign) → HoldsBytes p → IsByte s → IfGoes (after_sign p s)
 step_bytes (opening bytes) (foreign kind) h k = tt
 step_bytes fresh (foreign kind) h k = tt
 step_bytes (inside bytes) (foreign kind) h k = tt
@@ -90,8 +90,8 @@ said_numbers : (p : Phase) (text : List Sign) → HoldsBytes p → AllByRecursio
 unfolding said
 said_numbers p [] h k = tt
 said_numbers p (s ∷ text) h k =
-    all_append IsMessage (ended p s) (onwards (step p s) (λ q. said q text)) (ended_numbers p s h)
-    (onwards_numbers (step p s) (λ q. said q text) (step_bytes p s h k.0) (λ q w. said_numbers q text w k.1))
+    all_append IsMessage (ended p s) (onwards (after_sign p s) (λ q. said q text)) (ended_numbers p s h)
+    (onwards_numbers (after_sign p s) (λ q. said q text) (step_bytes p s h k.0) (λ q w. said_numbers q text w k.1))
 
 body_signs : (body : List ℕ) → AllByRecursion (λ b. b < 2 ^ 8) body → AllByRecursion IsByte (map byte body)
 body_signs [] h = tt

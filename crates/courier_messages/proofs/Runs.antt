@@ -8,7 +8,7 @@ use Rattle.courier_messages.specs.Refusal.{Stops}
 use Rattle.courier_messages.specs.declared.message.Message.{Message}
 use Rattle.courier_messages.specs.Text.{Sign, byte, mark, foreign, signs, end_of}
 use Rattle.courier_messages.specs.Conversation.{Phase, opening, fresh, inside}
-use Rattle.courier_messages.specs.Phases.{step, ended, run, said, onwards, ◌then◌}
+use Rattle.courier_messages.specs.Phases.{after_sign, ended, run, said, onwards, ◌then◌}
 
 onwards_run : (r : Result Phase SessionFault) (xs ys : List Sign) → ((q : Phase) → run q (xs ++ ys) ≡ (run q xs then λ t. run t ys)) → (r then λ q. run q (xs ++ ys)) ≡ ((r then λ q. run q xs) then λ q. run q ys)
 onwards_run (Ok q) xs ys h = h q
@@ -17,7 +17,7 @@ onwards_run (Err e) xs ys h = refl
 pub run_append : (p : Phase) (xs ys : List Sign) → run p (xs ++ ys) ≡ (run p xs then λ q. run q ys)
 unfolding run
 run_append p [] ys = refl
-run_append p (x ∷ xs) ys = onwards_run (step p x) xs ys (λ q. run_append q xs ys)
+run_append p (x ∷ xs) ys = onwards_run (after_sign p x) xs ys (λ q. run_append q xs ys)
 
 no_more : (r : Result Phase SessionFault) (f : Phase → List Message) → ((q : Phase) → f q ≡ []) → onwards r f ≡ []
 no_more (Ok q) f h = h q
@@ -30,7 +30,7 @@ onwards_said (Err e) xs ys h = refl
 pub said_append : (p : Phase) (xs ys : List Sign) → said p (xs ++ ys) ≡ said p xs ++ onwards (run p xs) (λ q. said q ys)
 unfolding run said
 said_append p [] ys = refl
-said_append p (x ∷ xs) ys = ap (λ (ms : List Message). ended p x ++ ms) (onwards_said (step p x) xs ys (λ q. said_append q xs ys)) ∙ sym (append_assoc (ended p x) (onwards (step p x) (λ q. said q xs)) (onwards (run p (x ∷ xs)) (λ q. said q ys)))
+said_append p (x ∷ xs) ys = ap (λ (ms : List Message). ended p x ++ ms) (onwards_said (after_sign p x) xs ys (λ q. said_append q xs ys)) ∙ sym (append_assoc (ended p x) (onwards (after_sign p x) (λ q. said q xs)) (onwards (run p (x ∷ xs)) (λ q. said q ys)))
 
 quiet : (p : Phase) (b : ℕ) → ended p (byte b) ≡ []
 quiet (opening bytes) b = refl
@@ -40,19 +40,19 @@ quiet (inside bytes) b = refl
 pub said_bytes : (p : Phase) (bs : List ℕ) → said p (map byte bs) ≡ []
 unfolding said
 said_bytes p [] = refl
-said_bytes p (b ∷ bs) = ap (λ (ms : List Message). ms ++ onwards (step p (byte b)) (λ q. said q (map byte bs))) (quiet p b) ∙ no_more (step p (byte b)) (λ q. said q (map byte bs)) (λ q. said_bytes q bs)
+said_bytes p (b ∷ bs) = ap (λ (ms : List Message). ms ++ onwards (after_sign p (byte b)) (λ q. said q (map byte bs))) (quiet p b) ∙ no_more (after_sign p (byte b)) (λ q. said q (map byte bs)) (λ q. said_bytes q bs)
 
 then_ok : (r : Result Phase SessionFault) → (r then λ q. Ok q) ≡ r
 then_ok (Ok p) = refl
 then_ok (Err e) = refl
 
-pub run_mark : (p : Phase) → run p (mark ∷ []) ≡ step p mark
+pub run_mark : (p : Phase) → run p (mark ∷ []) ≡ after_sign p mark
 unfolding run
-run_mark p = then_ok (step p mark)
+run_mark p = then_ok (after_sign p mark)
 
 pub said_mark : (p : Phase) → said p (mark ∷ []) ≡ ended p mark
 unfolding said
-said_mark p = ap (λ (ms : List Message). ended p mark ++ ms) (no_more (step p mark) (λ q. []) (λ q. refl)) ∙ append-nil (ended p mark)
+said_mark p = ap (λ (ms : List Message). ended p mark ++ ms) (no_more (after_sign p mark) (λ q. []) (λ q. refl)) ∙ append-nil (ended p mark)
 
 pub signs_open : (x : Item) → x.stream ≡ 0 → signs x ≡ map byte x.body ++ end_of x.last
 signs_open x h = rw h refl

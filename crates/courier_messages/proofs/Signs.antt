@@ -12,7 +12,7 @@ use Rattle.courier_messages.specs.declared.message.Message.{Message}
 use Rattle.courier_messages.specs.Message.{message_of}
 use Rattle.courier_messages.specs.Text.{Sign, byte, mark, foreign, written, marked, pieces_behind, rest_behind, foreign_in}
 use Rattle.courier_messages.specs.Conversation.{versions_fault, agreed_unless, agreed_range, version_range, without_mark, said_by, message_and, messages_in, first_of, fault_in, fault_of_rest, fault_behind, messages_of, fault_of, conversation, conversation_fault, Phase, opening, fresh, inside, phase_behind, phase_of, or_fault, ending}
-use Rattle.courier_messages.specs.Phases.{fresh_unless, agreement, closed, good, step, ◌then◌, run, onwards, said}
+use Rattle.courier_messages.specs.Phases.{fresh_unless, agreement, closed, good, after_sign, ◌then◌, run, onwards, said}
 
 -- more than 131,072 bytes stay a fault, whatever comes behind them
 
@@ -72,14 +72,14 @@ byte_ties : (begun : List ℕ) (b : ℕ) (text : List Sign) (full : Bool) → (l
 unfolding pieces_behind rest_behind foreign_in run said byte_step
 byte_ties begun b text true e long short =
     let k = long refl in
-    let s : step (inside begun) (byte b) ≡ Err (BadMessage TooLong) = ap (byte_step begun b) e in
+    let s : after_sign (inside begun) (byte b) ≡ Err (BadMessage TooLong) = ap (byte_step begun b) e in
     record {
       ran = ap (λ (r : Result Phase SessionFault). r then λ q. run q text) s ∙ ap (λ (f : Option SessionFault). or_fault f (inside (rest_behind (begun ++ b ∷ []) text))) (sym k.fault);
       spoke = ap (λ (r : Result Phase SessionFault). onwards r (λ q. said q text)) s ∙ sym k.silent;
     }
 byte_ties begun b text false e long short =
     let k = short refl in
-    let s : step (inside begun) (byte b) ≡ Ok (inside (begun ++ b ∷ [])) = ap (byte_step begun b) e in
+    let s : after_sign (inside begun) (byte b) ≡ Ok (inside (begun ++ b ∷ [])) = ap (byte_step begun b) e in
     record {
       ran = ap (λ (r : Result Phase SessionFault). r then λ q. run q text) s ∙ k.ran;
       spoke = ap (λ (r : Result Phase SessionFault). onwards r (λ q. said q text)) s ∙ k.spoke;

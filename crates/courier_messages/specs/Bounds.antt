@@ -8,15 +8,15 @@ use Rattle.courier_messages.specs.Message.{most_bytes}
 use Rattle.courier_messages.specs.Conversation.{range_bytes, Phase, opening, fresh, inside}
 
 -- what a session keeps of the text: fewer than four bytes of the version range, or at most a message
-abbrev pub IsBounded : Phase → Type 0
-IsBounded (opening bytes) = length bytes < range_bytes
-IsBounded fresh = Unit {0}
-IsBounded (inside bytes) = length bytes ≤ most_bytes
+abbrev pub IsWithinMessage : Phase → Type 0
+IsWithinMessage (opening bytes) = length bytes < range_bytes
+IsWithinMessage fresh = Unit {0}
+IsWithinMessage (inside bytes) = length bytes ≤ most_bytes
 
-pub IsBounded-prop : (p : Phase) → IsProp (IsBounded p)
-IsBounded-prop (opening bytes) = le_prop
-IsBounded-prop fresh = Unit-prop
-IsBounded-prop (inside bytes) = le_prop
+pub IsWithinMessage-prop : (p : Phase) → IsProp (IsWithinMessage p)
+IsWithinMessage-prop (opening bytes) = le_prop
+IsWithinMessage-prop fresh = Unit-prop
+IsWithinMessage-prop (inside bytes) = le_prop
 
 -- how many words a message that is made has room for at first
 abbrev pub first_room : ℕ

@@ -28,9 +28,9 @@ raws cs = map (λ c. c.1) cs
 
 -- the end of a conversation as a server takes it: a message that is not a call is a fault, which comes before those of
 -- the text behind it
-abbrev pub heard : List Message → Result Phase SessionFault → Result Phase SessionFault
-heard ms q = if all_calls ms then q else Err BadReply
+abbrev pub called_ending : List Message → Result Phase SessionFault → Result Phase SessionFault
+called_ending ms q = if all_calls ms then q else Err BadReply
 
 -- the phase of a server in the conversation, or the first fault
 abbrev pub server_ending : List Item → Result Phase SessionFault
-server_ending items = heard (conversation items) (ending items)
+server_ending items = called_ending (conversation items) (ending items)

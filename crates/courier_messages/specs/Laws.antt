@@ -12,13 +12,13 @@ use Rattle.courier_messages.specs.declared.fault.SessionFault.{SessionFault}
 use Rattle.courier_messages.specs.declared.message.Message.{Message}
 use Rattle.courier_messages.specs.Message.{IsMessage, SpellsMessage, most_words, most_bytes, message_words, message_bytes, message_of}
 use Rattle.courier_messages.specs.Text.{Sign, byte, signs, marked, written, pieces, rest, foreign_in}
-use Rattle.courier_messages.specs.Bounds.{IsBounded, bytes_in}
+use Rattle.courier_messages.specs.Bounds.{IsWithinMessage, bytes_in}
 use Rattle.courier_messages.specs.Conversation.{Phase, opening, inside, conversation, ending}
 use Rattle.courier_messages.specs.Phases.{run, said, onwards, ◌then◌}
 use Rattle.courier_messages.specs.Cutting.{cut, versions_item}
 use Rattle.courier_messages.specs.RawCalls.{RawCall, IsShortCall, call_message, call_items, caller_items, numbered, numbered_message}
 use Rattle.courier_messages.specs.RawCalls.{transaction_of}
-use Rattle.courier_messages.specs.Called.{calls_of, heard, server_ending}
+use Rattle.courier_messages.specs.Called.{calls_of, called_ending, server_ending}
 use Rattle.courier_messages.specs.Whole.{whole}
 
 -- the message has at most 131,072 bytes
@@ -41,13 +41,13 @@ pub record IsSendableItem (x : Item) : Type 0 where
   pub stream : x.stream ≡ 0
 
 -- a server that goes on is fed one more item
-pub record GoesOn (fed : List Item) (p : Phase) (item : Item) : Type 0 where
+pub record GoesOnWithItem (fed : List Item) (p : Phase) (item : Item) : Type 0 where
   pub said_then : conversation (fed ++ item ∷ []) ≡ conversation fed ++ said p (signs item)
-  pub ends : server_ending (fed ++ item ∷ []) ≡ heard (said p (signs item)) (run p (signs item))
+  pub ends : server_ending (fed ++ item ∷ []) ≡ called_ending (said p (signs item)) (run p (signs item))
   pub calls_then : calls_of (conversation (fed ++ item ∷ [])) ≡ calls_of (conversation fed) ++ calls_of (said p (signs item))
 
 -- a server that met a fault is fed one more item: the first fault stays, and no call comes behind it
-pub record Stays (fed : List Item) (item : Item) (fault : SessionFault) : Type 0 where
+pub record StaysFailed (fed : List Item) (item : Item) (fault : SessionFault) : Type 0 where
   pub calls : calls_of (conversation (fed ++ item ∷ [])) ≡ calls_of (conversation fed)
   pub ending : server_ending (fed ++ item ∷ []) ≡ Err fault
 
@@ -81,7 +81,7 @@ pub record ConversationIsReadSignBySign : Type 0 where
   pub ending : (fed : List Item) → ending fed ≡ run (opening []) (written fed)
 
 abbrev pub WhatIsKeptIsBounded : Type 0
-WhatIsKeptIsBounded = (fed : List Item) (p : Phase) → ending fed ≡ Ok p → IsBounded p
+WhatIsKeptIsBounded = (fed : List Item) (p : Phase) → ending fed ≡ Ok p → IsWithinMessage p
 
 pub record MessageItemsCanBeSent : Type 0 where
   pub items : (m : Message) → IsMessage m → All IsSendableItem (cut m)
@@ -116,8 +116,8 @@ pub record OneItemMore : Type 0 where
   pub silent : (item : Item) (p : Phase) (fault : SessionFault) → run p (signs item) ≡ Err fault → said p (signs item) ≡ []
 
 pub record AServerHearsOneItemMore : Type 0 where
-  pub goes : (fed : List Item) (p : Phase) (item : Item) → server_ending fed ≡ Ok p → GoesOn fed p item
-  pub stays : (fed : List Item) (item : Item) (fault : SessionFault) → server_ending fed ≡ Err fault → Stays fed item fault
+  pub goes : (fed : List Item) (p : Phase) (item : Item) → server_ending fed ≡ Ok p → GoesOnWithItem fed p item
+  pub stays : (fed : List Item) (item : Item) (fault : SessionFault) → server_ending fed ≡ Err fault → StaysFailed fed item fault
   -- an item that brings a fault ends no call
   pub silent : (fed : List Item) (item : Item) (fault : SessionFault) → server_ending (fed ++ item ∷ []) ≡ Err fault
       → calls_of (conversation (fed ++ item ∷ [])) ≡ calls_of (conversation fed)

@@ -27,14 +27,14 @@ closed (Ok m) = Ok (inside [])
 closed (Err e) = Err (BadMessage e)
 
 -- the phase behind one more sign, or the fault that the sign brings
-abbrev pub step : Phase → Sign → Result Phase SessionFault
-step p (foreign kind) = Err (Stream kind)
-step (opening bytes) (byte b) = opened (bytes ++ b ∷ [])
-step (opening bytes) mark = Err BadVersions
-step fresh (byte b) = Ok (inside (b ∷ []))
-step fresh mark = Ok (inside [])
-step (inside bytes) (byte b) = if length bytes == most_bytes then Err (BadMessage TooLong) else Ok (inside (bytes ++ b ∷ []))
-step (inside bytes) mark = closed (message_of bytes)
+abbrev pub after_sign : Phase → Sign → Result Phase SessionFault
+after_sign p (foreign kind) = Err (Stream kind)
+after_sign (opening bytes) (byte b) = opened (bytes ++ b ∷ [])
+after_sign (opening bytes) mark = Err BadVersions
+after_sign fresh (byte b) = Ok (inside (b ∷ []))
+after_sign fresh mark = Ok (inside [])
+after_sign (inside bytes) (byte b) = if length bytes == most_bytes then Err (BadMessage TooLong) else Ok (inside (bytes ++ b ∷ []))
+after_sign (inside bytes) mark = closed (message_of bytes)
 
 abbrev pub good : Result Message MessageFault → List Message
 good (Ok m) = m ∷ []
@@ -53,7 +53,7 @@ abbrev pub ◌then◌ : {A B : Type 0} → Result A SessionFault → (A → Resu
 -- the phase that the signs lead to, or the first fault
 unfoldable pub run : Phase → List Sign → Result Phase SessionFault
 run p [] = Ok p
-run p (s ∷ ss) = step p s then λ q. run q ss
+run p (s ∷ ss) = after_sign p s then λ q. run q ss
 
 abbrev pub onwards : {A : Type 0} → Result Phase SessionFault → (Phase → List A) → List A
 onwards (Ok p) f = f p
@@ -62,4 +62,4 @@ onwards (Err e) f = []
 -- the messages that the signs end
 unfoldable pub said : Phase → List Sign → List Message
 said p [] = []
-said p (s ∷ ss) = ended p s ++ onwards (step p s) (λ q. said q ss)
+said p (s ∷ ss) = ended p s ++ onwards (after_sign p s) (λ q. said q ss)

@@ -48,15 +48,15 @@ abbrev pub UnlessMemory : SessionFault → Type 0 → Type 0
 UnlessMemory e P = Stops e (Unit {0}) P
 
 -- a function came to `new`, to which q leads; or it returned the fault of q; or memory was refused
-abbrev pub Follows : {X A : Type 0} → Result X SessionFault → Result A SessionFault → A → Type 0
-Follows (Ok x) q new = q ≡ Ok new
-Follows (Err e) q new = UnlessMemory e (q ≡ Err e)
+abbrev pub ComesTo : {X A : Type 0} → Result X SessionFault → Result A SessionFault → A → Type 0
+ComesTo (Ok x) q new = q ≡ Ok new
+ComesTo (Err e) q new = UnlessMemory e (q ≡ Err e)
 
 -- a function came to `new`, to which q leads, and ms is the message that it returned, if any; or it returned the fault
 -- of q, and ms is empty; or memory was refused
-abbrev pub Takes : {A : Type 0} → Result (Option Message) SessionFault → Result A SessionFault → List Message → A → Type 0
-Takes (Ok m) q ms new = (q ≡ Ok new) × (ms ≡ option_to_list m)
-Takes (Err e) q ms new = UnlessMemory e ((q ≡ Err e) × (ms ≡ []))
+abbrev pub ComesToWith : {A : Type 0} → Result (Option Message) SessionFault → Result A SessionFault → List Message → A → Type 0
+ComesToWith (Ok m) q ms new = (q ≡ Ok new) × (ms ≡ option_to_list m)
+ComesToWith (Err e) q ms new = UnlessMemory e ((q ≡ Err e) × (ms ≡ []))
 
 -- what a function returns of an item before it is taken: the head of the message that it ends, if it ends one, or the fault that a peer
 -- makes

@@ -7,10 +7,10 @@ ghost use Rattle.courier_messages.specs.declared.fault.SessionFault.TheVariants.
 ghost use Rattle.courier_messages.specs.Text.{byte, mark, signs, item_of};
 ghost use Rattle.courier_messages.specs.Conversation.{range_bytes, Phase, opening, fresh, inside};
 ghost use Rattle.courier_messages.specs.Message.{most_bytes};
-ghost use Rattle.courier_messages.specs.Phases.{step, ended, run, said, agreement};
-ghost use Rattle.courier_messages.specs.Bounds.{IsBounded};
+ghost use Rattle.courier_messages.specs.Phases.{after_sign, ended, run, said, agreement};
+ghost use Rattle.courier_messages.specs.Bounds.{IsWithinMessage};
 ghost use Rattle.courier_messages.specs.Inside.{phase_in, kept_at, IsHeld, IsSkipped};
-ghost use Rattle.courier_messages.specs.Refusal.{Follows, Takes, Foresees, Stops, UnlessMemory, AreRight, KeepsNothing, MayBeKept};
+ghost use Rattle.courier_messages.specs.Refusal.{ComesTo, ComesToWith, Foresees, Stops, UnlessMemory, AreRight, KeepsNothing, MayBeKept};
 
 use crate::fault::{MessageFault, SessionFault};
 use crate::front::{RANGE_BYTES, head_in, range_in, read_head_in};
@@ -54,7 +54,7 @@ impl Model for Incoming {
 }
 
 fn agree(low: u16, high: u16) -> Result<(), SessionFault>
-    ensures follows { Follows result (agreement low high) fresh }
+    ensures follows { ComesTo result (agreement low high) fresh }
     ensures memory { result ≡ Err NoMemory → ⊥ }
 {
     if low > high {
@@ -194,7 +194,7 @@ fn behind(
 /// The message that a mark behind these bytes ends, where no other bytes are kept.
 fn whole_behind<'a>(stage: Stage, skipped: usize, body: &'a [u8]) -> Option<WholeMessage<'a>>
     requires { IsHeld stage skipped (kept_at stage body.now) }
-    ensures steps { IfSome result (λ message. step (phase_in stage (drop skipped (kept_at stage body.now))) mark ≡ Ok (inside [])) }
+    ensures steps { IfSome result (λ message. after_sign (phase_in stage (drop skipped (kept_at stage body.now))) mark ≡ Ok (inside [])) }
     ensures ends { ended (phase_in stage (drop skipped (kept_at stage body.now))) mark ≡ option_to_list result }
 {
     match stage {
@@ -212,7 +212,7 @@ fn look_at_mark(
     body: &[u8],
 ) -> Result<Option<Head>, SessionFault>
     requires { IsHeld stage skipped (kept_at stage (pieces.now ++ body.now)) }
-    ensures { Foresees result (step (phase_in stage (drop skipped (kept_at stage (pieces.now ++ body.now)))) mark)
+    ensures { Foresees result (after_sign (phase_in stage (drop skipped (kept_at stage (pieces.now ++ body.now)))) mark)
         (ended (phase_in stage (drop skipped (kept_at stage (pieces.now ++ body.now)))) mark) }
 {
     match stage {
@@ -250,7 +250,7 @@ impl Incoming {
     /// Does nothing; says to a proof that the bytes that are kept are bounded.
     #[tactic(auto, using(crate::proofs::Bounds::held_bound))]
     pub fn known(&self)
-        ensures { IsBounded self.now }
+        ensures { IsWithinMessage self.now }
     {
         let _stage = self.stage;
     }
@@ -258,7 +258,7 @@ impl Incoming {
     /// Takes in more bytes.
     #[inline(always)]
     fn take_body(&mut self, body: Vec<u8>) -> Result<(), SessionFault>
-        ensures follows { Follows result (run self.old (map byte body.items)) self.new }
+        ensures follows { ComesTo result (run self.old (map byte body.items)) self.new }
         ensures memory { result ≡ Err NoMemory → self.new ≡ self.old }
         ensures kept { result ≡ Err NoMemory → MayBeKept self.old body.items }
     {
@@ -320,7 +320,7 @@ impl Incoming {
     /// Takes in a mark, and returns the message that it ends, if it ends one.
     #[inline(always)]
     fn take_mark(&mut self, alloc: Global) -> Result<Option<PiecedMessage>, SessionFault>
-        ensures takes { Takes result (step self.old mark) (ended self.old mark) self.new }
+        ensures takes { ComesToWith result (after_sign self.old mark) (ended self.old mark) self.new }
         ensures memory { result ≡ Err NoMemory → ⊥ }
     {
         match self.stage {
@@ -347,7 +347,7 @@ impl Incoming {
     #[tactic(auto, using(crate::proofs::Runs::run_append, crate::proofs::Runs::said_append, crate::proofs::Runs::run_mark, crate::proofs::Runs::said_mark, crate::proofs::Runs::said_bytes))]
     #[inline(always)]
     pub fn take(&mut self, alloc: Global, item: Item) -> Result<Option<PiecedMessage>, SessionFault>
-        ensures takes { Takes result (run self.old (signs item)) (said self.old (signs item)) self.new }
+        ensures takes { ComesToWith result (run self.old (signs item)) (said self.old (signs item)) self.new }
         ensures memory { result ≡ Err NoMemory → self.new ≡ self.old }
         ensures kept { result ≡ Err NoMemory → (item.stream ≡ 0) × MayBeKept self.old item.body }
         ensures right { OnOk result (AreRight self.old item.body) }

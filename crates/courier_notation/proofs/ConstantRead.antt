@@ -8,7 +8,7 @@ use Rattle.courier_notation.specs.declared.token.Token.TheVariants as tokens
 use Rattle.courier_notation.specs.declared.written.Reference.{Reference}
 use Rattle.courier_notation.specs.declared.written.Reference.TheVariants as references
 use Rattle.courier_notation.specs.Reading.{Fault, ◌>>=◌, Reader, over, behind_comma, others_at, listed, most_parts, reference_behind, token_at}
-use Rattle.courier_notation.specs.Programs.{long_at, begins_constant, chosen_behind, component_behind, element_at, elements_behind, constant_behind, constant_at}
+use Rattle.courier_notation.specs.Programs.{long_number, begins_constant, chosen_behind, component_behind, element_at, elements_behind, constant_behind, constant_at}
 use Rattle.courier_notation.specs.Spelling.{reference_spelling}
 use Rattle.courier_notation.specs.ProgramSpelling.{SpellsConstant, SpellsElement, SpellsElements, number, negative, quoted, is_true, is_false, named, chosen, nothing, listed as listed_elements, alone, component, last, more}
 use Rattle.courier_notation.proofs.Takes.{ok_is, bind_ok, over_ok, Takes, Takes-then, Takes-behind, Takes-one, reference_takes, others_ok, comma_is, close_bracket_is}
@@ -113,7 +113,7 @@ chosen_found depth find n ts x e =
     let a = bind_ok (reference_behind n ts) _ x e in
     choice_found depth find (tokens.Name n ∷ ts) a.0.0 a.0.1 (begins_constant a.0.1) x (reference_takes n ts a.0.0 a.0.1 a.1) a.2
 
-negative_found : (depth : ℕ) (ts : List Token) (x : Constant × List Token) → over (λ n. constants.Other) (long_at ts) ≡ Ok x → IsFound (suc depth) (tokens.Minus ∷ ts) x
+negative_found : (depth : ℕ) (ts : List Token) (x : Constant × List Token) → over (λ n. constants.Other) (long_number ts) ≡ Ok x → IsFound (suc depth) (tokens.Minus ∷ ts) x
 negative_found depth [] x e = absurd cc
 negative_found depth (tokens.Number n ∷ ts) x e =
     subst (λ (p : Constant × List Token). IsFound (suc depth) (tokens.Minus ∷ tokens.Number n ∷ ts) p) (ok_is (constants.Other, ts) x e)

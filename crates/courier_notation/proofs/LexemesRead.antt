@@ -10,7 +10,7 @@ use Rattle.courier_notation.specs.declared.reason.Reason.TheVariants as reasons
 use Rattle.courier_notation.specs.declared.token.Token.{Token}
 use Rattle.courier_notation.specs.declared.token.Token.TheVariants as tokens
 use Rattle.courier_notation.specs.Reading.{Fault}
-use Rattle.courier_notation.specs.Lexing.{is_blank, is_letter, is_digit, is_name_byte, is_no_quote, skipped, front_of, behind_front, digits_number, long_of, token_spelling, keyword_of, most_name, LexemeModel, LexemeRead, keyword_or_name, word_at, number_or_fault, number_at, quoted_ended, quoted_at, lexeme_at, lexeme_in, Lexing, nothing_read, with_lexeme, lexed_at, lexed_from, most_tokens, most_text, lexing_of}
+use Rattle.courier_notation.specs.Lexing.{is_blank, is_letter, is_digit, is_name_byte, is_no_quote, skipped, passing_front, behind_front, digits_number, long_of, token_spelling, keyword_of, most_name, LexemeModel, LexemeRead, keyword_or_name, word_lexeme, number_or_fault, number_at, quoted_ended, quoted_at, lexeme_at, lexeme_in, Lexing, nothing_read, with_lexeme, lexed_at, lexed_from, most_tokens, most_text, lexing_of}
 use Rattle.courier_notation.specs.LexemeSpelling.{lexeme_spelling, IsPlain, IsWord, IsLexeme, lexemes_spelling, lexing_with}
 use Rattle.courier_notation.specs.Laws.{SpelledLexemesAreRead}
 
@@ -19,11 +19,11 @@ both true b h = (refl, h)
 both false b h = absurd (cc)
 
 -- bytes that pass a test, up to one that fails it
-front_up : (test : ℕ → Bool) (bytes : List ℕ) (q : ℕ) (text : List ℕ) → list_all test bytes ≡ true → test q ≡ false → front_of test (bytes ++ q ∷ text) ≡ bytes
-front_up test [] q text h f = ap (λ (t : Bool). cond t (q ∷ front_of test text) []) f
+front_up : (test : ℕ → Bool) (bytes : List ℕ) (q : ℕ) (text : List ℕ) → list_all test bytes ≡ true → test q ≡ false → passing_front test (bytes ++ q ∷ text) ≡ bytes
+front_up test [] q text h f = ap (λ (t : Bool). cond t (q ∷ passing_front test text) []) f
 front_up test (b ∷ bytes) q text h f =
     let p = both (test b) (list_all test bytes) h in
-    ap (λ (t : Bool). cond t (b ∷ front_of test (bytes ++ q ∷ text)) []) p.0 ∙ ap (λ (l : List ℕ). b ∷ l) (front_up test bytes q text p.1 f)
+    ap (λ (t : Bool). cond t (b ∷ passing_front test (bytes ++ q ∷ text)) []) p.0 ∙ ap (λ (l : List ℕ). b ∷ l) (front_up test bytes q text p.1 f)
 
 behind_up : (test : ℕ → Bool) (bytes : List ℕ) (q : ℕ) (text : List ℕ) → list_all test bytes ≡ true → test q ≡ false → behind_front test (bytes ++ q ∷ text) ≡ q ∷ text
 behind_up test [] q text h f = ap (λ (t : Bool). cond t (behind_front test text) (q ∷ text)) f
@@ -69,14 +69,14 @@ named (Some t) word behind whole e h = absurd (cc)
 named None word behind whole e h =
     ap (λ (t : Bool). cond {A = LexemeRead} t (Ok (LexemeModel.name word, behind)) (Err (whole, reasons.LongName))) (le-leb (length word) most_name h)
 
-word_read : (word text : List ℕ) → list_all is_name_byte word ≡ true → keyword_of word ≡ None → length word ≤ most_name → word_at (word ++ 32 ∷ text) ≡ Ok (LexemeModel.name word, 32 ∷ text)
+word_read : (word text : List ℕ) → list_all is_name_byte word ≡ true → keyword_of word ≡ None → length word ≤ most_name → word_lexeme (word ++ 32 ∷ text) ≡ Ok (LexemeModel.name word, 32 ∷ text)
 word_read word text h k few =
     let whole = length (word ++ 32 ∷ text) in
     ap (λ (w : List ℕ). keyword_or_name (keyword_of w) w (behind_front is_name_byte (word ++ 32 ∷ text)) whole) (front_up is_name_byte word 32 text h refl)
     ∙ ap (λ (l : List ℕ). keyword_or_name (keyword_of word) word l whole) (behind_up is_name_byte word 32 text h refl)
     ∙ named (keyword_of word) word (32 ∷ text) whole k few
 
-by_letter : (b : ℕ) (bytes : List ℕ) → is_letter b ≡ true → lexeme_at b bytes ≡ word_at (b ∷ bytes)
+by_letter : (b : ℕ) (bytes : List ℕ) → is_letter b ≡ true → lexeme_at b bytes ≡ word_lexeme (b ∷ bytes)
 unfolding lexeme_at
 by_letter b bytes h = rw h refl
 
@@ -103,8 +103,8 @@ fits_long n h = ap (λ (t : Bool). cond {A = Option ℕ} t (Some n) None) (lt-lt
 digits_read : (ds text : List ℕ) (n : ℕ) → list_all is_digit ds ≡ true → digits_number 0 ds ≡ n → n < 4294967296 → number_at (ds ++ 32 ∷ text) ≡ Ok (LexemeModel.plain (tokens.Number n), 32 ∷ text)
 digits_read ds text n h e lt =
     let whole = length (ds ++ 32 ∷ text) in
-    ap (λ (l : List ℕ). number_or_fault (long_of (digits_number 0 (front_of is_digit (ds ++ 32 ∷ text)))) l whole) (behind_up is_digit ds 32 text h refl)
-    ∙ number_is (long_of (digits_number 0 (front_of is_digit (ds ++ 32 ∷ text)))) n (32 ∷ text) whole
+    ap (λ (l : List ℕ). number_or_fault (long_of (digits_number 0 (passing_front is_digit (ds ++ 32 ∷ text)))) l whole) (behind_up is_digit ds 32 text h refl)
+    ∙ number_is (long_of (digits_number 0 (passing_front is_digit (ds ++ 32 ∷ text)))) n (32 ∷ text) whole
     (ap (λ (l : List ℕ). long_of (digits_number 0 l)) (front_up is_digit ds 32 text h refl) ∙ ap long_of e ∙ fits_long n lt)
 
 by_digit : (b : ℕ) (bytes : List ℕ) → is_digit b ≡ true → lexeme_at b bytes ≡ number_at (b ∷ bytes)

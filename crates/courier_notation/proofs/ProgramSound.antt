@@ -10,7 +10,7 @@ use Rattle.courier_notation.specs.declared.written.Reference.{Reference}
 use Rattle.courier_notation.specs.Written.{fields_from}
 use Rattle.courier_notation.specs.ProgramModels.{DeclaredModel, FieldList, ProgramModel}
 use Rattle.courier_notation.specs.Reading.{Fault, ◌>>=◌, over, listed, most_parts, token_at, name_at, fields_behind, fields_at, type_at}
-use Rattle.courier_notation.specs.Programs.{most_depth, long_at, small_at, constant_at, arguments_at, results_at, reference_at, reports_at}
+use Rattle.courier_notation.specs.Programs.{most_depth, long_number, small_at, constant_at, arguments_at, results_at, reference_at, reports_at}
 use Rattle.courier_notation.specs.Programs.{procedure_behind, error_behind, type_declared, constant_declared, declared_at, declaration_at, is_end, most_declarations, declarations_at, dependency_at, dependencies_at, nothing_at, Header, header_at, body_at, program_with, program_of}
 use Rattle.courier_notation.specs.Spelling.{reference_spelling, parts_spelling, type_spelling, fields_spelling, AreParts}
 use Rattle.courier_notation.specs.ProgramSpelling.{SpellsFields, SaysNothing, SpellsArguments, SpellsResults, SpellsReports, numbered, SpellsDeclared, SpellsDeclaration, SpellsDeclarations, dependency_spelling, IsDependency, SpellsDependencies, SpellsProgram}
@@ -24,7 +24,7 @@ use Rattle.courier_notation.proofs.ConstantRead.{constant_takes}
 abbrev number_spelling : ℕ → List Token
 number_spelling n = tokens.Number n ∷ []
 
-long_takes : IsSound number_spelling Any long_at
+long_takes : IsSound number_spelling Any long_number
 long_takes [] n rest e = absurd cc
 long_takes (tokens.Number m ∷ ts) n rest e = subst (λ (p : ℕ × List Token). Takes (tokens.Number m ∷ ts) (number_spelling p.0) p.1 × Unit {0}) (ok_is (m, ts) (n, rest) e) (record { parts = refl }, tt)
 long_takes (t ∷ ts) n rest e = absurd cc
@@ -32,7 +32,7 @@ long_takes (t ∷ ts) n rest e = absurd cc
 small_takes : IsSound number_spelling IsSmall small_at
 unfolding small_at
 small_takes ts n rest e =
-    let a = bind_ok (long_at ts) _ (n, rest) e in
+    let a = bind_ok (long_number ts) _ (n, rest) e in
     let t = long_takes ts a.0.0 a.0.1 a.1 in
     let s = small_behind_takes a.0.0 a.0.1 (n, rest) a.2 in
     (record { parts = t.0.parts ∙ s.0.parts }, s.1)
@@ -232,7 +232,7 @@ unfolding dependency_at
 dependency_takes ts x rest e =
     let a = bind_ok (name_at ts) _ (x, rest) e in
     let b = bind_ok (token_at tokens.OpenParenthesis reasons.NoOpenParenthesis a.0.1) _ (x, rest) a.2 in
-    let c = bind_ok (long_at b.0) _ (x, rest) b.2 in
+    let c = bind_ok (long_number b.0) _ (x, rest) b.2 in
     let d = bind_ok (token_at tokens.CloseParenthesis reasons.NoCloseParenthesis c.0.1) _ (x, rest) c.2 in
     let f = bind_ok (token_at tokens.Version reasons.NoVersion d.0) _ (x, rest) d.2 in
     let g = bind_ok (small_at f.0) _ (x, rest) f.2 in
@@ -281,7 +281,7 @@ header_takes ts x rest e =
     let a = bind_ok (name_at ts) _ (x, rest) e in
     let b = bind_ok (token_at tokens.Colon reasons.NoColon a.0.1) _ (x, rest) a.2 in
     let c = bind_ok (token_at tokens.Program reasons.NoProgram b.0) _ (x, rest) b.2 in
-    let d = bind_ok (long_at c.0) _ (x, rest) c.2 in
+    let d = bind_ok (long_number c.0) _ (x, rest) c.2 in
     let f = bind_ok (token_at tokens.Version reasons.NoVersion d.0.1) _ (x, rest) d.2 in
     let g = bind_ok (small_at f.0) _ (x, rest) f.2 in
     let h = bind_ok (token_at tokens.Equal reasons.NoEqual g.0.1) _ (x, rest) g.2 in

@@ -42,9 +42,9 @@ skipped is_comment (b ∷ c ∷ bytes) =
 -- ---- words
 
 -- the longest front whose bytes pass the test, and what stands behind it
-abbrev pub front_of : (ℕ → Bool) → List ℕ → List ℕ
-front_of test [] = []
-front_of test (b ∷ bytes) = if test b then b ∷ front_of test bytes else []
+abbrev pub passing_front : (ℕ → Bool) → List ℕ → List ℕ
+passing_front test [] = []
+passing_front test (b ∷ bytes) = if test b then b ∷ passing_front test bytes else []
 
 abbrev pub behind_front : (ℕ → Bool) → List ℕ → List ℕ
 behind_front test [] = []
@@ -153,9 +153,9 @@ keyword_or_name (Some token) word behind whole = Ok (LexemeModel.plain token, be
 keyword_or_name None word behind whole =
     if nat_le (length word) most_name then Ok (LexemeModel.name word, behind) else Err (whole, reasons.LongName)
 
-abbrev pub word_at : List ℕ → LexemeRead
-word_at bytes =
-    let word = front_of is_name_byte bytes in
+abbrev pub word_lexeme : List ℕ → LexemeRead
+word_lexeme bytes =
+    let word = passing_front is_name_byte bytes in
     keyword_or_name (keyword_of word) word (behind_front is_name_byte bytes) (length bytes)
 
 abbrev pub number_or_fault : Option ℕ → List ℕ → ℕ → LexemeRead
@@ -163,7 +163,7 @@ number_or_fault (Some number) behind whole = Ok (LexemeModel.plain (tokens.Numbe
 number_or_fault None behind whole = Err (whole, reasons.HugeNumber)
 
 abbrev pub number_at : List ℕ → LexemeRead
-number_at bytes = number_or_fault (long_of (digits_number 0 (front_of is_digit bytes))) (behind_front is_digit bytes) (length bytes)
+number_at bytes = number_or_fault (long_of (digits_number 0 (passing_front is_digit bytes))) (behind_front is_digit bytes) (length bytes)
 
 abbrev pub is_no_quote : ℕ → Bool
 is_no_quote byte = not (byte == 34)
@@ -174,7 +174,7 @@ quoted_ended string [] whole = Err (whole, reasons.OpenString)
 quoted_ended string (quote ∷ bytes) whole = Ok (LexemeModel.quoted string, bytes)
 
 abbrev pub quoted_at : List ℕ → LexemeRead
-quoted_at bytes = quoted_ended (front_of is_no_quote bytes) (behind_front is_no_quote bytes) (length bytes + 1)
+quoted_at bytes = quoted_ended (passing_front is_no_quote bytes) (behind_front is_no_quote bytes) (length bytes + 1)
 
 -- an arrow, or an equals sign alone, from what stands behind the equals sign
 abbrev pub equal_at : List ℕ → LexemeRead
@@ -188,7 +188,7 @@ mark_at None bytes = Err (length bytes + 1, reasons.BadByte)
 -- the first lexeme of a text that begins with no blank
 unfoldable pub lexeme_at : ℕ → List ℕ → LexemeRead
 lexeme_at b bytes =
-    if is_letter b then word_at (b ∷ bytes) else if is_digit b then number_at (b ∷ bytes) else
+    if is_letter b then word_lexeme (b ∷ bytes) else if is_digit b then number_at (b ∷ bytes) else
     if b == 34 then quoted_at bytes else if b == 61 then equal_at bytes else mark_at (mark_of b) bytes
 
 abbrev pub lexeme_in : List ℕ → LexemeRead

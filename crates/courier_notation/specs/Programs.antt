@@ -18,13 +18,13 @@ most_depth = MOST_DEPTH
 -- ---- numbers
 
 -- a number of two words
-abbrev pub long_at : Reader ℕ
-long_at (tokens.Number n ∷ ts) = Ok (n, ts)
-long_at ts = Err (length ts, reasons.NoNumber)
+abbrev pub long_number : Reader ℕ
+long_number (tokens.Number n ∷ ts) = Ok (n, ts)
+long_number ts = Err (length ts, reasons.NoNumber)
 
 -- a number of one word
 unfoldable pub small_at : Reader ℕ
-small_at ts = long_at ts >>= λ n. small_or_fault n.0 n.1
+small_at ts = long_number ts >>= λ n. small_or_fault n.0 n.1
 
 -- ---- constants
 
@@ -69,7 +69,7 @@ constant_behind one (tokens.Quoted n) ts = Ok (constants.Other, ts)
 constant_behind one (tokens.Name n) ts = chosen_behind one n ts
 constant_behind one tokens.True ts = Ok (constants.Other, ts)
 constant_behind one tokens.False ts = Ok (constants.Other, ts)
-constant_behind one tokens.Minus ts = over (λ n. constants.Other) (long_at ts)
+constant_behind one tokens.Minus ts = over (λ n. constants.Other) (long_number ts)
 constant_behind one tokens.OpenBracket ts = elements_behind one ts
 constant_behind one _ ts = Err (length ts + 1, reasons.NoConstant)
 
@@ -165,7 +165,7 @@ unfoldable pub dependency_at : Reader Dependency
 dependency_at ts = do
   name ← name_at ts
   inside ← token_at tokens.OpenParenthesis reasons.NoOpenParenthesis name.1
-  number ← long_at inside
+  number ← long_number inside
   rest ← token_at tokens.CloseParenthesis reasons.NoCloseParenthesis number.1
   behind ← token_at tokens.Version reasons.NoVersion rest
   version ← small_at behind
@@ -194,7 +194,7 @@ header_at ts = do
   name ← name_at ts
   t1 ← token_at tokens.Colon reasons.NoColon name.1
   t2 ← token_at tokens.Program reasons.NoProgram t1
-  number ← long_at t2
+  number ← long_number t2
   t3 ← token_at tokens.Version reasons.NoVersion number.1
   version ← small_at t3
   t4 ← token_at tokens.Equal reasons.NoEqual version.1

@@ -4,7 +4,7 @@ ghost use Rattle.courier_notation.specs.declared.declared.Constant.TheVariants.{
 ghost use Rattle.courier_notation.specs.Reading.{Reads, listed, most_parts, over, passed};
 ghost use Rattle.courier_notation.specs.Programs.{begins_constant as begins_constant_of, chosen_behind};
 ghost use Rattle.courier_notation.specs.Programs.{component_behind, constant_at, constant_behind, element_at};
-ghost use Rattle.courier_notation.specs.Programs.{elements_behind, long_at};
+ghost use Rattle.courier_notation.specs.Programs.{elements_behind, long_number};
 
 use crate::declared::Constant;
 use crate::limits::MOST_PARTS;
@@ -103,7 +103,7 @@ fn elements_inside(depth: usize, tokens: &[Token]) -> Result<(Constant, &[Token]
 
 /// A number behind a minus sign.
 fn negative_of(tokens: &[Token]) -> Result<(Constant, &[Token]), Stop>
-    ensures { Reads (λ x. (x.0, x.1.now)) result (over (λ n. Other) (long_at tokens.now)) }
+    ensures { Reads (λ x. (x.0, x.1.now)) result (over (λ n. Other) (long_number tokens.now)) }
 {
     let (_number, rest) = long_of(tokens)?;
     Ok((Constant::Other, rest))

@@ -1,9 +1,9 @@
 //! The first lexeme of a text.
 ghost use Rattle.std.specs.Prelude.{◌≡◌, ◌∷◌, ◌<◌, ◌≤◌, ◌==◌, ◌&&◌, ◌||◌, ℕ, Bool, false, length};
 ghost use Rattle.courier_notation.specs.Lexing.{digits_number, long_of, behind_front, is_blank as is_blank_of};
-ghost use Rattle.courier_notation.specs.Lexing.{equal_at, front_of, is_digit as is_digit_of};
+ghost use Rattle.courier_notation.specs.Lexing.{equal_at, passing_front, is_digit as is_digit_of};
 ghost use Rattle.courier_notation.specs.Lexing.{is_name_byte as is_name_byte_of, is_no_quote, lexeme_at, lexeme_in};
-ghost use Rattle.courier_notation.specs.Lexing.{lexeme_view, mark_at, number_at, quoted_at, skipped, word_at};
+ghost use Rattle.courier_notation.specs.Lexing.{lexeme_view, mark_at, number_at, quoted_at, skipped, word_lexeme};
 ghost use Rattle.courier_notation.specs.Reading.{Reads};
 
 use crate::bytes::{is_blank, is_digit, is_letter, is_line_end, is_name_byte};
@@ -75,7 +75,7 @@ fn behind_last(is_comment: bool, rest: &[u8]) -> &[u8]
 /// The bytes that stand first and pass the test, and what is behind them.
 fn front_and_rest<F: Fn(u8) -> bool>(bytes: &[u8], passes: F) -> (&[u8], &[u8])
     requires { F.IsAlwaysCallable passes }
-    ensures front { (test : ℕ → Bool) → ((byte : ℕ) (r : Bool) → F.post passes byte r → test byte ≡ r) → result.0.now ≡ front_of test bytes.now }
+    ensures front { (test : ℕ → Bool) → ((byte : ℕ) (r : Bool) → F.post passes byte r → test byte ≡ r) → result.0.now ≡ passing_front test bytes.now }
     ensures rest { (test : ℕ → Bool) → ((byte : ℕ) (r : Bool) → F.post passes byte r → test byte ≡ r) → result.1.now ≡ behind_front test bytes.now }
 {
     for (i, byte) in bytes.iter().enumerate() {
@@ -88,7 +88,7 @@ fn front_and_rest<F: Fn(u8) -> bool>(bytes: &[u8], passes: F) -> (&[u8], &[u8])
 
 /// The letters and digits that stand first, and what is behind them.
 fn name_and_rest(bytes: &[u8]) -> (&[u8], &[u8])
-    ensures front { result.0.now ≡ front_of is_name_byte_of bytes.now }
+    ensures front { result.0.now ≡ passing_front is_name_byte_of bytes.now }
     ensures rest { result.1.now ≡ behind_front is_name_byte_of bytes.now }
 {
     front_and_rest(bytes, is_name_byte)
@@ -96,7 +96,7 @@ fn name_and_rest(bytes: &[u8]) -> (&[u8], &[u8])
 
 /// The digits that stand first, and what is behind them.
 fn digits_and_rest(bytes: &[u8]) -> (&[u8], &[u8])
-    ensures front { result.0.now ≡ front_of is_digit_of bytes.now }
+    ensures front { result.0.now ≡ passing_front is_digit_of bytes.now }
     ensures rest { result.1.now ≡ behind_front is_digit_of bytes.now }
 {
     front_and_rest(bytes, is_digit)
@@ -104,7 +104,7 @@ fn digits_and_rest(bytes: &[u8]) -> (&[u8], &[u8])
 
 /// What stands before the first quote, and the rest from it on.
 fn string_and_rest(bytes: &[u8]) -> (&[u8], &[u8])
-    ensures front { result.0.now ≡ front_of is_no_quote bytes.now }
+    ensures front { result.0.now ≡ passing_front is_no_quote bytes.now }
     ensures rest { result.1.now ≡ behind_front is_no_quote bytes.now }
 {
     front_and_rest(bytes, |byte| byte != b'"')
@@ -126,7 +126,7 @@ fn number_of(digits: &[u8]) -> Option<u32>
 
 /// A keyword or a name.
 fn word_of(bytes: &[u8]) -> Result<(Lexeme<'_>, &[u8]), Stop>
-    ensures { Reads (λ x. (lexeme_view x.0, x.1.now)) result (word_at bytes.now) }
+    ensures { Reads (λ x. (lexeme_view x.0, x.1.now)) result (word_lexeme bytes.now) }
 {
     let (word, rest) = name_and_rest(bytes);
     match keyword_of(word) {

@@ -3,7 +3,7 @@ ghost use Rattle.std.specs.Prelude.{IsOk};
 ghost use Rattle.courier_notation.specs.Reading.{Gives, IfNoMemory, Reads, designator_at, designator_behind, listed, maximum_at};
 ghost use Rattle.courier_notation.specs.Reading.{member_at, most_parts, name_at, numeric_at, reference_behind};
 ghost use Rattle.courier_notation.specs.Reading.{small_or_fault, tag_at};
-ghost use Rattle.courier_notation.specs.Programs.{long_at, reference_at, small_at};
+ghost use Rattle.courier_notation.specs.Programs.{long_number, reference_at, small_at};
 
 use crate::marks::{behind, wrong};
 use crate::part::{Part, parts_of};
@@ -176,7 +176,7 @@ pub fn maximum_of(tokens: &[Token]) -> Result<(Option<Numeric>, &[Token]), Stop>
 
 /// A number.
 pub fn long_of(tokens: &[Token]) -> Result<(u32, &[Token]), Stop>
-    ensures { Reads (λ x. (x.0, x.1.now)) result (long_at tokens.now) }
+    ensures { Reads (λ x. (x.0, x.1.now)) result (long_number tokens.now) }
 {
     match tokens {
         [Token::Number(number), rest @ ..] => Ok((*number, rest)),

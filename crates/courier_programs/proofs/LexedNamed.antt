@@ -5,7 +5,7 @@ use Rattle.std.specs.List.{list_all}
 use Rattle.std.specs.Str.{bytes_eq}
 use Rattle.courier_notation.specs.declared.token.Token.{Token}
 use Rattle.courier_notation.specs.declared.token.Token.TheVariants as tokens
-use Rattle.courier_notation.specs.Lexing.{LexemeModel, LexemeRead, Lexing, behind_front, digits_number, equal_at, front_of, is_digit, is_letter, is_name_byte, is_no_quote, keyword_of, keyword_or_name, keywords, lexed_at, lexed_from, lexeme_at, lexeme_in, lexing_of, long_of, mark_at, mark_of, most_name, most_text, most_tokens, nothing_read, number_or_fault, quoted_ended, skipped, token_among, token_spelling, with_lexeme}
+use Rattle.courier_notation.specs.Lexing.{LexemeModel, LexemeRead, Lexing, behind_front, digits_number, equal_at, passing_front, is_digit, is_letter, is_name_byte, is_no_quote, keyword_of, keyword_or_name, keywords, lexed_at, lexed_from, lexeme_at, lexeme_in, lexing_of, long_of, mark_at, mark_of, most_name, most_text, most_tokens, nothing_read, number_or_fault, quoted_ended, skipped, token_among, token_spelling, with_lexeme}
 use Rattle.courier_notation.specs.ProgramModels.{ProgramModel}
 use Rattle.courier_notation.specs.Programs.{program_of}
 use Rattle.courier_notation.specs.Reading.{Fault}
@@ -102,18 +102,18 @@ front_step : (t : Bool) (b : ℕ) (rest : List ℕ) → (t ≡ true → is_plain
 front_step true b rest plain more = and_true (is_plain b) (list_all is_plain rest) (plain refl) more
 front_step false b rest plain more = refl
 
-front_is_plain : (bytes : List ℕ) → list_all is_plain (front_of is_name_byte bytes) ≡ true
+front_is_plain : (bytes : List ℕ) → list_all is_plain (passing_front is_name_byte bytes) ≡ true
 front_is_plain [] = refl
-front_is_plain (b ∷ bytes) = front_step (is_name_byte b) b (front_of is_name_byte bytes) (name_byte_is_plain b) (front_is_plain bytes)
+front_is_plain (b ∷ bytes) = front_step (is_name_byte b) b (passing_front is_name_byte bytes) (name_byte_is_plain b) (front_is_plain bytes)
 
 word_step : (t : Bool) (b : ℕ) (rest : List ℕ) → t ≡ true → is_plain b ≡ true → list_all is_plain rest ≡ true → is_plain_name (cond t (b ∷ rest) []) ≡ true
 word_step true b rest test plain more = and_true (is_plain b) (list_all is_plain rest) plain more
 word_step false b rest test plain more = absurd (cc)
 
-word_is_plain : (b : ℕ) (bytes : List ℕ) → is_letter b ≡ true → is_plain_name (front_of is_name_byte (b ∷ bytes)) ≡ true
+word_is_plain : (b : ℕ) (bytes : List ℕ) → is_letter b ≡ true → is_plain_name (passing_front is_name_byte (b ∷ bytes)) ≡ true
 word_is_plain b bytes letter =
     let test = letter_is_name_byte b letter in
-    word_step (is_name_byte b) b (front_of is_name_byte bytes) test (name_byte_is_plain b test) (front_is_plain bytes)
+    word_step (is_name_byte b) b (passing_front is_name_byte bytes) test (name_byte_is_plain b test) (front_is_plain bytes)
 
 keyword_fine : (o : Option Token) (word behind : List ℕ) (whole : ℕ) → IfNoName o → is_plain_name word ≡ true → ReadsFine (keyword_or_name o word behind whole)
 keyword_fine (Some t) word behind whole none plain = fine (LexemeModel.plain t) behind none
@@ -139,9 +139,9 @@ lexeme_fine : (bytes : List ℕ) → ReadsFine (lexeme_in bytes)
 unfolding lexeme_at
 lexeme_fine [] = refused _
 lexeme_fine (b ∷ bytes) =
-    by_test (is_letter b) _ _ (λ letter. keyword_fine (keyword_of (front_of is_name_byte (b ∷ bytes))) (front_of is_name_byte (b ∷ bytes)) _ _ (keyword_is_no_name (front_of is_name_byte (b ∷ bytes))) (word_is_plain b bytes letter))
-    (by_test (is_digit b) _ _ (λ _. number_fine (long_of (digits_number 0 (front_of is_digit (b ∷ bytes)))) _ _)
-    (by_test (b == 34) _ _ (λ _. quoted_fine (front_of is_no_quote bytes) (behind_front is_no_quote bytes) _)
+    by_test (is_letter b) _ _ (λ letter. keyword_fine (keyword_of (passing_front is_name_byte (b ∷ bytes))) (passing_front is_name_byte (b ∷ bytes)) _ _ (keyword_is_no_name (passing_front is_name_byte (b ∷ bytes))) (word_is_plain b bytes letter))
+    (by_test (is_digit b) _ _ (λ _. number_fine (long_of (digits_number 0 (passing_front is_digit (b ∷ bytes)))) _ _)
+    (by_test (b == 34) _ _ (λ _. quoted_fine (passing_front is_no_quote bytes) (behind_front is_no_quote bytes) _)
     (by_test (b == 61) _ _ (λ _. equal_fine bytes) (mark_fine (mark_of b) bytes (mark_is_no_name b)))))
 
 -- ---- tokens

@@ -9,6 +9,7 @@
 mod bytes;
 mod copying;
 mod declarations;
+mod distinct;
 mod finding;
 pub mod laws;
 pub mod limits;

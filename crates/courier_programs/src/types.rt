@@ -8,11 +8,12 @@ ghost use Rattle.courier_programs.specs.Memory.{ResolvedTypeWants};
 ghost use Rattle.courier_programs.specs.Refused.{Finds, Gives, IfNoMemory, over, steps};
 ghost use Rattle.courier_programs.specs.Scopes.{env, spent, type_named as type_named_of, word_of as word_of_numeric};
 ghost use Rattle.courier_programs.specs.Types.{array_meant, candidate_group, candidate_step, candidates_meant, candidates_seen, choice_meant, component_step};
-ghost use Rattle.courier_programs.specs.Types.{components_meant, enumeration_meant, fields_meant, has_name as has_name_in, maximum_of as maximum_in, named_part as named_part_of, once as once_in};
+ghost use Rattle.courier_programs.specs.Types.{components_meant, enumeration_meant, fields_meant, maximum_of as maximum_in, named_part as named_part_of};
 ghost use Rattle.courier_programs.specs.Types.{referred as referred_in, sequence_meant, tag_members as tag_members_of, type_level_meant, type_meant};
 
-use crate::bytes::{is_same, text};
+use crate::bytes::text;
 use crate::copying::copy_of;
+use crate::distinct::all_once;
 use crate::members::{chosen_of, members_of, tag_members};
 use crate::name_reason::NameReason;
 use crate::refusal::{Refusal, wrong};
@@ -20,40 +21,6 @@ use crate::scope::{Scope, spend, type_named, word_of};
 use courier_notation::{Numeric, Reference, WrittenType};
 use courier_texts::Named;
 use std::alloc::Global;
-
-/// Whether the name is one of the names that were seen.
-fn has_name(scope: &Scope, seen: &[u32], name: u32) -> bool
-    ensures { result ≡ has_name_in (env scope.now) seen.now name }
-{
-    for other in seen {
-        if is_same(text(scope.names, *other), text(scope.names, name)) {
-            return true;
-        }
-    }
-    false
-}
-
-/// Puts a name behind those that it must differ from.
-fn once(scope: &Scope, seen: &mut Vec<u32>, name: u32) -> Result<(), Refusal>
-    ensures exact { Gives (λ _. seen.new.items) result (once_in (env scope.now) seen.old.items name) }
-    ensures memory { IfNoMemory result (IsOk (once_in (env scope.now) seen.old.items name)) }
-{
-    if has_name(scope, seen, name) {
-        return Err(wrong(name, NameReason::DoubledName));
-    }
-    seen.push(name)?;
-    Ok(())
-}
-
-fn all_once(scope: &Scope, seen: &mut Vec<u32>, names: &[u32]) -> Result<(), Refusal>
-    ensures exact { Gives (λ _. seen.new.items) result (steps (once_in (env scope.now)) seen.old.items names.now) }
-    ensures memory { IfNoMemory result (0 < length names.now) }
-{
-    for name in names {
-        once(scope, seen, *name)?;
-    }
-    Ok(())
-}
 
 /// The maximum of a sequence, which is 65,535 where none is written.
 fn maximum_of(scope: &Scope, most: Option<Numeric>) -> Result<u16, Refusal>

@@ -17,7 +17,7 @@ use Rattle.courier_messages.specs.Cutting.{cut, versions_item}
 use Rattle.courier_messages.specs.Laws.{IsShort, OneItemMore, AServerHearsOneItemMore}
 use Rattle.courier_messages.specs.Message.{most_words, message_words}
 use Rattle.courier_messages.specs.Phases.{run, said, ◌then◌}
-use Rattle.courier_messages.specs.Called.{all_calls, heard, server_ending}
+use Rattle.courier_messages.specs.Called.{all_calls, called_ending, server_ending}
 use Rattle.courier_messages.specs.Text.{signs}
 use Rattle.courier_sessions.proofs.Done.{two_are_no_one, none_there}
 use Rattle.courier_sessions.specs.declared.program.Program.{Program}
@@ -29,7 +29,7 @@ use Rattle.courier_sessions.specs.Answering.{with_answer_out}
 use Rattle.courier_sessions.specs.declared.answer.Answer.{Answer}
 use Rattle.courier_sessions.specs.declared.answer.Answer.TheVariants as kinds
 use Rattle.courier_sessions.specs.declared.answer_refusal.AnswerRefusal.TheVariants as refusals
-use Rattle.courier_sessions.specs.Answerings.{HasAnswered, IsAnswer, is_listed}
+use Rattle.courier_sessions.specs.Answerings.{HasAnswered, IsAnswer, is_answerable}
 
 pub start : (programs : List Program) → HasAnswered programs [] [] [] [] [] (new_answering programs)
 unfolding conversation conversation_fault ending all_calls
@@ -63,15 +63,15 @@ gives programs fed given taken handed answers a x xs h e = record {
 }
 
 listed_by : (old programs : List Program) (m : Message) (o : Option Unlisted) → old ≡ programs → why_unlisted old m ≡ o →
-    is_listed programs m ≡ not (is_some o)
-listed_by old programs m o e f = ap (λ (ps : List Program). is_listed ps m) (sym e) ∙ ap (λ (u : Option Unlisted). not (is_some u)) f
+    is_answerable programs m ≡ not (is_some o)
+listed_by old programs m o e f = ap (λ (ps : List Program). is_answerable ps m) (sym e) ∙ ap (λ (u : Option Unlisted). not (is_some u)) f
 
 pub hands : (programs : List Program) (fed given : List Item) (taken handed answers : List Message) (a : Answering) (m : Message) →
     HasAnswered programs fed given taken handed answers a → a.call ≡ Some m → why_unlisted a.programs m ≡ None →
     HasAnswered programs fed given (taken ++ m ∷ []) (handed ++ m ∷ []) answers (after_call a m)
 hands programs fed given taken handed answers a m h e fine =
     let none : a.asked ≡ None = subst (λ (o : Option Message). IfSome o (λ n. a.asked ≡ None)) e h.single in
-    let right : is_listed programs m ≡ true = listed_by a.programs programs m None h.table fine in
+    let right : is_answerable programs m ≡ true = listed_by a.programs programs m None h.table fine in
     let before : map transaction_in taken ≡ map transaction_in answers = h.numbers
     ∙ ap (λ (o : Option ℕ). map transaction_in answers ++ option_to_list o) none ∙ append-nil (map transaction_in answers) in
     record {
@@ -82,7 +82,7 @@ hands programs fed given taken handed answers a m h e fine =
       numbers = map-append transaction_in taken (m ∷ []) ∙ ap (λ (ks : List ℕ). ks ++ transaction_in m ∷ []) before;
       calls = append-nil (taken ++ m ∷ []) ∙ ap (λ (o : Option Message). taken ++ option_to_list o) (sym e) ∙ h.calls;
       listed = ap (λ (ms : List Message). ms ++ m ∷ []) h.listed ∙ sym
-          (filter-append (is_listed programs) taken (m ∷ []) ∙ ap (λ (b : Bool). filter (is_listed programs) taken ++ cond b (m ∷ [])
+          (filter-append (is_answerable programs) taken (m ∷ []) ∙ ap (λ (b : Bool). filter (is_answerable programs) taken ++ cond b (m ∷ [])
           []) right);
       single = tt;
       ending = h.ending;
@@ -111,7 +111,7 @@ rejects programs fed given taken handed answers a m u h e refused =
     let none : a.asked ≡ None = subst (λ (o : Option Message). IfSome o (λ n. a.asked ≡ None)) e h.single in
     let before : map transaction_in taken ≡ map transaction_in answers = h.numbers
     ∙ ap (λ (o : Option ℕ). map transaction_in answers ++ option_to_list o) none ∙ append-nil (map transaction_in answers) in
-    let wrong : is_listed programs m ≡ false = listed_by a.programs programs m (Some u) h.table refused in
+    let wrong : is_answerable programs m ≡ false = listed_by a.programs programs m (Some u) h.table refused in
     let more : map transaction_in (answers ++ reject ∷ []) ≡ map transaction_in answers ++ transaction_in m ∷ [] =
     map-append transaction_in answers (reject ∷ []) ∙ ap (λ (n : ℕ). map transaction_in answers ++ n ∷ [])
     (reject_number (transaction_in m) u) in
@@ -125,9 +125,9 @@ rejects programs fed given taken handed answers a m u h e refused =
           ∙ sym (append-nil (map transaction_in (answers ++ reject ∷ [])))
           ∙ ap (λ (o : Option ℕ). map transaction_in (answers ++ reject ∷ []) ++ option_to_list o) (sym none);
       calls = append-nil (taken ++ m ∷ []) ∙ ap (λ (o : Option Message). taken ++ option_to_list o) (sym e) ∙ h.calls;
-      listed = h.listed ∙ sym (filter-append (is_listed programs) taken (m ∷ [])
-          ∙ ap (λ (b : Bool). filter (is_listed programs) taken ++ cond b (m ∷ []) []) wrong
-          ∙ append-nil (filter (is_listed programs) taken));
+      listed = h.listed ∙ sym (filter-append (is_answerable programs) taken (m ∷ [])
+          ∙ ap (λ (b : Bool). filter (is_answerable programs) taken ++ cond b (m ∷ []) []) wrong
+          ∙ append-nil (filter (is_answerable programs) taken));
       single = tt;
       ending = h.ending;
     }
@@ -241,7 +241,7 @@ pub feeds : (law : OneItemMore) (server : AServerHearsOneItemMore) (programs : L
 feeds law server programs fed given taken handed answers a n x h free is =
     let idle = idle_by (is_some a.call) (is_some a.asked) (has_items a.out) free in
     let ms : List Message = said a.phase (signs x) in
-    let t = then_is (heard ms (run a.phase (signs x))) (λ p. with_call (record a { phase = p }) ms) n is in
+    let t = then_is (called_ending ms (run a.phase (signs x))) (λ p. with_call (record a { phase = p }) ms) n is in
     feeds_by law server programs fed given taken handed answers a n x t.0 ms h (none_there a.call idle.0) (none_there a.asked idle.1) refl
     ((server.goes fed a.phase x h.ending).ends ∙ t.1) t.2
 
@@ -256,5 +256,5 @@ pub stops : (server : AServerHearsOneItemMore) (programs : List Program) (fed gi
     server_ending (fed ++ x ∷ []) ≡ Err e
 stops server programs fed given taken handed answers a x e h is =
     let ms : List Message = said a.phase (signs x) in
-    (server.goes fed a.phase x h.ending).ends ∙ then_fault (heard ms (run a.phase (signs x)))
+    (server.goes fed a.phase x h.ending).ends ∙ then_fault (called_ending ms (run a.phase (signs x)))
     (λ p. with_call (record a { phase = p }) ms) e is

@@ -7,7 +7,7 @@ use Rattle.courier_messages.specs.declared.fault.MessageFault.{MessageFault}
 use Rattle.courier_messages.specs.declared.message.Message.{Message}
 use Rattle.courier_messages.specs.Message.{message_of}
 use Rattle.courier_messages.specs.Conversation.{Phase, opening, fresh, inside}
-use Rattle.courier_messages.specs.Phases.{step, closed, run, ◌then◌}
+use Rattle.courier_messages.specs.Phases.{after_sign, closed, run, ◌then◌}
 use Rattle.courier_messages.specs.Refusal.{KeepsNothing}
 use Rattle.courier_messages.specs.Text.{Sign, byte, mark, foreign, signs, end_of}
 use Rattle.courier_messages.proofs.Runs.{run_append, run_mark}
@@ -17,7 +17,7 @@ closed_keeps (Ok m) q is = let e : inside [] ≡ q = cc in rw (← e) refl
 closed_keeps (Err f) q is = absurd cc
 
 -- nothing is kept behind a mark
-marked : (p q : Phase) → step p mark ≡ Ok q → KeepsNothing q
+marked : (p q : Phase) → after_sign p mark ≡ Ok q → KeepsNothing q
 marked (opening bytes) q is = absurd cc
 marked fresh q is = let e : inside [] ≡ q = cc in rw (← e) refl
 marked (inside bytes) q is = closed_keeps (message_of bytes) q is

@@ -9,7 +9,7 @@ use Rattle.courier_messages.specs.declared.message.Message.{Message}
 use Rattle.courier_messages.specs.declared.message.Message.TheVariants.{Call, Reject, Return, Abort}
 use Rattle.courier_messages.specs.Conversation.{Phase}
 use Rattle.courier_messages.specs.Phases.{run, said, ◌then◌}
-use Rattle.courier_messages.specs.Refusal.{Follows, Stops, UnlessMemory}
+use Rattle.courier_messages.specs.Refusal.{ComesTo, Stops, UnlessMemory}
 use Rattle.courier_messages.specs.Called.{all_calls}
 use Rattle.courier_messages.specs.Text.{signs}
 use Rattle.courier_sessions.specs.Answering.{Answering, after_messages, after_item, is_a_call}
@@ -63,6 +63,6 @@ stops_by : (a : Answering) (x y : Item) (e : SessionFault) → y ≡ x → (run 
 stops_by a x y e same h = item_is a x y [] (Err e) same h.0 h.1 ∙ nothing_said a (Err e)
 
 pub stopped : (a n : Answering) (x y : Item) (e : SessionFault) (r : Result (Unit {0}) SessionFault) → r ≡ Err e → y ≡ x →
-    UnlessMemory e ((run a.phase (signs y) ≡ Err e) × (said a.phase (signs y) ≡ [])) → Follows r (after_item a x) n
-stopped a n x y e r is same h = subst (λ (r : Result (Unit {0}) SessionFault). Follows r (after_item a x) n) (sym is)
+    UnlessMemory e ((run a.phase (signs y) ≡ Err e) × (said a.phase (signs y) ≡ [])) → ComesTo r (after_item a x) n
+stopped a n x y e r is same h = subst (λ (r : Result (Unit {0}) SessionFault). ComesTo r (after_item a x) n) (sym is)
     (weaker e (λ u. u) (stops_by a x y e same) h)

@@ -10,7 +10,7 @@ use Rattle.courier_messages.specs.Conversation.{Phase, opening}
 use Rattle.courier_messages.specs.Cutting.{cut, versions_item}
 use Rattle.courier_messages.specs.Message.{most_words, message_words}
 use Rattle.courier_messages.specs.Phases.{run, said, ◌then◌}
-use Rattle.courier_messages.specs.Called.{heard}
+use Rattle.courier_messages.specs.Called.{called_ending}
 use Rattle.courier_messages.specs.Rejects.{no_such_program, no_such_version, is_outside, version_words}
 use Rattle.courier_messages.specs.Text.{signs}
 use Rattle.courier_sessions.specs.Feeding as feeding
@@ -67,7 +67,7 @@ with_call a (m ∷ ms) = record a { call = Some m }
 -- the side with an item's messages ms, behind which the conversation is at q, or the first fault; a message that is no
 -- call is a fault
 abbrev pub after_messages : Answering → List Message → Result Phase SessionFault → Result Answering SessionFault
-after_messages a ms q = heard ms q then λ p. Ok (with_call (record a { phase = p }) ms)
+after_messages a ms q = called_ending ms q then λ p. Ok (with_call (record a { phase = p }) ms)
 
 -- the side with one more item of the peer's, or the first fault
 abbrev pub after_item : Answering → Item → Result Answering SessionFault

@@ -10,8 +10,8 @@ use Rattle.courier_messages.specs.Called.{server_ending}
 use Rattle.courier_sessions.specs.declared.program.Program.{Program}
 use Rattle.courier_sessions.specs.Answering.{Answering, transaction_in, is_a_call, why_unlisted}
 
-abbrev pub is_listed : List Program → Message → Bool
-is_listed programs m = not (is_some (why_unlisted programs m))
+abbrev pub is_answerable : List Program → Message → Bool
+is_answerable programs m = not (is_some (why_unlisted programs m))
 
 -- the message is no call, and has at most 131,072 bytes
 abbrev pub IsAnswer : Message → Type 0
@@ -32,6 +32,6 @@ pub record HasAnswered (programs : List Program) (fed given : List Item) (taken 
   -- each message of the peer's is a call that was taken, or that waits
   pub calls : taken ++ option_to_list a.call ≡ conversation fed
   -- the calls that were handed, or given a reject before that, are those whose program and version are listed
-  pub listed : handed ≡ filter (is_listed programs) taken
+  pub listed : handed ≡ filter (is_answerable programs) taken
   pub single : IfSome a.call (λ m. a.asked ≡ None)
   pub ending : server_ending fed ≡ Ok a.phase

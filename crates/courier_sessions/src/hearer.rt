@@ -17,7 +17,7 @@ pub trait Hearer {
     ghost use Rattle.courier_messages.specs.declared.fault.SessionFault.{SessionFault};
     ghost use Rattle.courier_messages.specs.declared.fault.SessionFault.TheVariants.{NoMemory};
     ghost use Rattle.courier_messages.specs.Conversation.{Phase};
-    ghost use Rattle.courier_messages.specs.Refusal.{Follows, KeepsNothing, MakeSecondPiece};
+    ghost use Rattle.courier_messages.specs.Refusal.{ComesTo, KeepsNothing, MakeSecondPiece};
     ghost use Rattle.courier_messages.specs.Text.{item_of};
     ghost use Rattle.courier_sessions.specs.Feeding.{Judges, MayGrow, fed_unless, look_result};
     ghost use Rattle.courier_sessions.specs.Pumping.{Side};
@@ -59,7 +59,7 @@ pub trait Hearer {
 
     /// Takes in one more item, and keeps the message that it ends.
     fn take_item(&mut self, alloc: Global, item: Item) -> Result<(), SessionFault>
-        ensures hears { Follows result (after self.old item) self.new }
+        ensures hears { ComesTo result (after self.old item) self.new }
         ensures memory { result ≡ Err NoMemory → (self.new ≡ self.old) × (0 < length item.body) }
         ensures kept { result ≡ Err NoMemory → MakeSecondPiece (phase self.old) item.body }
         ensures out { side.out self.new ≡ side.out self.old };
@@ -72,7 +72,7 @@ pub trait Hearer {
         last: bool,
         body: &[u8],
     ) -> Result<(), SessionFault>
-        ensures hears { Follows result (after self.old (item_of stream last body.now)) self.new }
+        ensures hears { ComesTo result (after self.old (item_of stream last body.now)) self.new }
         ensures same { OnErr result (self.new ≡ self.old) }
         ensures memory { result ≡ Err NoMemory → IsOk (after self.old (item_of stream last body.now)) × (0 < length body.now) }
         ensures out { side.out self.new ≡ side.out self.old }

@@ -4,7 +4,7 @@ ghost use Rattle.std.specs.Prelude.{◌≡◌, [], true, OnOk, Err};
 ghost use Rattle.courier_messages.specs.declared.fault.SessionFault.TheVariants.{NoMemory};
 ghost use Rattle.courier_messages.specs.Conversation.{opening};
 ghost use Rattle.courier_messages.specs.Phases.{run, said};
-ghost use Rattle.courier_messages.specs.Refusal.{Foresees, Takes, KeepsNothing, MayBeKept};
+ghost use Rattle.courier_messages.specs.Refusal.{Foresees, ComesToWith, KeepsNothing, MayBeKept};
 ghost use Rattle.courier_messages.specs.Text.{signs, item_of};
 
 use courier_messages::{Head, Incoming, PiecedMessage, SessionFault};
@@ -65,7 +65,7 @@ impl Intake {
     #[tactic(auto, using(crate::proofs::Empties::behind_last))]
     #[inline(always)]
     pub fn take(&mut self, alloc: Global, item: Item) -> Result<Option<PiecedMessage>, SessionFault>
-        ensures takes { Takes result (run self.old (signs item)) (said self.old (signs item)) self.new }
+        ensures takes { ComesToWith result (run self.old (signs item)) (said self.old (signs item)) self.new }
         ensures memory { result ≡ Err NoMemory → self.new ≡ self.old }
         ensures kept { result ≡ Err NoMemory → MayBeKept self.old item.body }
     {

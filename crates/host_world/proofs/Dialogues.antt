@@ -11,7 +11,7 @@ use Rattle.courier_sessions.specs.declared.answer.Answer.TheVariants as kinds
 use Rattle.xns_connection.specs.declared.why.Why.{Why}
 use Rattle.host_world.specs.Dialogue.{Dialogue, new_dialogue, View, free, held, IsEven, IsOpen, IsUntold, MayGo, Happening, announces, connects, tells, opens, closes, goes}
 use Rattle.host_world.specs.Dialogue.{ViewMove, connecting, opening, announcing, calling, handing_answer, handing_call, answering, asking, closing, telling, freeing, abandoning, Course}
-use Rattle.host_world.specs.Dialogue.{IsInOrder, IsOpening, is_news, is_going, Happened, WasTold, IsUnheard, IsNewlyConnected}
+use Rattle.host_world.specs.Dialogue.{IsAnsweredInOrder, IsOpening, is_news, is_going, Happened, WasTold, IsUnheard, IsNewlyConnected}
 
 -- ---- lists
 
@@ -67,12 +67,12 @@ answer_number (kinds.Abort error) k words = refl
 
 abbrev InOrder : View → Type 0
 InOrder free = Unit {0}
-InOrder (held d) = IsInOrder d
+InOrder (held d) = IsAnsweredInOrder d
 
-new_in_order : (ours : Bool) → IsInOrder (new_dialogue ours)
+new_in_order : (ours : Bool) → IsAnsweredInOrder (new_dialogue ours)
 new_in_order ours = record { each = λ k m e. absurd (cc); few = omega arith; most = omega arith }
 
-one_call_more : (d : Dialogue) (c : Message) → IsEven d → IsInOrder d → IsInOrder (record d { calls = d.calls ++ c ∷ [] })
+one_call_more : (d : Dialogue) (c : Message) → IsEven d → IsAnsweredInOrder d → IsAnsweredInOrder (record d { calls = d.calls ++ c ∷ [] })
 one_call_more d c even h =
     let one = length-append d.calls (c ∷ []) in
     record {
@@ -81,7 +81,7 @@ one_call_more d c even h =
       most = omega (arith, one, even);
     }
 
-one_answer_more : (d : Dialogue) (call m : Message) → IsOpen d call → transaction_in m ≡ transaction_in call → IsInOrder d → IsInOrder (record d { answers = d.answers ++ m ∷ [] })
+one_answer_more : (d : Dialogue) (call m : Message) → IsOpen d call → transaction_in m ≡ transaction_in call → IsAnsweredInOrder d → IsAnsweredInOrder (record d { answers = d.answers ++ m ∷ [] })
 one_answer_more d call m unanswered number h =
     let one = length-append d.answers (m ∷ []) in
     let less = slice_get_within d.calls (length d.answers) call unanswered in
@@ -115,7 +115,7 @@ unfolding Course
 in_order_on v [] w p h = subst InOrder p h
 in_order_on v (x ∷ xs) w p h = in_order_on p.0 xs w p.2 (stays_in_order p.1 h)
 
-pub in_order : (xs : List Happening) (d : Dialogue) → Course free xs (held d) → IsInOrder d
+pub in_order : (xs : List Happening) (d : Dialogue) → Course free xs (held d) → IsAnsweredInOrder d
 in_order xs d p = in_order_on free xs (held d) p tt
 
 -- ---- what came to be since a number had its connection

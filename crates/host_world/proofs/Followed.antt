@@ -12,7 +12,7 @@ use Rattle.xns_spp.specs.Packet.{SppPacketModel}
 use Rattle.xns_host.specs.Coming.{Arrives, Comes, Opens}
 use Rattle.xns_host.specs.Coming as coming
 use Rattle.xns_connection.specs.Deeds as deeds
-use Rattle.xns_connection.specs.Ends.{AConnectionKeepsItsEnd, opener_of}
+use Rattle.xns_connection.specs.Ends.{AConnectionKeepsItsEnd, peer_that_opened}
 use Rattle.xns_host.specs.Events.{event_by, event_in, event_of, is_newly_open}
 use Rattle.xns_host.specs.Hosting.{IsPlaceForNew, confirms, free_place, of_closed, of_stranger, may_go, tells as has_news}
 use Rattle.xns_connection.specs.Living.{Deeds}
@@ -197,7 +197,7 @@ may_go_away gs (free_place k there) g e = absurd (nobody_there g (sym there ∙ 
 may_go_away gs (of_closed k t f full there since first) g e =
     subst (MayBeForgotten false) (one_guest f g (sym there ∙ e)) (inr (inl (since_told (is_some f.connection.closed) f.connection.told (due_time f.connection.wait.due) t since)))
 may_go_away gs (of_stranger k t f full none there since first) g e =
-    let x = since_stranger (is_some (opener_of f.connection)) f.confirmed f.heard_of (is_some f.connection.closed) (has_news f.connection) t f.connection.wait.heard_at since in
+    let x = since_stranger (is_some (peer_that_opened f.connection)) f.confirmed f.heard_of (is_some f.connection.closed) (has_news f.connection) t f.connection.wait.heard_at since in
     subst (MayBeForgotten false) (one_guest f g (sym there ∙ e)) (inr (inr (x.0, x.1, none_is f.connection.closed x.2)))
 
 -- a connection of another identifier is in the place then: the next one, which none that was there has

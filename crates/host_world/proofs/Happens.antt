@@ -6,7 +6,7 @@ use Rattle.std.specs.Option.{is_some}
 use Rattle.std.proofs.lemmas.Bool.{eqb-true, eq-eqb}
 use Rattle.std.proofs.lemmas.List.Elements.{filter-append}
 use Rattle.xns_idp.specs.declared.address.Address.{Address}
-use Rattle.xns_connection.specs.Ends.{opener_of}
+use Rattle.xns_connection.specs.Ends.{peer_that_opened}
 use Rattle.xns_connection.specs.declared.why.Why.{Why}
 use Rattle.xns_host.specs.Knowing.{id_of}
 use Rattle.xns_host.specs.declared.event.Event.{Event}
@@ -62,11 +62,11 @@ pub nothing_between : (o : Option Guest) → between [] o o ≡ []
 nothing_between None = refl
 nothing_between (Some g) = between_same [] g g refl ∙ closed_same g g refl
 
-pub arriving_ours : (g : Guest) → opener_of g.connection ≡ None → g.connection.closed ≡ None → arriving g ≡ []
+pub arriving_ours : (g : Guest) → peer_that_opened g.connection ≡ None → g.connection.closed ≡ None → arriving g ≡ []
 arriving_ours g ours unclosed =
     ap (λ (o : Option (Address × ℕ)). cond (is_some o) (opens ∷ []) [] ++ closed_since None g.connection.closed) ours ∙ ap (λ (o : Option Why). closed_since None o) unclosed
 
-pub arriving_theirs : (g : Guest) → is_some (opener_of g.connection) ≡ true → arriving g ≡ opens ∷ closed_since None g.connection.closed
+pub arriving_theirs : (g : Guest) → is_some (peer_that_opened g.connection) ≡ true → arriving g ≡ opens ∷ closed_since None g.connection.closed
 arriving_theirs g theirs = ap (λ (b : Bool). cond b (opens ∷ []) [] ++ closed_since None g.connection.closed) theirs
 
 pub leaving_told : (event : Event) → leaving (news_of event ∷ []) ≡ goes ∷ []
@@ -80,7 +80,7 @@ leaving_told (events.Closed number tag why) = refl
 -- the one connection became the other, and the program was told of no close of it; one that is closed stays closed
 pub record Continues (g h : Guest) : Type 0 where
   pub id : id_of h ≡ id_of g
-  pub opener : opener_of h.connection ≡ opener_of g.connection
+  pub opener : peer_that_opened h.connection ≡ peer_that_opened g.connection
   pub told : h.connection.told ≡ g.connection.told
   pub closed : g.connection.closed ≢ None → h.connection.closed ≡ g.connection.closed
 
@@ -136,7 +136,7 @@ unseen_closed None (Some why) = refl
 unseen_closed (Some first) p = refl
 
 unseen_arriving : (g : Guest) → filter is_said (arriving g) ≡ []
-unseen_arriving g = by (is_some (opener_of g.connection)) where
+unseen_arriving g = by (is_some (peer_that_opened g.connection)) where
   by : (b : Bool) → filter is_said (cond b (opens ∷ []) [] ++ closed_since None g.connection.closed) ≡ []
   by true = unseen_closed None g.connection.closed
   by false = unseen_closed None g.connection.closed

@@ -15,7 +15,7 @@ pub use Rattle.xns_agenda.proofs.Putting.{place_other as beside, place_set as at
 use Rattle.xns_agenda.specs.Waiting.{due_time}
 use Rattle.xns_host.specs.Places.{AsksEvent, AsksInVain, NextEvent, Places, became, event_passed, seated, vacated_if}
 use Rattle.xns_host.specs.Places as places
-use Rattle.xns_connection.specs.Ends.{AConnectionKeepsItsEnd, opener_by, opener_of}
+use Rattle.xns_connection.specs.Ends.{AConnectionKeepsItsEnd, opener_by, peer_that_opened}
 use Rattle.xns_connection.specs.Story.{SideHas, new_story}
 use Rattle.xns_host.specs.Identifiers.{Ids}
 use Rattle.xns_host.specs.declared.settings.Settings.{Settings}
@@ -242,7 +242,7 @@ connects_there c =
 
 pub opens_there : (g h : Guest) → Shows (new_dialogue false) g → Alone (new_dialogue false) g h → Passes (arriving h) free (Some (Some h))
 opens_there g h s alone =
-    let theirs = some_is_not (opener_of h.connection) (ap is_none alone.continues.opener ∙ s.ours) in
+    let theirs = some_is_not (peer_that_opened h.connection) (ap is_none alone.continues.opener ∙ s.ours) in
     subst (λ (xs : List Happening). Passes xs free (Some (Some h))) (sym (arriving_theirs h theirs))
     (first free (held (new_dialogue false)) opens (closed_since None h.connection.closed) (Some (Some h)) opening
     (subst (λ (o : Option Why). Passes (closed_since o h.connection.closed) (held (new_dialogue false)) (Some (Some h))) s.closed alone.passes))
@@ -289,8 +289,8 @@ taking gs said new (of_closed k t g full at since first) other gets =
     subst (λ (o : Option (Option Guest)). LeadsAt said o (Some (Some new))) (sym at)
     (gives_way g new said (other k g at) (λ d s. inl (sym s.told ∙ since_told (is_some g.connection.closed) g.connection.told (due_time g.connection.wait.due) t since)) gets)
 taking gs said new (of_stranger k t g full none at since first) other gets =
-    let x = since_stranger (is_some (opener_of g.connection)) g.confirmed g.heard_of (is_some g.connection.closed) (has_news g.connection) t g.connection.wait.heard_at since in
+    let x = since_stranger (is_some (peer_that_opened g.connection)) g.confirmed g.heard_of (is_some g.connection.closed) (has_news g.connection) t g.connection.wait.heard_at since in
     subst (λ (o : Option (Option Guest)). LeadsAt said o (Some (Some new))) (sym at)
     (gives_way g new said (other k g at) (λ d s.
-    let theirs : d.ours ≡ false = sym s.ours ∙ some_is (opener_of g.connection) x.0 in
+    let theirs : d.ours ≡ false = sym s.ours ∙ some_is (peer_that_opened g.connection) x.0 in
     inr (theirs, s.unheard x.1 theirs, sym s.closed ∙ none_is g.connection.closed x.2)) gets)

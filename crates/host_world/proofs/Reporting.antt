@@ -7,7 +7,7 @@ use Rattle.courier_messages.specs.declared.message.Message.TheVariants as messag
 use Rattle.xns_spp.specs.Held.{StandsFor}
 use Rattle.xns_spp.specs.State.{State}
 use Rattle.xns_connection.specs.Deeds as deeds
-use Rattle.xns_connection.specs.Ends.{AConnectionKeepsItsEnd, KeepsEnd, opener_of}
+use Rattle.xns_connection.specs.Ends.{AConnectionKeepsItsEnd, KeepsEnd, peer_that_opened}
 use Rattle.xns_connection.specs.Deeds.{side_taken}
 use Rattle.xns_host.specs.Events.{event_by, event_in, event_of, is_newly_open, later_event}
 use Rattle.xns_connection.specs.Step.{Hands, calmly, moving_on, none_waits}
@@ -105,7 +105,7 @@ after_tell now d g h why s t none untold closed = record {
     state = s.state;
     stands = subst (λ (k : Connection). StandsFor k.conversation.endpoint s.state) (sym is) s.stands;
     side = subst (λ (k : Connection). Has d.ours d.calls d.answers k.conversation.side) (sym is) s.side;
-    ours = ap (λ (k : Connection). is_none (opener_of k)) is ∙ s.ours;
+    ours = ap (λ (k : Connection). is_none (peer_that_opened k)) is ∙ s.ours;
     asked = λ z. ap (λ (k : Connection). k.conversation.closing.wanted) is ∙ s.asked z;
     closed = same ∙ s.closed;
     told = ap (λ (k : Connection). k.told) is;

@@ -3,7 +3,7 @@ use Rattle.std.proofs.Common.{◌≡◌, ◌≢◌, ◌∙◌, ap, refl, sym, su
 use Rattle.std.specs.Option.{is_some, is_none}
 use Rattle.xns_spp.specs.Held.{StandsFor}
 use Rattle.xns_spp.specs.State.{State}
-use Rattle.xns_connection.specs.Ends.{KeepsEnd, opener_of}
+use Rattle.xns_connection.specs.Ends.{KeepsEnd, peer_that_opened}
 use Rattle.xns_connection.specs.Story.{waiting_message}
 use Rattle.xns_host.specs.Went.{GuestTagged}
 use Rattle.xns_host.specs.declared.guest.Guest.{Guest}
@@ -24,7 +24,7 @@ pub record Shows (d : Dialogue) (g : Guest) : Type 0 where
   pub state : State
   pub stands : StandsFor g.connection.conversation.endpoint state
   pub side : Has d.ours d.calls d.answers g.connection.conversation.side
-  pub ours : is_none (opener_of g.connection) ≡ d.ours
+  pub ours : is_none (peer_that_opened g.connection) ≡ d.ours
   pub asked : d.asked ≡ true → g.connection.conversation.closing.wanted ≡ true
   pub closed : g.connection.closed ≡ d.closed
   pub told : g.connection.told ≡ d.told
@@ -90,7 +90,7 @@ some_not (Some x) e z = absurd (cc)
 -- a connection changed as by a step, and a dialogue goes on from the one that showed it before, with the opener, the reason and whether that
 -- was told as they were
 pub nearly : (d e : Dialogue) (g h : Guest) (side : Side) (wanted : Bool) → Shows d g → Changes side wanted g.connection h.connection
-    → opener_of h.connection ≡ opener_of g.connection → e.ours ≡ d.ours → e.closed ≡ d.closed → e.told ≡ d.told → Has e.ours e.calls e.answers side
+    → peer_that_opened h.connection ≡ peer_that_opened g.connection → e.ours ≡ d.ours → e.closed ≡ d.closed → e.told ≡ d.told → Has e.ours e.calls e.answers side
     → (e.asked ≡ true → wanted ≡ true) → (d.told ≡ true → waiting_message h.connection.conversation.side ≡ None)
     → (h.heard_of ≡ false → e.ours ≡ false → e.calls ≡ []) → (h.opening_untold ≡ true → IsUntold e) → Nearly e h
 nearly d e g h side wanted s c opener ours closed told has asked over unheard newly = record {
@@ -115,7 +115,7 @@ nearly d e g h side wanted s c opener ours closed told has asked over unheard ne
   still some = c.stays (λ none. some (sym s.closed ∙ none)) ∙ s.closed
 
 -- a connection changed by itself, and whether closing was asked for was noted
-pub nearly_by : (d : Dialogue) (g h : Guest) (asked wanted : Bool) → Shows d g → opener_of h.connection ≡ opener_of g.connection → h.heard_of ≡ g.heard_of → h.opening_untold ≡ g.opening_untold
+pub nearly_by : (d : Dialogue) (g h : Guest) (asked wanted : Bool) → Shows d g → peer_that_opened h.connection ≡ peer_that_opened g.connection → h.heard_of ≡ g.heard_of → h.opening_untold ≡ g.opening_untold
     → Changes g.connection.conversation.side wanted g.connection h.connection → (asked ≡ true → wanted ≡ true) → Nearly (record d { asked = asked }) h
 nearly_by d g h asked wanted s opener heard opening c noted =
     nearly d (record d { asked = asked }) g h g.connection.conversation.side wanted s c opener refl refl refl s.side noted
@@ -139,7 +139,7 @@ pub unmoved : (d : Dialogue) (g h : Guest) → Shows d h → h.connection ≡ g.
 unmoved d g h s same = record {
   continues = record {
     id = ap (λ (c : Connection). c.conversation.endpoint.ends.id) same;
-    opener = ap opener_of same;
+    opener = ap peer_that_opened same;
     told = ap (λ (c : Connection). c.told) same;
     closed = λ z. ap (λ (c : Connection). c.closed) same;
   };

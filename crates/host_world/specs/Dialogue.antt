@@ -91,7 +91,7 @@ Course v (x ∷ xs) w = (u : View) × ViewMove v x u × Course u xs w
 -- ---- what every history comes to
 
 -- the k-th answer is to the k-th call, and at most one call is not answered
-pub record IsInOrder (d : Dialogue) : Type 0 where
+pub record IsAnsweredInOrder (d : Dialogue) : Type 0 where
   pub each : (k : ℕ) (m : Message) → slice_get d.answers k ≡ Some m
       → (call : Message) × (slice_get d.calls k ≡ Some call) × (transaction_in m ≡ transaction_in call)
   pub few : length d.answers ≤ length d.calls

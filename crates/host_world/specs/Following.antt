@@ -10,7 +10,7 @@ use Rattle.item_world.specs.declared.side.Side.TheVariants.{A, B}
 use Rattle.xns_idp.specs.declared.address.Address.{Address}
 use Rattle.xns_connection.specs.Deeds as deeds
 use Rattle.xns_connection.specs.Deeds.{Deed}
-use Rattle.xns_connection.specs.Ends.{opener_of}
+use Rattle.xns_connection.specs.Ends.{peer_that_opened}
 use Rattle.xns_connection.specs.Living.{Deeds}
 use Rattle.xns_connection.specs.Story.{asked_of}
 use Rattle.xns_host.specs.Knowing.{id_of}
@@ -35,7 +35,7 @@ use Rattle.host_world.specs.declared.station.Station.{Station}
 -- was handed no call of it
 abbrev pub MayBeForgotten : (over : Bool) → Guest → Type 0
 MayBeForgotten over g =
-    (over ≡ true) ⊎ ((g.connection.told ≡ true) ⊎ ((is_some (opener_of g.connection) ≡ true) × (g.heard_of ≡ false) × (g.connection.closed ≡ None)))
+    (over ≡ true) ⊎ ((g.connection.told ≡ true) ⊎ ((is_some (peer_that_opened g.connection) ≡ true) × (g.heard_of ≡ false) × (g.connection.closed ≡ None)))
 
 -- a connection is not in this place: nobody is, or one that has another identifier of ours
 abbrev pub IsGone : Guest → Option (Option Guest) → Type 0

@@ -8,7 +8,7 @@ use Rattle.courier_sessions.specs.declared.program.Program.{Program}
 use Rattle.xns_idp.specs.declared.address.Address.{Address}
 use Rattle.xns_connection.specs.Deeds as deeds
 use Rattle.xns_connection.specs.Deeds.{Deed}
-use Rattle.xns_connection.specs.Ends.{opener_of}
+use Rattle.xns_connection.specs.Ends.{peer_that_opened}
 use Rattle.xns_connection.specs.declared.why.Why.{Why}
 use Rattle.xns_host.specs.Knowing.{id_of}
 use Rattle.xns_host.specs.Standing.{IsNewHost}
@@ -85,7 +85,7 @@ closed_since (Some first) is = []
 
 -- a connection came to a number, unseen where a peer opened it; and it may be closed already
 abbrev pub arriving : Guest → List Happening
-arriving g = (if is_some (opener_of g.connection) then opens ∷ [] else []) ++ closed_since None g.connection.closed
+arriving g = (if is_some (peer_that_opened g.connection) then opens ∷ [] else []) ++ closed_since None g.connection.closed
 
 -- a connection left a number, which became free, unseen unless that was said: the program abandoned the connection
 abbrev pub leaving : (said : List Happening) → List Happening
@@ -116,7 +116,7 @@ pub data HasLived : Host → (said happened : ℕ → List Happening) → Type 0
 
 -- the connection is such: who opened it, why it is closed, and whether the program was told that
 pub record IsSeenAs (d : Dialogue) (g : Guest) : Type 0 where
-  pub ours : is_none (opener_of g.connection) ≡ d.ours
+  pub ours : is_none (peer_that_opened g.connection) ≡ d.ours
   pub closed : g.connection.closed ≡ d.closed
   pub told : g.connection.told ≡ d.told
 

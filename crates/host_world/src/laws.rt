@@ -7,7 +7,7 @@ ghost use Rattle.item_world.specs.World.{lifetime};
 ghost use Rattle.item_world.specs.declared.side.Side.{Side};
 ghost use Rattle.item_world.specs.declared.side.Side.TheVariants.{A, B};
 ghost use Rattle.host_world.specs.Awaiting.{CannotOpen, HasNewConnection, HasOpened, HostAwaits, IsSentFrom};
-ghost use Rattle.host_world.specs.Dialogue.{Course, Dialogue, Happened, Happening, IsInOrder, IsNewlyConnected, IsOpening, IsUnheard, View, WasTold};
+ghost use Rattle.host_world.specs.Dialogue.{Course, Dialogue, Happened, Happening, IsAnsweredInOrder, IsNewlyConnected, IsOpening, IsUnheard, View, WasTold};
 ghost use Rattle.host_world.specs.Dialogue.{announces, closes, free, goes, held, is_going, is_news, tells};
 ghost use Rattle.host_world.specs.Following.{EachFollowed, ProgramHasDone, HasGiven, HostsStandFor, IsFollowed, MayTake, StandsOn, gave_none, over_none};
 ghost use Rattle.host_world.specs.Going.{CanFinish};
@@ -184,7 +184,7 @@ pub fn the_ends_of_a_meeting_are_not_stuck()
 /// and the program was told nothing of it (`gone`), or where the program abandons the connection. Nothing happens at a free number but that a
 /// connection gets it (`first`, `again`): so the program is told nothing more of a connection that it abandoned.
 pub fn a_number_keeps_its_order()
-    ensures order { (xs : List Happening) (d : Dialogue) → Course free xs (held d) → IsInOrder d }
+    ensures order { (xs : List Happening) (d : Dialogue) → Course free xs (held d) → IsAnsweredInOrder d }
     ensures reason { (xs : List Happening) (why : Why) (ys : List Happening) (v : View) → Course free (xs ++ tells why ∷ ys) v
         → Happened (closes why) is_going xs }
     ensures last { (xs : List Happening) (why : Why) (ys : List Happening) (x : Happening) (zs : List Happening) (v : View)

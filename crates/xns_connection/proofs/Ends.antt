@@ -29,7 +29,7 @@ use Rattle.xns_spp.specs.declared.send_fault.SendFault.{SendFault}
 use Rattle.xns_connection.specs.Closing.{closing_item, drains, end_reply_stream, end_stream}
 use Rattle.xns_connection.specs.Connecting.{is_dead}
 use Rattle.xns_connection.specs.Deeds.{Deed, Parts, acted, acted_by, asked, done, gave, heard, made, nothing, shut, took, unserved}
-use Rattle.xns_connection.specs.Ends.{AConnectionKeepsItsEnd, IsSameEnd, KeepsEnd, opener_by, opener_of}
+use Rattle.xns_connection.specs.Ends.{AConnectionKeepsItsEnd, IsSameEnd, KeepsEnd, opener_by, peer_that_opened}
 use Rattle.xns_connection.specs.Giving.{Giving, GivesAs, IsGiving, MayStopAt, at_first, at_flush, at_word, else_newer, flushed, giving, if_again, newer_of, next_unless, older, older_of}
 use Rattle.xns_connection.specs.Moving.{Converses, Moves, Pumps, Rounds, ConversationScene, again, calms, closed_up, converses, deafened, drained_out, drains_only, with_end_out, may_end, may_reply, noting, once, refuses, refuses_on, replied, conversation_scene, settled_by, starves, taken_many}
 use Rattle.xns_connection.specs.Step.{GivesNext, Hands, MovesOwed, Step, calmly, moving_on, none_waits, parts_of}
@@ -199,7 +199,7 @@ same_opener a b Responder is fits end =
 
 -- of a connection that its peer opened the end tells who opened it: its peer
 pub named_opener : (c : Connection) (o : Option (Address × ℕ)) → c.conversation.endpoint.ends.role ≡ Responder
-    → ((s : State) → StandsFor c.conversation.endpoint s → o ≡ peer_name s.ends) → o ≡ opener_of c
+    → ((s : State) → StandsFor c.conversation.endpoint s → o ≡ peer_name s.ends) → o ≡ peer_that_opened c
 named_opener c o responds named = ∥∥₁_elim c.stands (Prim.hlevel props) (λ x.
     let e : Ends = x.0.ends in
     let same : c.conversation.endpoint.ends ≡ e = ends_of c x.0 x.1 in
@@ -215,7 +215,7 @@ module _ (old new : Connection) (ends : (s : State) → StandsFor old.conversati
   end_then : History → IsSameEnd old.conversation.endpoint.ends new.conversation.endpoint.ends
   end_then x = subst (λ (e : Ends). IsSameEnd e new.conversation.endpoint.ends) (sym (ends_of old x.0 x.1)) (ends x.0 x.1)
 
-  opener_then : History → opener_of new ≡ opener_of old
+  opener_then : History → peer_that_opened new ≡ peer_that_opened old
   opener_then x =
       let fits : IsEnds old.conversation.endpoint.ends = subst IsEnds (sym (ends_of old x.0 x.1)) x.1.fits.ends in
       same_opener old.conversation.endpoint.ends new.conversation.endpoint.ends old.conversation.endpoint.ends.role refl fits (end_then x)

@@ -8,7 +8,7 @@ use Rattle.courier_messages.specs.Laws.{OneItemMore, AConversationOnlyGrows}
 use Rattle.courier_messages.specs.RawCalls.{RawCall}
 use Rattle.courier_messages.specs.declared.message.Message.{Message}
 use Rattle.courier_sessions.specs.Answering.{Answering, transaction_in, why_unlisted, reject_message, answer_message}
-use Rattle.courier_sessions.specs.Answerings.{is_listed}
+use Rattle.courier_sessions.specs.Answerings.{is_answerable}
 use Rattle.courier_sessions.specs.Talk.{Talk}
 use Rattle.courier_sessions.specs.Talks.{made_messages}
 use Rattle.courier_sessions.specs.declared.program.Program.{Program}
@@ -49,7 +49,7 @@ caller_of h (Answers a) has is = let some = has.table in absurd (cc)
 
 -- the calls that were handed are the listed ones, and all that were taken are answered but maybe the last
 record Fits (programs : List Program) (h : Story) : Type 0 where
-  pub handed : h.handed ≡ filter (is_listed programs) h.taken
+  pub handed : h.handed ≡ filter (is_answerable programs) h.taken
   pub few : length h.answers ≤ length h.taken
   pub most : length h.taken ≤ length h.answers + 1
 
@@ -58,7 +58,7 @@ fits programs h side s =
     let count = count_of s.has.done in
     let one = one_at_most s.server.asked in
     record {
-      handed = s.has.done.listed ∙ ap (λ (ps : List Program). filter (is_listed ps) h.taken) s.table;
+      handed = s.has.done.listed ∙ ap (λ (ps : List Program). filter (is_answerable ps) h.taken) s.table;
       few = omega (arith, count);
       most = omega (arith, count, one);
     }
@@ -75,13 +75,13 @@ step : (programs : List Program) (d : Conversation) (h m : Story) → Fits progr
 step programs d h m fit on tells is =
     let s = server_of programs m d.side tells.has is in
     let after = fits programs m d.side s in
-    let same : filter (is_listed programs) m.taken ≡ filter (is_listed programs) h.taken = sym after.handed ∙ on.handed ∙ fit.handed in
+    let same : filter (is_answerable programs) m.taken ≡ filter (is_answerable programs) h.taken = sym after.handed ∙ on.handed ∙ fit.handed in
     let rejected : AreRejected programs m.taken m.answers = subst (λ (ps : List Program). AreRejected ps m.taken m.answers) s.table s.has.rejected in
     let cs = on.taken.0 in
     let rs = on.answers.0 in
     let is_taken : h.taken ++ cs ≡ m.taken = on.taken.1 in
     let is_answers : h.answers ++ rs ≡ m.answers = on.answers.1 in
-    let e : to_listed programs (h.taken ++ cs) (h.answers ++ rs) ≡ to_listed programs h.taken h.answers = nothing_given programs h.taken cs h.answers rs (ap (filter (is_listed programs)) is_taken ∙ same)
+    let e : to_listed programs (h.taken ++ cs) (h.answers ++ rs) ≡ to_listed programs h.taken h.answers = nothing_given programs h.taken cs h.answers rs (ap (filter (is_answerable programs)) is_taken ∙ same)
     (ap (λ (l : List Message). length l + length h.answers) is_taken ∙ on.even ∙ ap (λ (l : List Message). length h.taken + length l) (sym is_answers)) fit.few fit.most
     (subst (λ (l : List Message). AreRejected programs l (h.answers ++ rs)) (sym is_taken) (subst (λ (l : List Message). AreRejected programs m.taken l) (sym is_answers) rejected)) in
     ap (λ (l : List Message). to_listed programs l m.answers) (sym is_taken) ∙ ap (to_listed programs (h.taken ++ cs)) (sym is_answers) ∙ e
@@ -143,8 +143,8 @@ taken_base {h = h} (Answers a) m has is b =
     let w = waiting a.programs a.call m is in
     let even = all_answered m has.done w.0 in
     let one = length-append h.taken (m ∷ []) in
-    let added : filter (is_listed a.programs) (h.taken ++ m ∷ []) ≡ filter (is_listed a.programs) h.taken ++ m ∷ [] =
-    filter-append (is_listed a.programs) h.taken (m ∷ []) ∙ ap (λ (ms : List Message). filter (is_listed a.programs) h.taken ++ ms) (filter_takes a.programs m [] (is_listed_where a.programs m w.1)) in
+    let added : filter (is_answerable a.programs) (h.taken ++ m ∷ []) ≡ filter (is_answerable a.programs) h.taken ++ m ∷ [] =
+    filter-append (is_answerable a.programs) h.taken (m ∷ []) ∙ ap (λ (ms : List Message). filter (is_answerable a.programs) h.taken ++ ms) (filter_takes a.programs m [] (is_listed_where a.programs m w.1)) in
     let fit : Fits a.programs (with_handed (Answers a) h m) = record {
       handed = ap (λ (ms : List Message). ms ++ m ∷ []) has.done.listed ∙ sym added;
       few = omega (arith, even, one);
@@ -246,7 +246,7 @@ programs_agree more grows of_calls of_answers s v c d l r programs here there pe
     let answers : Begins (to_listed programs all_made h.handed) r.gave =
     subst (λ (ms : List Message). Begins ms r.gave) (sym front) (subst (Begins (to_listed programs g.taken h.handed)) (sym (there.gave programs refl)) some) in
     record {
-      calls = subst (λ (ms : List Message). Begins ms (filter (is_listed programs) (made_messages 1 l.made))) there.handed (subst (λ (ms : List Message). Begins g.handed (filter (is_listed programs) ms)) same both.handed);
+      calls = subst (λ (ms : List Message). Begins ms (filter (is_answerable programs) (made_messages 1 l.made))) there.handed (subst (λ (ms : List Message). Begins g.handed (filter (is_answerable programs) ms)) same both.handed);
       answers = subst (λ (ms : List Message). Begins (to_listed programs (made_messages 1 l.made) ms) r.gave) here.handed (subst (λ (ms : List Message). Begins (to_listed programs ms h.handed) r.gave) same answers);
       rejects = λ k call u m at why got.
           let is = both.each k m (ap (λ (ms : List Message). slice_get ms k) here.handed ∙ got) in

@@ -4,7 +4,7 @@ use Rattle.std.specs.Prelude.{slice_get, if◌then◌else◌}
 use Rattle.std.specs.List.{filter}
 use Rattle.std.specs.Option.{option_to_list}
 use Rattle.std.proofs.lemmas.List.Elements.{filter-append}
-use Rattle.courier_messages.specs.Called.{all_calls, heard}
+use Rattle.courier_messages.specs.Called.{all_calls, called_ending}
 use Rattle.courier_messages.specs.Conversation.{Phase, opening, fresh, inside, conversation, ending}
 use Rattle.courier_messages.specs.Laws.{IsFaultless, OneItemMore, AConversationOnlyGrows, MessageItemsCanBeSent}
 use Rattle.courier_messages.specs.Phases.{run, ◌then◌}
@@ -15,7 +15,7 @@ use Rattle.courier_messages.specs.declared.fault.SessionFault.TheVariants.{BadRe
 use Rattle.courier_messages.specs.declared.message.Message.{Message}
 use Rattle.courier_sessions.specs.Answering as answering
 use Rattle.courier_sessions.specs.Answering.{Answering, is_busy, transaction_in, after_item as after_heard}
-use Rattle.courier_sessions.specs.Answerings.{HasAnswered, is_listed}
+use Rattle.courier_sessions.specs.Answerings.{HasAnswered, is_answerable}
 use Rattle.courier_sessions.specs.Talk as talk
 use Rattle.courier_sessions.specs.Talk.{Talk, after_item}
 use Rattle.courier_sessions.specs.Talks.{HasDone, AreAnswers, made_messages, count_if}
@@ -200,7 +200,7 @@ agree more grows of_calls of_answers c d h g t a here there calls answers peers 
     let handed : Begins h.handed g.answers = begins_then h.handed (h.handed ++ option_to_list t.outcome) g.answers (option_to_list t.outcome, refl) got in
     record {
       calls = taken;
-      handed = subst (λ (l : List Message). Begins l (filter (is_listed a.programs) (made_messages 1 h.made))) (sym serves.done.listed) (begins_filter (is_listed a.programs) g.taken (made_messages 1 h.made) taken);
+      handed = subst (λ (l : List Message). Begins l (filter (is_answerable a.programs) (made_messages 1 h.made))) (sym serves.done.listed) (begins_filter (is_answerable a.programs) g.taken (made_messages 1 h.made) taken);
       answers = handed;
       each = λ k m is.
           let put = begins_get h.handed g.answers k m handed is in

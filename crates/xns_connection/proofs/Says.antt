@@ -7,7 +7,7 @@ use Rattle.xns_spp.specs.Laws.{TheNextItemIsHandedUp}
 use Rattle.xns_spp.specs.Sending.{take_answer, after_take, waiting_count}
 use Rattle.xns_spp.specs.State.{State}
 use Rattle.xns_spp.specs.declared.item.Item.{Item}
-use Rattle.xns_connection.specs.Closing.{drains, closing_items, noted, Knows}
+use Rattle.xns_connection.specs.Closing.{drains, closing_items, after_end_words, Knows}
 use Rattle.xns_connection.specs.Moving.{ConversationScene, conversation_scene, IsAt, noting, taken_many, drained_out, deafened}
 use Rattle.xns_connection.specs.Story.{Story, SideHas, IsMoved, Runs, start, takes, is_called, is_stopped}
 use Rattle.xns_connection.specs.Telling.{EndsLast, Tells}
@@ -120,7 +120,7 @@ noted_follows : TheNextItemIsHandedUp → (x : ConversationScene) (o : Option It
 noted_follows next x None is drain = follows_not x
 noted_follows next x (Some item) is drain =
     let s : State = x.state in
-    let c : Closing = noted x.closing item.stream in
+    let c : Closing = after_end_words x.closing item.stream in
     let b = beside x.closing c item.stream refl in
     let same = same_drains x.side x.closing c b.end b.reply b.deaf in
     let k = after_taken next s (Some item) is in
@@ -143,16 +143,16 @@ noted_follows next x (Some item) is drain =
 pub noting_drains : (x : ConversationScene) (o : Option Item) → drains (noting o x).side (noting o x).closing ≡ drains x.side x.closing
 noting_drains x None = refl
 noting_drains x (Some item) =
-    let b = beside x.closing (noted x.closing item.stream) item.stream refl in
-    same_drains x.side x.closing (noted x.closing item.stream) b.end b.reply b.deaf
+    let b = beside x.closing (after_end_words x.closing item.stream) item.stream refl in
+    same_drains x.side x.closing (after_end_words x.closing item.stream) b.end b.reply b.deaf
 
 noting_deaf : (x : ConversationScene) (o : Option Item) → (noting o x).closing.deaf ≡ x.closing.deaf
 noting_deaf x None = refl
-noting_deaf x (Some item) = (beside x.closing (noted x.closing item.stream) item.stream refl).deaf
+noting_deaf x (Some item) = (beside x.closing (after_end_words x.closing item.stream) item.stream refl).deaf
 
 noting_end : (x : ConversationScene) (o : Option Item) → (noting o x).closing.end_sent ≡ x.closing.end_sent
 noting_end x None = refl
-noting_end x (Some item) = (beside x.closing (noted x.closing item.stream) item.stream refl).end
+noting_end x (Some item) = (beside x.closing (after_end_words x.closing item.stream) item.stream refl).end
 
 noting_fewer : TheNextItemIsHandedUp → (x : ConversationScene) (o : Option Item) → take_answer x.state ≡ o
     → waiting_count (noting o x).state ≤ waiting_count x.state - 1

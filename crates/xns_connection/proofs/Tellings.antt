@@ -16,7 +16,7 @@ use Rattle.xns_spp.specs.Sending.{take_answer, after_take, flush_answer, after_f
 use Rattle.xns_spp.specs.State.{State, numbers_of, send_limit}
 use Rattle.xns_spp.specs.declared.item.Item.{Item}
 use Rattle.xns_connection.specs.Story.{Story, SideHas, Runs, start, is_called, is_stopped, new_story}
-use Rattle.xns_connection.specs.Closing.{drains, closing_items, put_if, end_stream, end_reply_stream, noted, asks_end, replies_end, Knows}
+use Rattle.xns_connection.specs.Closing.{drains, closing_items, put_if, end_stream, end_reply_stream, after_end_words, asks_end, replies_end, Knows}
 use Rattle.xns_connection.specs.Telling.{EndsLast, Tells, Goes, Rested, owes_end}
 use Rattle.xns_connection.specs.declared.closing.Closing.{Closing}
 use Rattle.xns_connection.specs.declared.closing.TheConstants.Closing.{NONE}
@@ -87,7 +87,7 @@ after_taken next s (Some x) is = let e = next.some s x is in
 -- what is known after an item was taken, if one was
 abbrev pub NotesNext : Option Item → (e f : Closing) → Type 0
 NotesNext None e f = f ≡ e
-NotesNext (Some x) e f = f ≡ noted e x.stream
+NotesNext (Some x) e f = f ≡ after_end_words e x.stream
 
 record IsNoted (e f : Closing) (a b : Bool) : Type 0 where
   pub wanted : f.reply_wanted ≡ (e.reply_wanted || (a || b))
@@ -111,7 +111,7 @@ is_noted e false false one = record { wanted = or_false e.reply_wanted; heard = 
 not_both : (n : ℕ) → (n == end_stream) ≡ true → (n == end_reply_stream) ≡ false
 not_both n is = ap (λ (k : ℕ). k == end_reply_stream) (eqb-true n end_stream is)
 
-pub knows_more : (e : Closing) (items : List Item) (x : Item) → Knows e items → Knows (noted e x.stream) (items ++ x ∷ [])
+pub knows_more : (e : Closing) (items : List Item) (x : Item) → Knows e items → Knows (after_end_words e x.stream) (items ++ x ∷ [])
 knows_more e items x k =
     let a : Bool = x.stream == end_stream in
     let b : Bool = x.stream == end_reply_stream in
@@ -216,7 +216,7 @@ beside_by e true b = record { end = refl; reply = refl; deaf = refl; wanted = re
 beside_by e false true = record { end = refl; reply = refl; deaf = refl; wanted = refl }
 beside_by e false false = record { end = refl; reply = refl; deaf = refl; wanted = refl }
 
-pub beside : (e f : Closing) (stream : ℕ) → f ≡ noted e stream → Beside e f
+pub beside : (e f : Closing) (stream : ℕ) → f ≡ after_end_words e stream → Beside e f
 beside e f stream is = subst (λ (g : Closing). Beside e g) (sym is) (beside_by e _ _)
 
 -- ---- packets out

@@ -6,7 +6,7 @@ use Rattle.courier_messages.specs.Laws.{items_of}
 use Rattle.courier_messages.specs.RawCalls.{caller_items}
 use Rattle.courier_messages.specs.declared.message.Message.{Message}
 use Rattle.courier_sessions.specs.Answering.{transaction_in}
-use Rattle.courier_sessions.specs.Answerings.{is_listed}
+use Rattle.courier_sessions.specs.Answerings.{is_answerable}
 use Rattle.courier_sessions.specs.Talks.{AreAnswers, made_messages}
 use Rattle.courier_sessions.specs.declared.program.Program.{Program}
 use Rattle.xns_spp.specs.Growth.{Begins}
@@ -39,7 +39,7 @@ pub record HasServed (programs : List Program) (closing : Closing) (h : Story) :
   -- the calls taken are the messages that the items handed up say, in order, each once
   pub taken : Begins h.taken (conversation (handed_up h))
   -- the program was handed the listed ones
-  pub handed : h.handed ≡ filter (is_listed programs) h.taken
+  pub handed : h.handed ≡ filter (is_answerable programs) h.taken
   -- the k-th answer has the number of the k-th call taken; at most the last call waits
   pub answers : Begins (map transaction_in h.answers) (map transaction_in h.taken)
   pub most : length h.taken ≤ length h.answers + 1
@@ -68,7 +68,7 @@ pub record Agree (programs : List Program) (h g : Story) : Type 0 where
   -- the calls taken are those made, in order, as far as they came
   pub calls : Begins g.taken (made_messages 1 h.made)
   -- the calls handed are the listed ones of those made
-  pub handed : Begins g.handed (filter (is_listed programs) (made_messages 1 h.made))
+  pub handed : Begins g.handed (filter (is_answerable programs) (made_messages 1 h.made))
   -- the answers handed are those put out, in order, as far as they came
   pub answers : Begins h.handed g.answers
   pub each : (k : ℕ) (m : Message) → slice_get h.handed k ≡ Some m → IsOutcome h g k m

@@ -37,8 +37,8 @@ abbrev pub wants_word : Side → Closing → Bool
 wants_word side c = wants_answer side || wants_end c
 
 -- what is known of closing after an item of this datastream that came; an EndReply that nobody asked for counts as End and EndReply
-abbrev pub noted : Closing → ℕ → Closing
-noted c stream =
+abbrev pub after_end_words : Closing → ℕ → Closing
+after_end_words c stream =
     if stream == end_stream then record c { reply_wanted = true }
     else if stream == end_reply_stream then record c { reply_wanted = true; reply_heard = true }
     else c

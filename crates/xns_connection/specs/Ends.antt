@@ -18,8 +18,8 @@ opener_by Initiator e = None
 opener_by Responder e = Some (e.peer, e.peer_id)
 
 -- the peer that opened the connection, and the peer's identifier; none where our side opened it
-abbrev pub opener_of : Connection → Option (Address × ℕ)
-opener_of c = opener_by c.conversation.endpoint.ends.role c.conversation.endpoint.ends
+abbrev pub peer_that_opened : Connection → Option (Address × ℕ)
+peer_that_opened c = opener_by c.conversation.endpoint.ends.role c.conversation.endpoint.ends
 
 -- ---- what stays
 
@@ -31,7 +31,7 @@ pub record IsSameEnd (old new : Ends) : Type 0 where
 -- a connection has the end that it had, and the same one opened it
 pub record KeepsEnd (old new : Connection) : Type 0 where
   pub end : IsSameEnd old.conversation.endpoint.ends new.conversation.endpoint.ends
-  pub opener : opener_of new ≡ opener_of old
+  pub opener : peer_that_opened new ≡ peer_that_opened old
 
 -- a connection keeps its end at each step, when it is asked for a packet, when a message is handed, when what is due is done, and when
 -- nobody hears its packets

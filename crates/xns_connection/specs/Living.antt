@@ -4,7 +4,7 @@ use Rattle.std.specs.List.{filter}
 use Rattle.courier_messages.specs.RawCalls.{RawCall}
 use Rattle.courier_messages.specs.declared.message.Message.{Message}
 use Rattle.courier_sessions.specs.Answering.{answer_message, transaction_in, why_unlisted, reject_message}
-use Rattle.courier_sessions.specs.Answerings.{is_listed}
+use Rattle.courier_sessions.specs.Answerings.{is_answerable}
 use Rattle.courier_sessions.specs.Talks.{made_messages}
 use Rattle.courier_sessions.specs.declared.answer.Answer.{Answer}
 use Rattle.courier_sessions.specs.declared.program.Program.{Program}
@@ -57,7 +57,7 @@ unfoldable pub to_listed : List Program → (calls answers : List Message) → L
 to_listed programs [] answers = []
 to_listed programs (c ∷ cs) [] = []
 to_listed programs (c ∷ cs) (m ∷ answers) =
-    if is_listed programs c then m ∷ to_listed programs cs answers else to_listed programs cs answers
+    if is_answerable programs c then m ∷ to_listed programs cs answers else to_listed programs cs answers
 
 -- the conversation has a story: its end came from a new one, the program made these calls in it, was handed these messages, and gave these
 -- answers to the listed calls
@@ -73,7 +73,7 @@ pub record IsLived (programs : Option (List Program)) (start : State) (c : Conve
 -- what the program at a connection that calls did, and the one at its peer, which is called for these programs
 pub record ProgramsAgree (programs : List Program) (here there : Deeds) : Type 0 where
   -- the one was handed the listed calls that the other made, in order, as far as they came
-  pub calls : Begins there.handed (filter (is_listed programs) (made_messages 1 here.made))
+  pub calls : Begins there.handed (filter (is_answerable programs) (made_messages 1 here.made))
   -- the other was handed the answers that the one gave to them, in order, as far as they came
   pub answers : Begins (to_listed programs (made_messages 1 here.made) here.handed) there.gave
   -- the program was handed a reject for each call that is not listed

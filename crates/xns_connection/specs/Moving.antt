@@ -11,7 +11,7 @@ use Rattle.xns_spp.specs.Held.{Held, StandsFor}
 use Rattle.xns_spp.specs.Sending.{after_send, after_take, send_answer, take_answer, waiting_count}
 use Rattle.xns_spp.specs.State.{State, IsState}
 use Rattle.xns_spp.specs.declared.item.Item.{Item}
-use Rattle.xns_connection.specs.Closing.{closing_item, drains, end_stream, end_reply_stream, noted}
+use Rattle.xns_connection.specs.Closing.{closing_item, drains, end_stream, end_reply_stream, after_end_words}
 use Rattle.xns_connection.specs.Story.{IsListed, IsUnlisted, has_message, is_stopped, out_of, owes_answer}
 use Rattle.xns_connection.specs.declared.closing.Closing.{Closing}
 use Rattle.xns_connection.specs.declared.conversation.Conversation.{Conversation}
@@ -79,7 +79,7 @@ pub data Converses (side : Side) (s : State) : Result (Unit {0}) FeedRefusal →
 -- the item that waits first is taken, and what it says of closing is noted
 abbrev pub noting : Option Item → ConversationScene → ConversationScene
 noting None x = x
-noting (Some item) x = record x { closing = noted x.closing item.stream; state = after_take x.state }
+noting (Some item) x = record x { closing = after_end_words x.closing item.stream; state = after_take x.state }
 
 abbrev pub taken_one : ConversationScene → ConversationScene
 taken_one x = noting (take_answer x.state) x

@@ -55,7 +55,7 @@ pub struct Connection {
 }
 
 impl Connection {
-    ghost use Rattle.xns_connection.specs.Ends.{opener_of};
+    ghost use Rattle.xns_connection.specs.Ends.{peer_that_opened};
     ghost use Rattle.xns_connection.specs.Step.{GivesNext, Hands, MovesOwed, Step, is_ours_by, parts_of};
 
     /// Moves items until none can move.
@@ -358,7 +358,7 @@ impl Connection {
 
     /// The address and connection identifier of the peer, where the peer opened the connection. `None`: our side opened it.
     pub fn opener(&self) -> Option<(Address, u16)>
-        ensures { result ≡ opener_of self.now }
+        ensures { result ≡ peer_that_opened self.now }
     {
         match self.conversation.endpoint.role() {
             Role::Initiator => None,
@@ -369,7 +369,7 @@ impl Connection {
     /// Whether the peer opened the connection.
     #[inline(always)]
     pub fn peer_opened(&self) -> bool
-        ensures { result ≡ is_some (opener_of self.now) }
+        ensures { result ≡ is_some (peer_that_opened self.now) }
     {
         match self.conversation.endpoint.role() {
             Role::Initiator => false,

@@ -8,7 +8,7 @@ ghost use Rattle.xns_spp.specs.Receiving.{input_answer, after_receive, StoresByt
 ghost use Rattle.xns_spp.specs.Sending.{send_answer, after_send, tick_answer, waiting_count};
 ghost use Rattle.xns_spp.specs.State.{State};
 ghost use Rattle.xns_connection.specs.Calls.{raw_of_call};
-ghost use Rattle.xns_connection.specs.Closing.{closing_item, noted, drains, wants_word};
+ghost use Rattle.xns_connection.specs.Closing.{closing_item, after_end_words, drains, wants_word};
 ghost use Rattle.xns_connection.specs.Moving.{IsAt, Moves, ConversationScene, MovesAll, closed_up, drained_out, with_end_out, is_calm, replied, conversation_scene, taken_many, taken_one};
 ghost use Rattle.xns_connection.specs.Deeds.{side_answered, side_called, side_taken};
 ghost use Rattle.xns_connection.specs.Refusing.{Answers};
@@ -57,7 +57,7 @@ fn closing_item(alloc: Global, stream: u8) -> Item
 
 /// What is known of closing after an item of this datastream. An EndReply that nobody asked for counts as End and EndReply.
 fn noted(closing: Closing, stream: u8) -> Closing
-    ensures { result ≡ noted closing stream }
+    ensures { result ≡ after_end_words closing stream }
 {
     let mut after = closing;
     if stream == END {

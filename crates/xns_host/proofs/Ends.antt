@@ -17,7 +17,7 @@ use Rattle.xns_spp.specs.Telling.{own_name}
 use Rattle.xns_spp.specs.declared.ends.Ends.{Ends}
 use Rattle.xns_spp.specs.declared.role.Role.{Role}
 use Rattle.xns_spp.specs.declared.role.Role.TheVariants.{Initiator, Responder}
-use Rattle.xns_connection.specs.Ends.{IsSameEnd, KeepsEnd, opener_by, opener_of}
+use Rattle.xns_connection.specs.Ends.{IsSameEnd, KeepsEnd, opener_by, peer_that_opened}
 use Rattle.xns_connection.specs.Living.{GoesFrom}
 use Rattle.xns_host.specs.Register.{number_by, owner_in, peer_at, peer_cmp}
 use Rattle.xns_host.specs.Knowing.{id_of, opener_to, who_opened}
@@ -41,12 +41,12 @@ pub told_id : (t : Conversation) (m : Story) → Tells t m → m.state.ends.id �
 told_id t m told = ap (λ (e : Held). e.ends.id) (sym told.stands.holds)
 
 -- the end of a connection says who opened the connection, as each history of the end does
-pub end_opener : (c : Connection) (s : State) → StandsFor c.conversation.endpoint s → opener_of c ≡ opener_by s.ends.role s.ends
+pub end_opener : (c : Connection) (s : State) → StandsFor c.conversation.endpoint s → peer_that_opened c ≡ opener_by s.ends.role s.ends
 end_opener c s stands = ap (λ (e : Held). opener_by e.ends.role e.ends) stands.holds
 
 -- the end of a connection says with its own socket who opened the connection, as each history of the end does
 pub end_opened : (c : Connection) (s : State) → StandsFor c.conversation.endpoint s
-    → opener_to c.conversation.endpoint.ends.own.socket (opener_of c) ≡ opener_to s.ends.own.socket (opener_by s.ends.role s.ends)
+    → opener_to c.conversation.endpoint.ends.own.socket (peer_that_opened c) ≡ opener_to s.ends.own.socket (opener_by s.ends.role s.ends)
 end_opened c s stands = ap (λ (e : Held). opener_to e.ends.own.socket (opener_by e.ends.role e.ends)) stands.holds
 
 -- the socket that a connection names as its own is its end's
@@ -78,7 +78,7 @@ same_id g h keeps = ap (λ (e : Ends). e.id) keeps.end.same
 
 pub same_opener : (g h : Guest) → KeepsEnd g.connection h.connection → who_opened h ≡ who_opened g
 same_opener g h keeps =
-    ap (λ (e : Ends). opener_to e.own.socket (opener_of h.connection)) keeps.end.same
+    ap (λ (e : Ends). opener_to e.own.socket (peer_that_opened h.connection)) keeps.end.same
     ∙ ap (λ (o : Option (Address × ℕ)). opener_to g.connection.conversation.endpoint.ends.own.socket o) keeps.opener
 
 -- ---- a connection's story goes on

@@ -15,7 +15,7 @@ use Rattle.xns_connection.specs.Connecting.{is_dead}
 use Rattle.xns_connection.specs.Deeds.{acted}
 use Rattle.xns_host.specs.Events.{event_in, is_newly_open}
 use Rattle.xns_host.specs.Identifiers.{Ids, IsNextIdentifier, is_free}
-use Rattle.xns_connection.specs.Ends.{opener_of}
+use Rattle.xns_connection.specs.Ends.{peer_that_opened}
 use Rattle.xns_host.specs.Knowing.{id_of, who_opened}
 use Rattle.xns_host.specs.Quotes.{is_sent_by, quoted_packet}
 use Rattle.xns_host.specs.Register.{peer_at}
@@ -52,7 +52,7 @@ forgotten_at c = if is_some c.closed && c.told then due_time c.wait.due else Non
 -- when its peer was last heard, if that peer only opened the connection, and nothing came of the connection yet
 abbrev pub stranger_heard_at : Guest → Option ℕ
 stranger_heard_at g =
-    if is_some (opener_of g.connection) && (not g.confirmed && (not g.heard_of &&
+    if is_some (peer_that_opened g.connection) && (not g.confirmed && (not g.heard_of &&
     (not (is_some g.connection.closed) && not (tells g.connection)))) then Some g.connection.wait.heard_at else None
 
 abbrev pub facts_of : Guest → Facts
@@ -235,7 +235,7 @@ pub record IsConnected (guests : List (Option Guest)) (number : ℕ) (settings :
   pub made : IsMadeBy settings now true guest.connection
   pub via : guest.via ≡ way
   pub peer : guest.peer ≡ to
-  pub opener : opener_of guest.connection ≡ None
+  pub opener : peer_that_opened guest.connection ≡ None
   pub confirmed : guest.confirmed ≡ false
   pub heard_of : guest.heard_of ≡ false
   pub opening : guest.opening_untold ≡ settings.tells_opened

@@ -1,7 +1,7 @@
 -- What a host knows of a connection.
 use Rattle.std.specs.Prelude.{ℕ, Option, Some, None}
 use Rattle.xns_idp.specs.declared.address.Address.{Address}
-use Rattle.xns_connection.specs.Ends.{opener_of}
+use Rattle.xns_connection.specs.Ends.{peer_that_opened}
 use Rattle.xns_host.specs.Register.{peer_at}
 use Rattle.xns_host.specs.declared.guest.Guest.{Guest}
 use Rattle.xns_host.specs.declared.peer.Peer.{Peer}
@@ -17,7 +17,7 @@ opener_to socket (Some o) = Some (peer_at o.0 o.1 socket)
 
 -- the peer that opened the connection, and at which socket of ours, as the connection's end says; none where we opened it
 abbrev pub who_opened : Guest → Option Peer
-who_opened g = opener_to g.connection.conversation.endpoint.ends.own.socket (opener_of g.connection)
+who_opened g = opener_to g.connection.conversation.endpoint.ends.own.socket (peer_that_opened g.connection)
 
 -- what a host knows of a connection beside what the connection is: by which via its packets go out, and its peer
 pub record KnownOfPeer : Type 0 where

@@ -5,7 +5,7 @@ use Rattle.courier_calls.specs.Calls.{Serving, decision, HasWords}
 use Rattle.courier_messages.specs.Conversation.{Phase}
 use Rattle.courier_calls.specs.Answers.{answer_message}
 use Rattle.courier_messages.specs.Message.{most_bytes}
-use Rattle.courier_messages.specs.Bounds.{IsBounded, bytes_in}
+use Rattle.courier_messages.specs.Bounds.{IsWithinMessage, bytes_in}
 use Rattle.courier_messages.specs.Laws.{IsShort}
 use Rattle.courier_messages.specs.Called.{server_ending}
 use Rattle.courier_calls.specs.Server.{server_items, server_state}
@@ -32,7 +32,7 @@ pub record IsServedWithin {S : Type 0} (serving : Serving S) (s : S) (w : Served
   pub end : IsState w.end
   -- where the end's session has met no fault, the session keeps fewer than four bytes of the versions, or at most
   -- 131,072 bytes of an incoming message
-  pub kept : (p : Phase) → server_ending (handed_up_by w.end) ≡ Ok p → IsBounded p
+  pub kept : (p : Phase) → server_ending (handed_up_by w.end) ≡ Ok p → IsWithinMessage p
   -- the answer to whatever call the session decides next has at most 131,072 bytes
   pub answer : (transaction : ℕ) (call : RawCall) → HasWords call
       → IsShort (answer_message transaction (decision serving (server_state serving s (handed_up_by w.end)) call))

@@ -3,7 +3,7 @@ use Rattle.xns_idp.specs.declared.address.Address.{Address}
 use Rattle.xns_spp.specs.State.{initiator_state}
 use Rattle.xns_agenda.specs.Agenda.{HasNoNumber}
 use Rattle.xns_host.specs.Hosting.{IsPlaceForNew, address_in}
-use Rattle.xns_connection.specs.Ends.{opener_of}
+use Rattle.xns_connection.specs.Ends.{peer_that_opened}
 use Rattle.xns_host.specs.Identifiers.{IsNextIdentifier}
 use Rattle.xns_host.specs.Knowing.{opener_to}
 use Rattle.xns_host.specs.declared.peer.Peer.{Peer}
@@ -25,7 +25,7 @@ put_in-requires-clause-registered c =
     c.take.ensures.given c.take.ensures.some c.take.ensures.owner c.take.ensures.peers in
     let id = told_id c.in-Ok.connection.conversation _ c.in-Ok.ensures.tells in
     let named = joined_as id has in
-    let none : opener_to c.in-Ok.connection.conversation.endpoint.ends.own.socket (opener_of c.in-Ok.connection) ≡ None
+    let none : opener_to c.in-Ok.connection.conversation.endpoint.ends.own.socket (peer_that_opened c.in-Ok.connection) ≡ None
     = end_opened c.in-Ok.connection _ c.in-Ok.ensures.tells.stands in
     all_joined c.args.self.now.register c.take.new.self c.args.self.now.guests.items _ _ c.args.self.now.registered named
     (λ o opened. let some = sym none ∙ opened in absurd (cc))

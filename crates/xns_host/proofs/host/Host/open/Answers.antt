@@ -18,7 +18,7 @@ use Rattle.xns_host.proofs.Waking.{all_in_use, gets_place, no_room}
 use Rattle.xns_host.proofs.Ends.{end_opened, has_story, told_id}
 use Rattle.xns_host.proofs.Joining.{OpenedBy, all_joined, joined_as, joined_opened, opened_by, turned_over, unentered}
 use Rattle.xns_host.proofs.Undone.{came_not_done, not_done_new}
-use Rattle.xns_connection.specs.Ends.{opener_of}
+use Rattle.xns_connection.specs.Ends.{peer_that_opened}
 use Rattle.xns_host.specs.Knowing.{opener_to}
 use Rattle.xns_host.specs.Identifiers.{Ids, IsNextIdentifier, TurnsOver}
 use Rattle.xns_host.proofs.host.Host.open.Goals as goal
@@ -45,7 +45,7 @@ put_in-requires-clause-registered c =
     c.take.ensures.peers in
     let id = told_id c.in-Ok.connection.conversation _ c.in-Ok.ensures.tells in
     let named = joined_as id has in
-    let is : opener_to c.in-Ok.connection.conversation.endpoint.ends.own.socket (opener_of c.in-Ok.connection) ≡ Some c.args.opener
+    let is : opener_to c.in-Ok.connection.conversation.endpoint.ends.own.socket (peer_that_opened c.in-Ok.connection) ≡ Some c.args.opener
     = end_opened c.in-Ok.connection _ c.in-Ok.ensures.tells.stands
     ∙ ap Some (sym (c.requires.opener ∙ ap (λ (own : Address). peer_at c.args.peer c.args.peer_id own.socket) (sym c.address-own.ensures))) in
     all_joined c.args.self.now.register c.take.new.self c.args.self.now.guests.items _ _ c.args.self.now.registered named
