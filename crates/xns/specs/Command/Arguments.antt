@@ -1,5 +1,5 @@
 -- The command line of the program.
-use Rattle.std.specs.Prelude.{◌≡◌, List, ◌∷◌, [], Option, Some, None, option_and_then, option_map, slice_get, unwrap_or, codes, map, Bool, true, false, ◌||◌, if◌then◌else◌}
+use Rattle.std.specs.Prelude.{◌≡◌, List, ◌∷◌, [], Option, Some, None, option_and_then, option_map, slice_get, unwrap_or, codes, map, Bool, true, false, ◌||◌, ◌⊎◌, if◌then◌else◌}
 use Rattle.std.specs.Borrow.{Bor}
 use Rattle.std.specs.Str.{bytes_eq}
 use Rattle.clap.specs.Kinds.{or_else}
@@ -130,3 +130,9 @@ words_of_programs = codes "xns" ∷ codes "programs" ∷ codes "x.courier" ∷ [
 -- the words that print calls by the programs of a description
 abbrev pub words_of_named_calls : List Text
 words_of_named_calls = codes "xns" ∷ codes "calls" ∷ codes "--programs" ∷ codes "x.courier" ∷ codes "x.pcap" ∷ []
+
+-- words that only want of memory refuses: a mode's own, these and a file that is called x.pcap, those that print a description, and
+-- those that print calls by one
+abbrev pub AreGoodWords : List Text → Type 0
+AreGoodWords words = ((mode : Mode) × ((words ≡ mode_words mode) ⊎ (words ≡ words_with_file mode)))
+    ⊎ ((words ≡ words_of_programs) ⊎ (words ≡ words_of_named_calls))

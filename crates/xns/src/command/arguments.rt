@@ -4,10 +4,10 @@ ghost use Rattle.clap.specs.Words.{FailsBy, app_of, fault_of, kind_of, new_app, 
 ghost use Rattle.clap.specs.declared.builder.command.Command.TheViews.{out-Command as fields_of};
 ghost use Rattle.xns_command.specs.declared.mode.Mode.{Mode};
 ghost use Rattle.xns_command.specs.Modes.{name_of};
-ghost use Rattle.xns.specs.Command.Arguments.{AsksFor, calls_app, file_rule, files_rule, flag_in, flag_rule, is_programs};
+ghost use Rattle.xns.specs.Command.Arguments.{AreGoodWords, AsksFor, calls_app, file_rule, files_rule, flag_in, flag_rule, is_programs};
 ghost use Rattle.xns.specs.Command.Arguments.{is_true as is_true_text, named_descriptions, named_files, named_subcommand, named_times};
 ghost use Rattle.xns.specs.Command.Arguments.{option_rule, plain_word as plain_word_of, program_app, reading_app, refusals_of, texts};
-ghost use Rattle.xns.specs.Command.Arguments.{times_by, values_in, mode_words, words_of_named_calls, words_of_programs, words_with_file};
+ghost use Rattle.xns.specs.Command.Arguments.{times_by, values_in};
 
 use crate::command::help::{ABOUT, CALLS_HELP, DUMP_HELP, HELP, PROGRAMS_HELP, SIM_HELP, VERSION};
 use crate::command::request::Request;
@@ -174,16 +174,8 @@ pub fn request<'a>(alloc: Global, words: &'a [&'a str]) -> Result<Request<'a>, E
     ensures asked { IfOk result (λ request. AsksFor request (texts words.entry.now)) }
     // An error is one of memory, or has a kind that clap's meaning of the words gives.
     ensures kinds { FailsBy (refusals_of (texts words.entry.now)) result }
-    // The mode's own words, a file that is called x.pcap behind them, the words that print a description, and those that print
-    // calls by one, are refused for memory alone.
-    ensures alone { IfErr result (λ error. (mode : Mode) → texts words.entry.now ≡ mode_words mode
-        → kind_of error ≡ ErrorKind.OutOfMemory) }
-    ensures of_file { IfErr result (λ error. (mode : Mode) → texts words.entry.now ≡ words_with_file mode
-        → kind_of error ≡ ErrorKind.OutOfMemory) }
-    ensures of_description { IfErr result (λ error. texts words.entry.now ≡ words_of_programs
-        → kind_of error ≡ ErrorKind.OutOfMemory) }
-    ensures of_named_calls { IfErr result (λ error. texts words.entry.now ≡ words_of_named_calls
-        → kind_of error ≡ ErrorKind.OutOfMemory) }
+    // Some words are refused for memory alone.
+    ensures memory { IfErr result (λ error. AreGoodWords (texts words.entry.now) → kind_of error ≡ ErrorKind.OutOfMemory) }
 {
     let (name, files, times, descriptions) = named_in(alloc, words)?;
     if names_programs(name) {
@@ -212,14 +204,7 @@ fn named_in<'a>(
     ensures times { IfOk result (λ found. found.2 ≡ named_times (texts words.entry.now)) }
     ensures descriptions { IfOk result (λ found. texts found.3.items ≡ named_descriptions (texts words.entry.now)) }
     ensures kinds { FailsBy (fault_of program_app (texts words.entry.now)) result }
-    ensures alone { IfErr result (λ error. (mode : Mode) → texts words.entry.now ≡ mode_words mode
-        → kind_of error ≡ ErrorKind.OutOfMemory) }
-    ensures of_file { IfErr result (λ error. (mode : Mode) → texts words.entry.now ≡ words_with_file mode
-        → kind_of error ≡ ErrorKind.OutOfMemory) }
-    ensures of_description { IfErr result (λ error. texts words.entry.now ≡ words_of_programs
-        → kind_of error ≡ ErrorKind.OutOfMemory) }
-    ensures of_named_calls { IfErr result (λ error. texts words.entry.now ≡ words_of_named_calls
-        → kind_of error ≡ ErrorKind.OutOfMemory) }
+    ensures memory { IfErr result (λ error. AreGoodWords (texts words.entry.now) → kind_of error ≡ ErrorKind.OutOfMemory) }
 {
     let matches = program(alloc)?.try_get_matches_from(words)?;
     let files = values_of(alloc, &matches, FILE)?;

@@ -1,11 +1,11 @@
-use Rattle.std.proofs.Common.{◌≡◌, ◌∙◌, ap, ap₂, sym, refl, true, codes}
+use Rattle.std.proofs.Common.{◌≡◌, ◌∙◌, ap, sym, refl, inl, inr, List, true, codes}
 use Rattle.std.proofs.lemmas.Result.{err_from_is_err_and}
 use Rattle.clap.proofs.OnLiterals.{clap_on_literals}
-use Rattle.clap.specs.Words.{fault_of, is_simple, is_simple_and_free, subcommand_of, takes}
+use Rattle.clap.specs.Words.{Text, fault_of, is_simple, is_simple_and_free, subcommand_of, takes}
 use Rattle.xns.proofs.Refusals.{is_free}
 use Rattle.xns_command.specs.declared.mode.Mode.{Mode}
 use Rattle.xns_command.specs.declared.mode.Mode.TheVariants.{Calls, Dump, Sim}
-use Rattle.xns.specs.Command.Arguments.{flag_in, program_app, texts, times_by, values_in, mode_words, words_of_named_calls, words_of_programs, words_with_file}
+use Rattle.xns.specs.Command.Arguments.{AreGoodWords, flag_in, program_app, texts, times_by, values_in, mode_words, words_of_named_calls, words_of_programs, words_with_file}
 use Rattle.xns.proofs.command.arguments.named_in.Goals as goal
 
 is_taken : (mode : Mode) → takes program_app (mode_words mode) ≡ true
@@ -32,25 +32,17 @@ is_plain : is_simple program_app ≡ true
 unfolding clap_on_literals
 is_plain = refl
 
-pub returns-in_err-matches-clause-alone : goal.returns-in_err-matches-clause-alone
-returns-in_err-matches-clause-alone c =
-    let p = err_from_is_err_and c.from_residual-in_err-matches.result c.from_residual-in_err-matches.ensures.1 in
-    rw (p.1, p.2) (λ mode h. c.in_err-matches.ensures.passes (ap₂ takes c.in_ok-program.ensures h ∙ is_taken mode))
+are_taken : (words : List Text) → AreGoodWords words → takes program_app words ≡ true
+are_taken words (inl (mode, inl h)) = ap (takes program_app) h ∙ is_taken mode
+are_taken words (inl (mode, inr h)) = ap (takes program_app) h ∙ is_file_taken mode
+are_taken words (inr (inl h)) = ap (takes program_app) h ∙ is_description_taken
+are_taken words (inr (inr h)) = ap (takes program_app) h ∙ are_named_calls_taken
 
-pub returns-in_err-matches-clause-of_file : goal.returns-in_err-matches-clause-of_file
-returns-in_err-matches-clause-of_file c =
+pub returns-in_err-matches-clause-memory : goal.returns-in_err-matches-clause-memory
+returns-in_err-matches-clause-memory c =
     let p = err_from_is_err_and c.from_residual-in_err-matches.result c.from_residual-in_err-matches.ensures.1 in
-    rw (p.1, p.2) (λ mode h. c.in_err-matches.ensures.passes (ap₂ takes c.in_ok-program.ensures h ∙ is_file_taken mode))
-
-pub returns-in_err-matches-clause-of_description : goal.returns-in_err-matches-clause-of_description
-returns-in_err-matches-clause-of_description c =
-    let p = err_from_is_err_and c.from_residual-in_err-matches.result c.from_residual-in_err-matches.ensures.1 in
-    rw (p.1, p.2) (λ h. c.in_err-matches.ensures.passes (ap₂ takes c.in_ok-program.ensures h ∙ is_description_taken))
-
-pub returns-in_err-matches-clause-of_named_calls : goal.returns-in_err-matches-clause-of_named_calls
-returns-in_err-matches-clause-of_named_calls c =
-    let p = err_from_is_err_and c.from_residual-in_err-matches.result c.from_residual-in_err-matches.ensures.1 in
-    rw (p.1, p.2) (λ h. c.in_err-matches.ensures.passes (ap₂ takes c.in_ok-program.ensures h ∙ are_named_calls_taken))
+    rw (p.1, p.2) (λ good. c.in_err-matches.ensures.passes
+    (ap (λ app. takes app (texts c.args.words.now)) c.in_ok-program.ensures ∙ are_taken (texts c.args.words.now) good))
 
 pub returns-clause-files : goal.returns-clause-files
 returns-clause-files c =
