@@ -24,7 +24,7 @@ import re
 import sys
 
 CONTAINER = re.compile(r"(?:impl(?:<.*?>)? (?:[\w:]+(?:<.*>)? for )?|(?:pub )?trait )(\w+)")
-FUNCTION = re.compile(r"( *)(pub )?(?:const |unsafe )*fn (\w+)")
+FUNCTION = re.compile(r'( *)(?:pub\(crate\) )?(pub )?(?:const |unsafe |final |extern "C" )*fn (\w+)')
 OTHER = re.compile(r"()(pub )(?:struct|enum|trait|const|type) (\w+)")
 NAMED = re.compile(r"`([^`\s]+)`")
 FILE_AND_NAMES = re.compile(r"`([^`\s]+)`(?: \((`\w+`(?:, `\w+`)*)\))?")
