@@ -198,7 +198,7 @@ server_kept cs rs = record {
   fed = λ a n x e h.
       let ok = server_fed a.failed (is_busy a) x.attention (nat_lt most_item (length x.body)) (answering.after_item a x) n e in
       let ms = said a.phase (signs x) in
-      let p = then_ok (called.heard ms (run a.phase (signs x))) (λ p. let r : Result Answering SessionFault = Ok (with_call (record a { phase = p }) ms) in r) n ok.0 in
+      let p = then_ok (called.called_ending ms (run a.phase (signs x))) (λ p. let r : Result Answering SessionFault = Ok (with_call (record a { phase = p }) ms) in r) n ok.0 in
       let same : with_call (record a { phase = p.0 }) ms ≡ n = (let is = p.1 in cc) in
       subst (HasAnswers cs rs) same (with_calls cs rs a p.0 ms (not_asked a.call a.asked a.out ok.1) h);
   stops = λ a n is h. subst (HasAnswers cs rs) (sym is) (record { asked = h.asked; even = h.even; single = h.single });

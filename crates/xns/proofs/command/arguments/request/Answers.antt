@@ -35,8 +35,8 @@ is_other e = (cc)
 -- words that name no subcommand are not good ones
 name_none : (words : List Text) (name : Option Text) → name ≡ named_subcommand words → ((mode : Mode) → name ≡ Some (name_of mode) → ⊥) → is_programs name ≡ false → AreGoodWords words → ⊥
 name_none words name same none other good = elim (name_one words good) [
-    | inl (mode, named) ↦ none mode (same ∙ named)
-    | inr named ↦ is_other (ap is_programs (sym (same ∙ named)) ∙ other)
+  | inl (mode, named) ↦ none mode (same ∙ named)
+  | inr named ↦ is_other (ap is_programs (sym (same ∙ named)) ∙ other)
 ]
 
 pub returns-in_err-error-clause-memory : goal.returns-in_err-error-clause-memory
