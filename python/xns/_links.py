@@ -123,7 +123,7 @@ class NetHub(_Link):
     """Packets by way of a hub of emulators: a stream of TCP with Ethernet frames in it, each behind two bytes of its length. A place is the station that a
     packet comes from or goes to. A hub that is gone is a network that is down: a second later the link is made again."""
 
-    AGAIN = 1.0  # seconds from one attempt to reach the hub to the next
+    AGAIN = 1.0  # seconds from the end of one attempt to reach the hub to the next
     REACHED = 2.0  # seconds in which the hub replies, or is gone
 
     def __init__(self, host: str, port: int, station: Optional[bytes] = None) -> None:
@@ -135,8 +135,11 @@ class NetHub(_Link):
         self._open()
 
     def _open(self) -> None:
-        self._tried, self._came = time.monotonic(), b""
-        self._stream = socket.create_connection(self._place, self.REACHED)
+        self._came = b""
+        try:
+            self._stream = socket.create_connection(self._place, self.REACHED)
+        finally:
+            self._tried = time.monotonic()  # behind the attempt, which may take longer than the wait for the next one
         self._stream.setsockopt(socket.IPPROTO_TCP, socket.TCP_NODELAY, 1)
         self._stream.setblocking(False)
 
