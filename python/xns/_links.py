@@ -187,20 +187,24 @@ class NetHub(_Link):
             if len(self._came) >= _LENGTH and len(self._came) == wanted:
                 frame, self._came = self._came[_LENGTH:], b""
                 return frame
-            self._came += self._some(wanted - len(self._came))
+            self._read(wanted - len(self._came))
 
-    def _some(self, size: int) -> bytes:
+    def _read(self, size: int) -> None:
+        """Reads so many bytes at most."""
         stream = self._reached()
         try:
             more = stream.recv(size)
+            self._came += more
         except BlockingIOError:
             raise
         except OSError:
             more = b""
+        except BaseException:  # Ctrl-C, and perhaps bytes were read: without them the stream is of no more use
+            self._lose()
+            raise
         if not more:
             self._lose()
             raise BlockingIOError
-        return more
 
     def sendto(self, packet: bytes, station: bytes) -> int:
         """Sends a packet, padded to the shortest frame. A hub that takes no more for a second is gone."""
@@ -213,7 +217,7 @@ class NetHub(_Link):
                 except BlockingIOError:
                     if not select.select([], [stream], [], self.AGAIN)[1]:
                         raise ConnectionError("the hub takes nothing") from None
-        except (ConnectionError, socket.timeout):
+        except BaseException:  # also Ctrl-C: behind a part of a frame the stream is of no more use
             self._lose()
             raise
         return len(packet)

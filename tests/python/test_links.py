@@ -1,6 +1,9 @@
 """What becomes of a link to a hub of emulators where the hub is slow, gone, or left amid a frame."""
+import errno
+import select
 import socket
 import time
+import types
 import unittest
 import unittest.mock
 
@@ -9,6 +12,7 @@ from relay import LOCAL
 
 HOST, OTHER = bytes.fromhex("0000aa000102"), bytes.fromhex("0000aa000304")
 PACKET = bytes(range(60))
+FRAME = b"\x00\x4a" + OTHER + HOST + b"\x06\x00" + PACKET  # as the hub hears it, behind its length
 
 
 class HubTest(unittest.TestCase):
@@ -16,6 +20,7 @@ class HubTest(unittest.TestCase):
 
     def setUp(self):
         self.hub = socket.create_server((LOCAL, 0))
+        self.hub.settimeout(5)
         self.addCleanup(self.hub.close)
         self.link = xns.nethub(*self.hub.getsockname(), HOST)
         self.link.AGAIN = 0.2
@@ -35,6 +40,46 @@ class HubTest(unittest.TestCase):
             with self.assertRaises(OSError):
                 self.link.recvfrom(2048)
         time.sleep(self.link.AGAIN)
+
+    def opened_again(self):
+        """Sends, once the link has left the stream: by a new one."""
+        time.sleep(self.link.AGAIN)
+        self.link.sendto(PACKET, OTHER)
+        self.stream = self.accepted()
+        self.assertEqual(self.stream.recv(2048), FRAME)
+
+    def test_a_stream_that_took_a_part_of_a_frame_is_left(self):
+        """Also where Ctrl-C ended the sending: the hub would take the next frame for the rest of this one."""
+        for error in (KeyboardInterrupt(), OSError(errno.EHOSTUNREACH, "no way to the hub"), ConnectionResetError()):
+            stream, sent = self.link._stream, []
+
+            def takes_a_part(data):
+                if sent:
+                    raise error
+                sent.append(data[:20])
+                return stream.send(data[:20])
+
+            self.link._stream = types.SimpleNamespace(send=takes_a_part, fileno=stream.fileno, close=stream.close)
+            with self.assertRaises(type(error)):
+                self.link.sendto(PACKET, OTHER)
+            self.assertEqual((self.stream.recv(2048), self.stream.recv(2048)), (FRAME[:20], b""))
+            self.opened_again()
+
+    def test_a_stream_of_which_a_part_is_gone_is_left(self):
+        """Ctrl-C came between the reading of bytes and what is done with them."""
+        stream, read = self.link._stream, []
+
+        def reads_and_is_interrupted(size):
+            read.append(stream.recv(size))
+            raise KeyboardInterrupt
+
+        self.stream.sendall(b"\x00\x4a" + HOST + OTHER)
+        select.select([stream], [], [], 5)
+        self.link._stream = types.SimpleNamespace(recv=reads_and_is_interrupted, fileno=stream.fileno, close=stream.close)
+        with self.assertRaises(KeyboardInterrupt):
+            self.link.recvfrom(2048)
+        self.assertEqual(read, [b"\x00\x4a"])
+        self.opened_again()
 
     def test_a_hub_that_does_not_reply_is_tried_a_while_behind_each_attempt(self):
         attempts = []
