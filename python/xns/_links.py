@@ -135,7 +135,6 @@ class NetHub(_Link):
         self._open()
 
     def _open(self) -> None:
-        self._came = b""
         try:
             self._stream = socket.create_connection(self._place, self.REACHED)
         finally:
@@ -155,7 +154,7 @@ class NetHub(_Link):
     def _lose(self) -> None:
         if self._stream is not None:
             self._stream.close()
-        self._stream, self._tried = None, time.monotonic()
+        self._stream, self._came, self._tried = None, b"", time.monotonic()
 
     def close(self) -> None:
         """Leaves the hub, for good."""

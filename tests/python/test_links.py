@@ -12,6 +12,7 @@ from relay import LOCAL
 
 HOST, OTHER = bytes.fromhex("0000aa000102"), bytes.fromhex("0000aa000304")
 PACKET = bytes(range(60))
+COMES = b"\x00\x4a" + HOST + OTHER + b"\x06\x00" + PACKET  # as the link hears it, behind its length
 FRAME = b"\x00\x4a" + OTHER + HOST + b"\x06\x00" + PACKET  # as the hub hears it, behind its length
 
 
@@ -80,6 +81,24 @@ class HubTest(unittest.TestCase):
             self.link.recvfrom(2048)
         self.assertEqual(read, [b"\x00\x4a"])
         self.opened_again()
+
+    def test_a_part_of_a_frame_goes_with_its_stream(self):
+        """Also where the new stream has frames at once."""
+
+        def opened_with_frames(*place):
+            stream = connect(*place)
+            self.stream = self.accepted()
+            self.stream.sendall(10 * COMES)
+            select.select([stream], [], [], 5)
+            return stream
+
+        connect = socket.create_connection
+        self.stream.sendall(b"\x02\x4e" + COMES[2:50])
+        select.select([self.link], [], [], 5)
+        self.lost()
+        with unittest.mock.patch("socket.create_connection", opened_with_frames):
+            for _ in range(10):
+                self.assertEqual(self.link.recvfrom(2048), (PACKET, OTHER))
 
     def test_a_hub_that_does_not_reply_is_tried_a_while_behind_each_attempt(self):
         attempts = []
