@@ -214,12 +214,21 @@ class NetHub(_Link):
                 try:
                     rest = rest[stream.send(rest) :]
                 except BlockingIOError:
-                    if not select.select([], [stream], [], self.AGAIN)[1]:
+                    if not _takes_more(stream, self.AGAIN):
                         raise ConnectionError("the hub takes nothing") from None
         except BaseException:  # also Ctrl-C: behind a part of a frame the stream is of no more use
             self._lose()
             raise
         return len(packet)
+
+
+def _takes_more(stream: socket.socket, seconds: float) -> bool:
+    """Whether a stream takes more, within so many seconds."""
+    file, waiting = stream.fileno(), select.poll()
+    if file < 0:  # another thread has closed it
+        return False
+    waiting.register(file, select.POLLOUT)
+    return bool(waiting.poll(1000 * seconds))
 
 
 def ethernet(interface: str) -> Ethernet:

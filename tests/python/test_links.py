@@ -1,5 +1,7 @@
 """What becomes of a link to a hub of emulators where the hub is slow, gone, or left amid a frame."""
 import errno
+import fcntl
+import resource
 import select
 import socket
 import time
@@ -99,6 +101,20 @@ class HubTest(unittest.TestCase):
         with unittest.mock.patch("socket.create_connection", opened_with_frames):
             for _ in range(10):
                 self.assertEqual(self.link.recvfrom(2048), (PACKET, OTHER))
+
+    def test_a_hub_that_reads_nothing_in_a_program_with_many_files(self):
+        soft, hard = resource.getrlimit(resource.RLIMIT_NOFILE)
+        if hard < 2000:
+            self.skipTest("a program may not have so many files")
+        resource.setrlimit(resource.RLIMIT_NOFILE, (max(soft, 2000), hard))
+        self.addCleanup(resource.setrlimit, resource.RLIMIT_NOFILE, (soft, hard))
+        with self.link._stream as stream:
+            self.link._stream = socket.socket(fileno=fcntl.fcntl(stream.fileno(), fcntl.F_DUPFD, 1500))
+        self.link._stream.setblocking(False)
+        with self.assertRaisesRegex(ConnectionError, "takes nothing"):
+            while True:
+                self.link.sendto(bytes(576), OTHER)
+        self.assertLess(self.link.fileno(), 0)
 
     def test_a_hub_that_does_not_reply_is_tried_a_while_behind_each_attempt(self):
         attempts = []
