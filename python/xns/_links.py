@@ -134,27 +134,33 @@ class NetHub(_Link):
         self._place, self._stream, self._came, self._tried = (host, port), None, b"", time.monotonic()
         self._open()
 
-    def _open(self) -> None:
+    def _open(self) -> socket.socket:
         try:
-            self._stream = socket.create_connection(self._place, self.REACHED)
+            stream = socket.create_connection(self._place, self.REACHED)
         finally:
             self._tried = time.monotonic()  # behind the attempt, which may take longer than the wait for the next one
-        self._stream.setsockopt(socket.IPPROTO_TCP, socket.TCP_NODELAY, 1)
-        self._stream.setblocking(False)
+        stream.setsockopt(socket.IPPROTO_TCP, socket.TCP_NODELAY, 1)
+        stream.setblocking(False)
+        self._stream = stream
+        if self._is_closed:  # by another thread meanwhile
+            self._lose()
+            self._check()
+        return stream
 
     def _reached(self) -> socket.socket:
         """The stream. `OSError` while the hub is gone, and once it is left."""
         self._check()
-        if self._stream is None:
-            if time.monotonic() < self._tried + self.AGAIN:
-                raise BlockingIOError
-            self._open()
-        return self._stream
+        stream = self._stream  # another thread may close it
+        if stream is not None:
+            return stream
+        if time.monotonic() < self._tried + self.AGAIN:
+            raise BlockingIOError
+        return self._open()
 
     def _lose(self) -> None:
-        if self._stream is not None:
-            self._stream.close()
-        self._stream, self._came, self._tried = None, b"", time.monotonic()
+        stream, self._stream, self._came, self._tried = self._stream, None, b"", time.monotonic()
+        if stream is not None:
+            stream.close()
 
     def close(self) -> None:
         """Leaves the hub, for good."""

@@ -116,6 +116,17 @@ class HubTest(unittest.TestCase):
                 self.link.sendto(bytes(576), OTHER)
         self.assertLess(self.link.fileno(), 0)
 
+    def test_a_link_that_another_thread_closes_while_it_is_opened_again_stays_closed(self):
+        def closed_meanwhile(*place):
+            self.link.close()
+            return connect(*place)
+
+        connect = socket.create_connection
+        self.lost()
+        with unittest.mock.patch("socket.create_connection", closed_meanwhile), self.assertRaisesRegex(OSError, "the link is closed"):
+            self.link.sendto(PACKET, OTHER)
+        self.assertEqual(self.accepted().recv(2048), b"")
+
     def test_a_hub_that_does_not_reply_is_tried_a_while_behind_each_attempt(self):
         attempts = []
 
