@@ -7,6 +7,8 @@ import socket
 import time
 from typing import Any, Iterator, Optional, Protocol, Tuple, runtime_checkable
 
+from ._library import octets
+
 FRAME_TYPE = 0x0600  # the type of an Ethernet frame that has an internet packet in it
 BROADCAST = b"\xff" * 6  # the host that is all hosts, and the station that is all stations
 _HEAD = 14  # bytes of a frame before the packet
@@ -128,9 +130,9 @@ class NetHub(_Link):
 
     def __init__(self, host: str, port: int, station: Optional[bytes] = None) -> None:
         """`OSError` where the hub is not there. Without a station it is one of no maker's, at random."""
-        self.station = bytes([2]) + secrets.token_bytes(5) if station is None else station
-        if not isinstance(self.station, bytes) or len(self.station) != 6:
-            raise ValueError("station has six bytes")
+        self.station = bytes([2]) + secrets.token_bytes(5) if station is None else octets(station, "station")
+        if len(self.station) != 6:
+            raise ValueError(f"station has {len(self.station)} bytes, and not six")
         self._place, self._stream, self._came, self._tried = (host, port), None, b"", time.monotonic()
         self._open()
 

@@ -92,6 +92,8 @@ def close_all(host: Host, now: int) -> Set[int]:
 
 def guarded(other: Other) -> Other:
     """What is given each packet that is not the host's: what it raises ends nothing."""
+    if other is not None and not callable(other):
+        raise TypeError(f"other is no function: it is of type {type(other).__name__}")
 
     def heard(packet: bytes, place: Any) -> None:
         try:
@@ -109,9 +111,7 @@ class Server:
         self, carrier: Carrier, own: Address, programs: Programs, answer: Optional[Service] = None, other: Other = None, **settings: Optional[int]
     ) -> None:
         self._programs, self._service = together(programs, answer)
-        if other is not None and not callable(other):
-            raise TypeError(f"other is no function: it is of type {type(other).__name__}")
-        self._carrier, self._own, self._settings, self._other = checked(carrier), address_of(own, "own"), settings, other
+        self._carrier, self._own, self._settings, self._other = checked(carrier), address_of(own, "own"), settings, guarded(other)
         self._is_stopped = False
         self._bell, self._ringer = socket.socketpair()  # wakes what waits
         for one in (self._bell, self._ringer):
@@ -131,7 +131,7 @@ class Server:
                 raise TypeError(f"stop is no event: it is of type {type(stop).__name__}")
             with Host(self._own, **self._settings) as host, not_blocking(self._carrier):
                 host.serve(self._own.socket, self._programs)
-                station, replies = Station(self._carrier, host, guarded(self._other)), Replies(host)
+                station, replies = Station(self._carrier, host, self._other), Replies(host)
                 try:
                     while not (self._is_stopped or stop is not None and stop.is_set()):
                         station.wait(also=self._bell.fileno(), **({} if stop is None else {"most": _LOOKED_AT}))
