@@ -47,17 +47,18 @@ class _Pump:
         if self._timer is not None:
             self._timer.cancel()
 
-    def turn_alone(self) -> None:
-        """`turn` where nobody waits for it to return."""
+    def turn_alone(self, takes_in: bool = False) -> None:
+        """`turn` where nobody waits for it to return, and before it what came, if that is to be taken in."""
         try:
+            if takes_in:
+                self._station.take_in()
             self.turn()
         except Exception as error:
             self.stop()
             self._failed(error)
 
     def _come(self) -> None:
-        self._station.take_in()
-        self.turn_alone()
+        self.turn_alone(True)
 
     def _watch(self, file: Optional[int]) -> None:
         if file == self._file:

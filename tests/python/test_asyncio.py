@@ -1,0 +1,45 @@
+"""What a loop of asyncio has to expect of `serve_async` and `AsyncClient` where carriers, tasks and services end in other ways than they should."""
+import asyncio
+import unittest
+
+import xns
+from relay import bound
+
+SERVER, CLIENT = xns.Address(1, bytes.fromhex("0000aa000102"), 5), xns.Address(1, bytes.fromhex("0000aa000304"), 1024)
+
+
+class Breaking:
+    """A carrier over a socket that fails once a packet has come, in no way that a carrier should."""
+
+    def __init__(self, udp):
+        self._udp, self.fileno, self.setblocking, self.sendto = udp, udp.fileno, udp.setblocking, udp.sendto
+
+    def recvfrom(self, size):
+        self._udp.recvfrom(size)
+        raise ValueError("it is broken")
+
+
+class AsyncioTest(unittest.TestCase):
+    def setUp(self):
+        self.there, self.here = bound(), bound()
+        self.addCleanup(self.there.close)
+        self.addCleanup(self.here.close)
+
+    def test_a_carrier_that_fails_ends_who_waits(self):
+        async def play():
+            server = asyncio.ensure_future(xns.serve_async(Breaking(self.there), SERVER, [], xns.returns))
+            with self.assertRaisesRegex(ValueError, "broken"):
+                async with xns.AsyncClient(Breaking(self.here), self.there.getsockname(), CLIENT, SERVER) as client:
+                    call = asyncio.ensure_future(client.call(7, 1, 1))
+                    await asyncio.sleep(0)
+                    self.there.sendto(b"", self.here.getsockname())
+                    self.here.sendto(b"", self.there.getsockname())
+                    await asyncio.wait_for(call, 5)
+            with self.assertRaisesRegex(ValueError, "broken"):
+                await asyncio.wait_for(server, 5)
+
+        asyncio.run(play())
+
+
+if __name__ == "__main__":
+    unittest.main()
