@@ -2,6 +2,7 @@
 import asyncio
 import contextlib
 import inspect
+import select
 from typing import Any, Awaitable, Callable, Dict, Iterable, Optional, Set, Union
 
 from ._client import Conversation, until_of
@@ -26,6 +27,8 @@ class _Pump:
     def __init__(self, station: Station, turned: Callable[[], None], failed: Callable[[Exception], None]) -> None:
         self._station, self._turned, self._failed, self._loop = station, turned, failed, asyncio.get_running_loop()
         self._file: Optional[int] = None
+        self._waiting = select.epoll()  # the loop has this file alone: the carrier's may be closed, and its number another one's, before a pump hears of it
+        self._loop.add_reader(self._waiting.fileno(), self._come)
         self._timer: Optional[asyncio.TimerHandle] = None
         self._is_stopped = False
 
@@ -43,7 +46,9 @@ class _Pump:
 
     def stop(self) -> None:
         self._is_stopped = True
-        self._watch(None)
+        if not self._waiting.closed:
+            self._loop.remove_reader(self._waiting.fileno())
+            self._waiting.close()
         if self._timer is not None:
             self._timer.cancel()
 
@@ -64,9 +69,10 @@ class _Pump:
         if file == self._file:
             return
         if self._file is not None:
-            self._loop.remove_reader(self._file)
+            with contextlib.suppress(OSError):  # it was closed
+                self._waiting.unregister(self._file)
         if file is not None:
-            self._loop.add_reader(file, self._come)
+            self._waiting.register(file, select.EPOLLIN)
         self._file = file
 
 
@@ -190,9 +196,9 @@ class _AsyncServer:
         self._tasks: Set[asyncio.Future] = set()
         self._called: Dict[int, Call] = {}  # by the connection the call that is carried out, until the connection is closed
         self._there: Optional[Set[int]] = None  # the connections that are to be closed
-        self._gone, self._stopped = asyncio.Event(), asyncio.ensure_future(stopped.wait())
         self._error: Optional[Exception] = None
         self._pump = _Pump(station, self._turned, self._failed)
+        self._gone, self._stopped = asyncio.Event(), asyncio.ensure_future(stopped.wait())
 
     async def run(self) -> None:
         """Serves until the event is set, the task is cancelled, or an error ends the pump. Then the connections are closed."""

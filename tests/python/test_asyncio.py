@@ -3,7 +3,7 @@ import asyncio
 import unittest
 
 import xns
-from relay import bound
+from relay import LOCAL, bound
 
 SERVER, CLIENT = xns.Address(1, bytes.fromhex("0000aa000102"), 5), xns.Address(1, bytes.fromhex("0000aa000304"), 1024)
 
@@ -17,6 +17,16 @@ class Breaking:
     def recvfrom(self, size):
         self._udp.recvfrom(size)
         raise ValueError("it is broken")
+
+
+class Hearing(asyncio.DatagramProtocol):
+    """Another transport of the loop."""
+
+    def __init__(self):
+        self.packets = asyncio.Queue()
+
+    def datagram_received(self, data, place):
+        self.packets.put_nowait(data)
 
 
 class AsyncioTest(unittest.TestCase):
@@ -37,6 +47,26 @@ class AsyncioTest(unittest.TestCase):
                     await asyncio.wait_for(call, 5)
             with self.assertRaisesRegex(ValueError, "broken"):
                 await asyncio.wait_for(server, 5)
+
+        asyncio.run(play())
+
+    def test_a_socket_whose_file_is_another_one_by_now(self):
+        """It was closed, and a transport of the loop has its number: the server ends, and the transport hears."""
+
+        async def play():
+            server = asyncio.ensure_future(xns.serve_async(self.there, SERVER, [], xns.returns))
+            await asyncio.sleep(0.1)
+            file = self.there.fileno()
+            self.there.close()
+            transport, heard = await asyncio.get_running_loop().create_datagram_endpoint(Hearing, local_addr=(LOCAL, 0))
+            try:
+                self.assertEqual(transport.get_extra_info("socket").fileno(), file)
+                with self.assertRaisesRegex(OSError, "the socket is closed"):
+                    await asyncio.wait_for(server, 5)
+                self.here.sendto(b"there", transport.get_extra_info("sockname"))
+                self.assertEqual(await asyncio.wait_for(heard.packets.get(), 5), b"there")
+            finally:
+                transport.close()
 
         asyncio.run(play())
 
