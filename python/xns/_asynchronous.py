@@ -106,10 +106,9 @@ class AsyncClient:
         try:
             if error is None:
                 await self.close()
-            else:
-                self._leave()
         finally:
-            self._left.close()
+            with self._left:
+                self._leave()  # where it is not closed, as its task was cancelled, others may wait still
 
     async def call(self, program: int, version: int, procedure: int, words: Iterable[int] = (), timeout: Optional[float] = None) -> Answer:
         """What a call is answered, and the errors, as of `Client.call`. The answer to a call whose task was cancelled is let go."""

@@ -70,6 +70,24 @@ class AsyncioTest(unittest.TestCase):
 
         asyncio.run(play())
 
+    def test_a_client_whose_closing_is_cancelled_tells_who_waits(self):
+        async def leaves(client, begins):
+            async with client:
+                begins.set()
+
+        async def play():
+            client, begins = xns.AsyncClient(self.here, self.there.getsockname(), CLIENT, SERVER, tries=100), asyncio.Event()  # of a server that is not there
+            leaving = asyncio.ensure_future(leaves(client, begins))
+            await begins.wait()
+            call = asyncio.ensure_future(client.call(7, 1, 1))
+            await asyncio.sleep(0.1)
+            leaving.cancel()
+            for wanted, one in ((asyncio.CancelledError, leaving), (xns.ClosedError, call), (xns.ClosedError, client.call(7, 1, 1))):
+                with self.assertRaises(wanted):
+                    await asyncio.wait_for(one, 5)
+
+        asyncio.run(play())
+
 
 if __name__ == "__main__":
     unittest.main()
