@@ -139,9 +139,10 @@ class AsyncClient:
         self._conversation.check()
 
     def _fetch(self) -> None:
-        while self._conversation.closed is None:
+        while True:
+            was_closed = self._conversation.closed is not None
             event = self._conversation.fetch()
-            if event is None:
+            if event is None or was_closed:
                 return
             if isinstance(event, Closed):
                 self._end(event)

@@ -62,6 +62,10 @@ class Conversation:
                 return found
             if not self.station.host.connections:  # a call that Ctrl-C ended has fetched the event that it is closed
                 self.closed = Closed(self._number, Why.SILENT, None)
+        elif self.station.host.connections:
+            for _ in self.station.host.events():  # nobody waits for them, but while one stays the host does not rest
+                pass
+            self.station.send()
         return self.closed
 
     def _next(self) -> Optional[Event]:

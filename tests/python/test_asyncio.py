@@ -3,7 +3,7 @@ import asyncio
 import unittest
 
 import xns
-from relay import LOCAL, bound
+from relay import LOCAL, Counting, bound
 
 SERVER, CLIENT = xns.Address(1, bytes.fromhex("0000aa000102"), 5), xns.Address(1, bytes.fromhex("0000aa000304"), 1024)
 
@@ -87,6 +87,26 @@ class AsyncioTest(unittest.TestCase):
                     await asyncio.wait_for(one, 5)
 
         asyncio.run(play())
+
+    def test_a_client_that_has_given_a_call_up_rests(self):
+        """The answer comes later, and nobody waits for it."""
+        carrier = Counting(self.here)
+
+        async def late(call):
+            await asyncio.sleep(0.2)
+            return xns.returns()
+
+        async def play():
+            server = asyncio.ensure_future(xns.serve_async(self.there, SERVER, [], late))
+            async with xns.AsyncClient(carrier, self.there.getsockname(), CLIENT, SERVER) as client:
+                with self.assertRaises(xns.SilentError):
+                    await client.call(7, 1, 1, timeout=0.1)
+                await asyncio.sleep(1)
+            server.cancel()
+            await asyncio.wait([server])
+
+        asyncio.run(play())
+        self.assertLess(carrier.asked, 100)
 
 
 if __name__ == "__main__":

@@ -1,0 +1,55 @@
+"""What becomes of a `Client` and a `serve` where calls are given up, and where sockets are closed, or have no name."""
+import contextlib
+import os
+import socket
+import tempfile
+import threading
+import time
+import unittest
+
+import xns
+from relay import Counting, bound
+
+SERVER, CLIENT = xns.Address(1, bytes.fromhex("0000aa000102"), 5), xns.Address(1, bytes.fromhex("0000aa000304"), 1024)
+
+
+def late(call):
+    """Is answered after a while, unless it has words."""
+    time.sleep(0 if call.words else 0.3)
+    return xns.returns(call.words)
+
+
+@contextlib.contextmanager
+def serving(carrier):
+    """A server in another thread."""
+    server = xns.Server(carrier, SERVER, [(7, 1, 1)], late)
+    thread = threading.Thread(target=server.run, daemon=True)
+    thread.start()
+    try:
+        yield
+    finally:
+        server.stop()
+        thread.join(10)
+
+
+class CallsTest(unittest.TestCase):
+    def setUp(self):
+        self.there, self.here = bound(), bound()
+        self.addCleanup(self.there.close)
+        self.addCleanup(self.here.close)
+
+    def client(self, carrier=None, **settings):
+        return xns.Client(carrier or self.here, self.there.getsockname(), CLIENT, SERVER, **settings)
+
+    def test_a_client_that_has_given_a_call_up_rests(self):
+        """The answer comes later, and nobody waits for it."""
+        carrier = Counting(self.here)
+        with serving(self.there), self.client(carrier) as client:
+            with self.assertRaises(xns.SilentError):
+                client.call(7, 1, 1, timeout=0.1)
+            client.wait(1)
+        self.assertLess(carrier.asked, 100)
+
+
+if __name__ == "__main__":
+    unittest.main()
