@@ -30,11 +30,11 @@ class _Pump:
         self._waiting = select.epoll()  # the loop has this file alone: the carrier's may be closed, and its number another one's, before a pump hears of it
         self._loop.add_reader(self._waiting.fileno(), self._come)
         self._timer: Optional[asyncio.TimerHandle] = None
-        self._is_stopped = False
+        self.is_stopped = False
 
     def turn(self) -> None:
         """What is to be done after each function of the host: events, packets, and when to come again."""
-        if self._is_stopped:
+        if self.is_stopped:
             return
         self._turned()
         self._station.send()
@@ -45,7 +45,7 @@ class _Pump:
         self._timer = self._loop.call_later(_AGAIN if rest is None else min(rest / 1000, _AGAIN), self._come)
 
     def stop(self) -> None:
-        self._is_stopped = True
+        self.is_stopped = True
         if not self._waiting.closed:
             self._loop.remove_reader(self._waiting.fileno())
             self._waiting.close()
@@ -256,6 +256,10 @@ class _AsyncServer:
             reply = self._answered(call)
             if inspect.isawaitable(reply):
                 reply = await reply
+        except asyncio.CancelledError as error:
+            if self._pump.is_stopped:  # the server has ended, and cancels its tasks
+                raise
+            reply = failed(call, error)  # what it waited for was cancelled
         except Exception as error:
             reply = failed(call, error)
         if self._called.get(call.number) is call:  # else the number may be another connection's by now

@@ -23,7 +23,7 @@ Service = Callable[[Call], Reply]
 Programs = Iterable[Union[Tuple[int, int, int], TypedServer]]
 
 
-def failed(call: Call, error: Exception) -> Reply:
+def failed(call: Call, error: BaseException) -> Reply:
     """What a call is answered whose answering raised this."""
     if isinstance(error, ArgumentsError):
         return rejects(Reject.INVALID_ARGUMENTS)

@@ -108,6 +108,23 @@ class AsyncioTest(unittest.TestCase):
         asyncio.run(play())
         self.assertLess(carrier.asked, 100)
 
+    def test_a_call_whose_answering_waits_for_what_was_cancelled_is_rejected(self):
+        async def answer(call):
+            gone = asyncio.get_running_loop().create_future()
+            gone.cancel()
+            return await gone
+
+        async def play():
+            server = asyncio.ensure_future(xns.serve_async(self.there, SERVER, [], answer))
+            async with xns.AsyncClient(self.here, self.there.getsockname(), CLIENT, SERVER) as client:
+                with self.assertLogs("xns", "ERROR"):
+                    told = await client.call(7, 1, 1, timeout=5)
+                self.assertEqual((told.kind, told.code), (xns.Kind.REJECT, xns.UNSPECIFIED))
+            server.cancel()
+            await asyncio.wait([server])
+
+        asyncio.run(play())
+
 
 if __name__ == "__main__":
     unittest.main()
