@@ -220,7 +220,7 @@ class _AsyncServer:
     async def _close(self) -> None:
         self._there = close_all(self._host, self._station.now)
         self._pump.turn()
-        with contextlib.suppress(asyncio.TimeoutError, asyncio.CancelledError):
+        with contextlib.suppress(asyncio.TimeoutError):
             await asyncio.wait_for(self._gone.wait(), CLOSING / 1000)
 
     async def _end(self) -> None:

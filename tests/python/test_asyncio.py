@@ -8,6 +8,10 @@ from relay import LOCAL, Counting, bound
 SERVER, CLIENT = xns.Address(1, bytes.fromhex("0000aa000102"), 5), xns.Address(1, bytes.fromhex("0000aa000304"), 1024)
 
 
+def answers(call):
+    return xns.returns(call.words)
+
+
 class Breaking:
     """A carrier over a socket that fails once a packet has come, in no way that a carrier should."""
 
@@ -37,7 +41,7 @@ class AsyncioTest(unittest.TestCase):
 
     def test_a_carrier_that_fails_ends_who_waits(self):
         async def play():
-            server = asyncio.ensure_future(xns.serve_async(Breaking(self.there), SERVER, [], xns.returns))
+            server = asyncio.ensure_future(xns.serve_async(Breaking(self.there), SERVER, [], answers))
             with self.assertRaisesRegex(ValueError, "broken"):
                 async with xns.AsyncClient(Breaking(self.here), self.there.getsockname(), CLIENT, SERVER) as client:
                     call = asyncio.ensure_future(client.call(7, 1, 1))
@@ -54,7 +58,7 @@ class AsyncioTest(unittest.TestCase):
         """It was closed, and a transport of the loop has its number: the server ends, and the transport hears."""
 
         async def play():
-            server = asyncio.ensure_future(xns.serve_async(self.there, SERVER, [], xns.returns))
+            server = asyncio.ensure_future(xns.serve_async(self.there, SERVER, [], answers))
             await asyncio.sleep(0.1)
             file = self.there.fileno()
             self.there.close()
@@ -122,6 +126,25 @@ class AsyncioTest(unittest.TestCase):
                 self.assertEqual((told.kind, told.code), (xns.Kind.REJECT, xns.UNSPECIFIED))
             server.cancel()
             await asyncio.wait([server])
+
+        asyncio.run(play())
+
+    def test_a_server_that_is_cancelled_while_it_closes_says_so(self):
+        """It was stopped, and its client is silent: a time limit of the caller comes before that of the closing."""
+
+        async def play():
+            stop = asyncio.Event()
+            server = asyncio.ensure_future(xns.serve_async(self.there, SERVER, [], answers, stop=stop))
+            with self.assertRaisesRegex(OSError, "closed"):
+                async with xns.AsyncClient(self.here, self.there.getsockname(), CLIENT, SERVER) as client:
+                    await client.call(7, 1, 1, timeout=5)
+                    self.here.close()
+                    stop.set()
+                    await asyncio.sleep(0.2)
+                    self.assertFalse(server.done())
+                    server.cancel()
+                    with self.assertRaises(asyncio.CancelledError):
+                        await asyncio.wait_for(server, 1)
 
         asyncio.run(play())
 
