@@ -98,8 +98,8 @@ def _error_of(result: Result, text: str) -> type:
 
 
 BY_RESULT = {result: _error_of(result, text) for result, text in TEXTS.items()}
-ClosingError, NoConnectionError, BusyError, NoMemoryError = (
-    BY_RESULT[result] for result in (Result.CLOSING, Result.NO_CONNECTION, Result.BUSY, Result.NO_MEMORY)
+ClosingError, NoConnectionError, BusyError, NoMemoryError, NoSlotError = (
+    BY_RESULT[result] for result in (Result.CLOSING, Result.NO_CONNECTION, Result.BUSY, Result.NO_MEMORY, Result.NO_SLOT)
 )
 
 

@@ -50,6 +50,20 @@ class CallsTest(unittest.TestCase):
             client.wait(1)
         self.assertLess(carrier.asked, 100)
 
+    def test_a_client_that_opens_again_and_again(self):
+        """The connections that it has left are not closed yet: the host has room for no more of them."""
+        client = self.client(timeout=5, reopens=30, connections=3)
+        for _ in range(10):
+            with self.assertRaises(xns.SilentError):
+                client.call(7, 1, 1, timeout=0.01)
+        with serving(self.there), client:
+            self.assertEqual(client.call(7, 1, 1, [5]).words, [5])
+
+    def test_a_client_of_one_connection_opens_another_one(self):
+        with serving(self.there), self.client(timeout=5, reopens=0, connections=1) as client:
+            for word in range(10):
+                self.assertEqual(client.call(7, 1, 1, [word]).words, [word])
+
 
 if __name__ == "__main__":
     unittest.main()
