@@ -211,7 +211,7 @@ class Client:
             if error is None:
                 self.close()
             else:
-                with not_blocking(self._station.carrier):
+                with contextlib.suppress(OSError), not_blocking(self._station.carrier):  # it may be closed, which is not what ended the `with`
                     self._conversation.leave()
         finally:
             self._host.free()

@@ -64,6 +64,11 @@ class CallsTest(unittest.TestCase):
             for word in range(10):
                 self.assertEqual(client.call(7, 1, 1, [word]).words, [word])
 
+    def test_an_error_in_a_with_is_told_where_the_socket_was_closed(self):
+        with self.assertRaises(KeyError), self.client():
+            self.here.close()
+            raise KeyError
+
 
 if __name__ == "__main__":
     unittest.main()
