@@ -69,6 +69,17 @@ class CallsTest(unittest.TestCase):
             self.here.close()
             raise KeyError
 
+    def test_a_packet_from_a_socket_without_a_name_ends_no_server(self):
+        """As one of a client over a socket of the system's own files that was not bound."""
+        there, here, nameless = (socket.socket(socket.AF_UNIX, socket.SOCK_DGRAM) for _ in range(3))
+        with tempfile.TemporaryDirectory() as folder, there, here, nameless:
+            place = os.path.join(folder, "there")
+            there.bind(place)
+            here.bind(os.path.join(folder, "here"))
+            with serving(there), xns.Client(here, place, CLIENT, SERVER, timeout=5) as client:
+                nameless.sendto(xns.echo_request(CLIENT, SERVER._replace(socket=2), b"Hi"), place)
+                self.assertEqual(client.call(7, 1, 1, [5]).words, [5])
+
 
 if __name__ == "__main__":
     unittest.main()
