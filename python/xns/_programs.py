@@ -21,6 +21,9 @@ class AbortedError(XnsError):
         super().__init__(f"error {code}" if text is None else text)
         self._code, self._words = code, list(words)
 
+    def __reduce__(self) -> tuple:  # another process has not read the program, and so not the class of a declared error
+        return AbortedError, (self._code, self._words, str(self))
+
     @property
     def code(self) -> int:
         """The number of the error."""
@@ -59,6 +62,9 @@ class RejectedError(XnsError):
         self.reason: int = Reject(reason) if reason in list(Reject) else reason
         self.words = list(words)
         super().__init__(self.reason.name.lower().replace("_", " ") if isinstance(self.reason, Reject) else f"reason {reason}")
+
+    def __reduce__(self) -> tuple:
+        return RejectedError, (self.reason, self.words)
 
 
 def _bound(record: Record, arguments: tuple, named: dict, name: str) -> tuple:

@@ -4,6 +4,7 @@ import asyncio
 import enum
 import os
 import pathlib
+import pickle
 import pydoc
 import random
 import subprocess
@@ -117,6 +118,19 @@ class ReadingTest(unittest.TestCase):
         self.assertIn("Draw(self, points: List[Shapes.Point], color: Shapes.Color) -> Shapes.DrawResults", told)
         self.assertIn("Ask(self, from_: int)", told)
         self.assertIn("Nothing(self) -> None", told)
+
+    def test_errors_go_to_another_process(self):
+        """One that could not would break a pool of processes."""
+        lost = xns.Programs().read(SHAPES).Lost(b"red", 5, args=True)
+        for error, wanted in (
+            (xns.AbortedError(5, [1, 2]), ("error 5", 5, [1, 2])),
+            (lost, (str(lost), 9, xns.Writer().text(b"red").cardinal(5).boolean(True).words)),
+        ):
+            told = pickle.loads(pickle.dumps(error))
+            self.assertEqual((type(told), str(told), told.code, told.words), (xns.AbortedError, *wanted))
+        for error in (xns.RejectedError(xns.Reject.NO_SUCH_PROCEDURE), xns.RejectedError(77, [5])):
+            told = pickle.loads(pickle.dumps(error))
+            self.assertEqual((str(told), told.reason, told.words), (str(error), error.reason, error.words))
 
     def test_names_of_python(self):
         own = xns.Programs().read(
