@@ -81,6 +81,8 @@ class _Link:
 class Ethernet(_Link):
     """Packets in frames of type 0600 at an interface, as XNS ran on Ethernet. A place is the station that a packet comes from or goes to."""
 
+    _is_down = False  # whether there was an error since the last frame came
+
     def __init__(self, interface: str) -> None:
         if not isinstance(interface, str):
             raise TypeError(f"interface is no name: it is of type {type(interface).__name__}")
@@ -111,14 +113,33 @@ class Ethernet(_Link):
         """The next packet to this station or to all, and the station that it comes from. Frames to others, which come where the interface is promiscuous,
         and those that this machine sends are passed over. `BlockingIOError` behind so many of them, as where nothing is there."""
         for _ in range(_MOST_PASSED):
-            packet, (_, _, kind, _, station) = self._socket.recvfrom(size)
+            packet, (_, _, kind, _, station) = self._frame(size)
             if kind not in (_TO_OTHERS, _SENT) and packet:
                 return packet, station
         raise BlockingIOError
 
+    def _frame(self, size: int) -> tuple:
+        if self._is_down and not self._socket.getsockname()[0]:  # the interface was taken away: what has its name by now is another one
+            self._socket.bind((self._interface, FRAME_TYPE))
+        try:
+            frame = self._socket.recvfrom(size)
+        except OSError as error:
+            self._note(error)
+            raise
+        self._is_down = False
+        return frame
+
     def sendto(self, packet: bytes, station: bytes) -> int:
         """Sends a packet, padded to the shortest frame."""
-        return self._socket.sendto(packet.ljust(_LEAST, b"\0"), (self._interface, FRAME_TYPE, 0, 0, station))
+        try:
+            return self._socket.sendto(packet.ljust(_LEAST, b"\0"), (self._interface, FRAME_TYPE, 0, 0, station))
+        except OSError as error:
+            self._note(error)
+            raise
+
+    def _note(self, error: OSError) -> None:
+        """Notes that the interface is down: the kernel says so once, to whoever asks first."""
+        self._is_down = self._is_down or not isinstance(error, BlockingIOError)
 
 
 class NetHub(_Link):
@@ -241,7 +262,7 @@ def _takes_more(stream: socket.socket, seconds: float) -> bool:
 
 def ethernet(interface: str) -> Ethernet:
     """What carries packets on this interface, as `eth0`. `PermissionError` without the right CAP_NET_RAW; another `OSError` where there is no such interface.
-    One that is down is as a network that loses all, until it is up."""
+    One that is down, or taken away, is as a network that loses all, until it is up, or there is one of its name."""
     return Ethernet(interface)
 
 

@@ -1,9 +1,12 @@
-"""What becomes of a link to a hub of emulators where the hub is slow, gone, or left amid a frame."""
+"""What becomes of a link to a hub of emulators where the hub is slow, gone, or left amid a frame, and of one at an interface that is gone."""
 import errno
 import fcntl
 import resource
 import select
+import shutil
 import socket
+import subprocess
+import sys
 import time
 import types
 import unittest
@@ -141,6 +144,54 @@ class HubTest(unittest.TestCase):
                 with self.assertRaises(OSError):
                     self.link.sendto(PACKET, OTHER)
         self.assertEqual(len(attempts), 1)
+
+
+PLUGGED = """import contextlib, subprocess, time, xns
+FIRST, SECOND = "02:00:aa:00:00:01", "02:00:aa:00:00:02"
+def ip(*words):
+    subprocess.run(["ip", "link", *words], check=True)
+def plug():
+    ip("add", "xa", "address", FIRST, "type", "veth", "peer", "name", "xb", "address", SECOND)
+    for name in ("xa", "xb"):
+        ip("set", name, "up")
+    return xns.ethernet("xb")
+def is_heard():
+    until = time.monotonic() + 5
+    while time.monotonic() < until:
+        with contextlib.suppress(OSError):
+            far.sendto(b"there" + bytes(50), near.station)
+        for _ in range(9):
+            with contextlib.suppress(OSError):
+                return near.recvfrom(2048)[0][:5] == b"there"
+        time.sleep(0.05)
+far = plug()
+near = xns.ethernet("xa")
+for link in (near, far):
+    link.setblocking(False)
+heard = [is_heard()]
+for asks in (near.recvfrom, lambda size: near.sendto(b"", near.station)):
+    for steps in ((("set", "xa", "down"), ("del", "xa")), (("del", "xa"),)):
+        far.close()
+        for step in steps:
+            ip(*step)
+            with contextlib.suppress(OSError):
+                asks(2048)
+        far = plug()
+        far.setblocking(False)
+        heard.append(is_heard())
+for link in (near, far):
+    link.close()
+print(*heard)
+"""
+
+
+class EthernetTest(unittest.TestCase):
+    def test_an_interface_that_is_taken_away_and_put_back(self):
+        apart = ["unshare", "-n"]
+        if not shutil.which("unshare") or not shutil.which("ip") or subprocess.run([*apart, "true"], stderr=subprocess.DEVNULL).returncode:
+            self.skipTest("it takes the right to a network of its own")
+        told = subprocess.run([*apart, sys.executable, "-W", "error", "-c", PLUGGED], stdout=subprocess.PIPE, text=True, timeout=60)
+        self.assertEqual(told.stdout, "True True True True True\n")
 
 
 if __name__ == "__main__":
