@@ -144,10 +144,13 @@ class Ethernet(_Link):
 
 class NetHub(_Link):
     """Packets by way of a hub of emulators: a stream of TCP with Ethernet frames in it, each behind two bytes of its length. A place is the station that a
-    packet comes from or goes to. A hub that is gone is a network that is down: a second later the link is made again."""
+    packet comes from or goes to. A hub that is gone is a network that is down: a second later the link is made again. One that is gone without a word, as where
+    its machine fell silent, is so within half a minute."""
 
     AGAIN = 1.0  # seconds from the end of one attempt to reach the hub to the next
     REACHED = 2.0  # seconds in which the hub replies, or is gone
+    ASKED = 10  # seconds without a byte after which the hub's system is asked whether it has the stream, and from one such question to the next
+    _ASKED_IN_VAIN = 2  # how many questions go out, each without a reply, before the hub is gone
 
     def __init__(self, host: str, port: int, station: Optional[bytes] = None) -> None:
         """`OSError` where the hub is not there. Without a station it is one of no maker's, at random."""
@@ -162,7 +165,10 @@ class NetHub(_Link):
             stream = socket.create_connection(self._place, self.REACHED)
         finally:
             self._tried = time.monotonic()  # behind the attempt, which may take longer than the wait for the next one
-        stream.setsockopt(socket.IPPROTO_TCP, socket.TCP_NODELAY, 1)
+        stream.setsockopt(socket.SOL_SOCKET, socket.SO_KEEPALIVE, 1)  # who only waits for packets would not learn that the hub has forgotten the stream
+        of_tcp = {socket.TCP_NODELAY: 1, socket.TCP_KEEPIDLE: self.ASKED, socket.TCP_KEEPINTVL: self.ASKED, socket.TCP_KEEPCNT: self._ASKED_IN_VAIN}
+        for name, value in of_tcp.items():
+            stream.setsockopt(socket.IPPROTO_TCP, name, value)
         stream.setblocking(False)
         self._stream = stream
         if self._is_closed:  # by another thread meanwhile

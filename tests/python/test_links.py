@@ -184,14 +184,50 @@ for link in (near, far):
 print(*heard)
 """
 
+SILENT = """import contextlib, socket, struct, subprocess, sys, time, xns
+def lo(way):
+    subprocess.run(["ip", "link", "set", "lo", way], check=True)
+lo("up")
+xns.NetHub.ASKED = 1
+with socket.create_server(("127.0.0.1", 0)) as hub, xns.nethub(*hub.getsockname()) as link:
+    hub.settimeout(10)
+    for way in ("forgets", "is gone"):
+        stream, _ = hub.accept()
+        lo("down")
+        if way == "forgets":  # and what it says of that is lost
+            stream.setsockopt(socket.SOL_SOCKET, socket.SO_LINGER, struct.pack("ii", 1, 0))
+            stream.close()
+            lo("up")
+        until = time.monotonic() + 10
+        while link.fileno() >= 0 and time.monotonic() < until:
+            with contextlib.suppress(OSError):
+                link.recvfrom(2048)
+            time.sleep(0.05)
+        print("it", way, "and is left" if link.fileno() < 0 else "and is believed in")
+        lo("up")
+        while link.fileno() < 0:
+            with contextlib.suppress(OSError):
+                link.recvfrom(2048)
+            time.sleep(0.05)
+    stream.close()
+"""
 
-class EthernetTest(unittest.TestCase):
-    def test_an_interface_that_is_taken_away_and_put_back(self):
+
+class ApartTest(unittest.TestCase):
+    """What takes the right to a network of its own."""
+
+    def told(self, script):
+        """What a script prints there."""
         apart = ["unshare", "-n"]
         if not shutil.which("unshare") or not shutil.which("ip") or subprocess.run([*apart, "true"], stderr=subprocess.DEVNULL).returncode:
-            self.skipTest("it takes the right to a network of its own")
-        told = subprocess.run([*apart, sys.executable, "-W", "error", "-c", PLUGGED], stdout=subprocess.PIPE, text=True, timeout=60)
-        self.assertEqual(told.stdout, "True True True True True\n")
+            self.skipTest("there is no right to a network of its own")
+        return subprocess.run([*apart, sys.executable, "-W", "error", "-c", script], stdout=subprocess.PIPE, text=True, timeout=60).stdout
+
+    def test_a_hub_that_is_gone_without_a_word(self):
+        self.assertEqual(self.told(SILENT), "it forgets and is left\nit is gone and is left\n")
+
+    def test_an_interface_that_is_taken_away_and_put_back(self):
+        self.assertEqual(self.told(PLUGGED), "True True True True True\n")
 
 
 if __name__ == "__main__":
