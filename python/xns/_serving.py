@@ -146,7 +146,11 @@ class Server:
         station.take_in()
         for event in station.host.events():
             if isinstance(event, Call):
-                replies.give(station.now, event, self._reply(event))
+                reply = rejects(UNSPECIFIED)  # where Ctrl-C ends what carries it out: the connection stays until the call is answered
+                try:
+                    reply = self._reply(event)
+                finally:
+                    replies.give(station.now, event, reply)
             elif isinstance(event, Closed):
                 note_closed(station.host, event)
                 replies.forget(event.number)

@@ -80,6 +80,24 @@ class CallsTest(unittest.TestCase):
                 nameless.sendto(xns.echo_request(CLIENT, SERVER._replace(socket=2), b"Hi"), place)
                 self.assertEqual(client.call(7, 1, 1, [5]).words, [5])
 
+    def test_ctrl_c_while_a_call_is_carried_out_closes_its_connection(self):
+        told = []
+
+        def calls():
+            with self.client() as client:
+                told.append(client.call(7, 1, 1, timeout=10))
+
+        def interrupted(call):
+            raise KeyboardInterrupt
+
+        thread, begun = threading.Thread(target=calls), time.monotonic()
+        thread.start()
+        with self.assertRaises(KeyboardInterrupt):
+            xns.serve(self.there, SERVER, [], interrupted)
+        self.assertLess(time.monotonic() - begun, 1.5)  # it does not wait in vain
+        thread.join()
+        self.assertEqual([(one.kind, one.code) for one in told], [(xns.Kind.REJECT, xns.UNSPECIFIED)])
+
 
 if __name__ == "__main__":
     unittest.main()
