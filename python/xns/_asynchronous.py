@@ -220,6 +220,15 @@ class _AsyncServer:
     async def _close(self) -> None:
         self._there = close_all(self._host, self._station.now)
         self._pump.turn()
+        await self._are_gone()
+        if self._called and self._error is None:  # their clients would wait until they give the server up
+            called, self._called = self._called, {}
+            for call in called.values():
+                self._replies.give(self._station.time(), call, rejects(UNSPECIFIED))
+            self._pump.turn()
+            await self._are_gone()
+
+    async def _are_gone(self) -> None:
         with contextlib.suppress(asyncio.TimeoutError):
             await asyncio.wait_for(self._gone.wait(), CLOSING / 1000)
 
@@ -278,8 +287,8 @@ async def serve_async(
     **settings: Optional[int],
 ) -> None:
     """Serves clients in a loop of asyncio, as `serve` does. `answer` may be a coroutine function: while it waits, other calls are carried out. The reply
-    to a call whose connection is closed meanwhile is let go. It ends once the event is set, or its task is cancelled, and closes the connections. An `OSError`
-    says within a second that the socket, or the link, was closed."""
+    to a call whose connection is closed meanwhile is let go. It ends once the event is set, or its task is cancelled, and closes the connections; a call that
+    is carried out two seconds later still is rejected. An `OSError` says within a second that the socket, or the link, was closed."""
     if stop is not None and not inspect.iscoroutinefunction(getattr(stop, "wait", None)):
         raise TypeError(f"stop is no event of asyncio: it is of type {type(stop).__name__}")
     served, answered = together(programs, answer)

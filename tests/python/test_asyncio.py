@@ -148,6 +148,23 @@ class AsyncioTest(unittest.TestCase):
 
         asyncio.run(play())
 
+    def test_a_call_that_goes_on_when_the_server_ends_is_rejected(self):
+        async def goes_on(call):
+            await asyncio.sleep(60)
+
+        async def play():
+            stop = asyncio.Event()
+            server = asyncio.ensure_future(xns.serve_async(self.there, SERVER, [], goes_on, stop=stop))
+            async with xns.AsyncClient(self.here, self.there.getsockname(), CLIENT, SERVER) as client:
+                call = asyncio.ensure_future(client.call(7, 1, 1, timeout=10))
+                await asyncio.sleep(0.2)
+                stop.set()
+                await asyncio.wait_for(server, 5)
+                told = await asyncio.wait_for(call, 5)
+                self.assertEqual((told.kind, told.code), (xns.Kind.REJECT, xns.UNSPECIFIED))
+
+        asyncio.run(play())
+
 
 if __name__ == "__main__":
     unittest.main()
