@@ -111,19 +111,22 @@ class AsyncClient:
                 self._leave()  # where it is not closed, as its task was cancelled, others may wait still
 
     async def call(self, program: int, version: int, procedure: int, words: Iterable[int] = (), timeout: Optional[float] = None) -> Answer:
-        """What a call is answered, and the errors, as of `Client.call`. The answer to a call whose task was cancelled is let go."""
+        """What a call is answered, and the errors, as of `Client.call`. The answer to a call whose task was cancelled is let go. A call whose time is over
+        while it waits for another one is not made, and closes nothing."""
         numbers, (given, _) = (unsigned(program, 32, "program"), unsigned(version, 16, "version"), unsigned(procedure, 16, "procedure")), words_of(words)
-        listed = memoryview(given).cast("H").tolist()
+        listed, has_turn = memoryview(given).cast("H").tolist(), False
 
         async def answer() -> Answer:
+            nonlocal has_turn
             async with self._calls:
+                has_turn = True
                 while not self._conversation.put_out(*numbers, listed):
                     await self._next()
                 self._forget()
                 self._pump.turn()
                 return self._conversation.answer(await self._next())
 
-        return await self._in_time(answer, timeout, "the call was not answered")
+        return await self._in_time(answer, timeout, "the call was not answered", lambda: has_turn)
 
     async def close(self, timeout: Optional[float] = None) -> None:
         """Closes the connection, and waits until the server has closed it too. A call that waits meanwhile is still answered, if the answer comes before.
@@ -135,7 +138,7 @@ class AsyncClient:
             while not isinstance(await self._next(), Closed):
                 pass
 
-        await self._in_time(closed, timeout, "the server did not close the connection")
+        await self._in_time(closed, timeout, "the server did not close the connection", lambda: True)
         self._conversation.check()
 
     def _fetch(self) -> None:
@@ -176,7 +179,7 @@ class AsyncClient:
             raise event
         return event
 
-    async def _in_time(self, done: Callable[[], Awaitable], timeout: Optional[float], text: str) -> Any:
+    async def _in_time(self, done: Callable[[], Awaitable], timeout: Optional[float], text: str, leaves: Callable[[], bool]) -> Any:
         seconds = self._timeout if timeout is None else timeout
         until_of(seconds)
         try:
@@ -184,7 +187,8 @@ class AsyncClient:
         except asyncio.TimeoutError as error:
             if isinstance(error, SilentError):
                 raise
-            self._leave()
+            if leaves():
+                self._leave()
             raise SilentError(f"{text} in {seconds:g} seconds") from None
 
 

@@ -70,7 +70,8 @@ class ArgumentsError(XnsError):
 
 
 class SilentError(XnsError, TimeoutError):
-    """The server is silent, or what was waited for did not come in the time that was given. The connection is closed."""
+    """The server is silent, or what was waited for did not come in the time that was given. The connection is closed, unless the call of an `AsyncClient`
+    still waited for another one."""
 
 
 class NotServedError(XnsError, ConnectionRefusedError):

@@ -165,6 +165,29 @@ class AsyncioTest(unittest.TestCase):
 
         asyncio.run(play())
 
+    def test_a_call_that_is_out_of_time_before_its_turn_ends_no_other(self):
+        async def slow(call):
+            await asyncio.sleep(0.5)
+            return xns.returns(call.words)
+
+        async def play():
+            server = asyncio.ensure_future(xns.serve_async(self.there, SERVER, [], slow))
+            async with xns.AsyncClient(self.here, self.there.getsockname(), CLIENT, SERVER) as client:
+                first = asyncio.ensure_future(client.call(7, 1, 1, [1], timeout=5))
+                await asyncio.sleep(0.1)
+                with self.assertRaises(xns.SilentError):
+                    await client.call(7, 1, 1, [2], timeout=0.1)
+                third = client.call(7, 1, 1, [3], timeout=5)
+                self.assertEqual([one.words for one in (await first, await third)], [[1], [3]])
+                with self.assertRaises(xns.SilentError):  # this one goes out, and closes
+                    await client.call(7, 1, 1, [4], timeout=0.1)
+                with self.assertRaises(xns.ClosedError):
+                    await client.call(7, 1, 1, [5], timeout=5)
+            server.cancel()
+            await asyncio.wait([server])
+
+        asyncio.run(play())
+
 
 if __name__ == "__main__":
     unittest.main()
