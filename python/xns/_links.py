@@ -203,7 +203,8 @@ class NetHub(_Link):
         return -1 if stream is None else stream.fileno()
 
     def setblocking(self, flag: bool) -> None:
-        """Changes nothing: a hub never blocks."""
+        """Changes nothing: the other methods wait for no packet. They wait for a hub that does not reply as long as `REACHED` says, for each address that its
+        name has, and for one that takes nothing as long as `AGAIN` says; in a loop of asyncio all else waits then too."""
 
     def recvfrom(self, _: int) -> Tuple[bytes, bytes]:
         """The next packet to this station or to all, and the station that it comes from. Other frames are passed over, as those of `Ethernet`."""
