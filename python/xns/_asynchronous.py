@@ -182,10 +182,20 @@ class AsyncClient:
     async def _in_time(self, done: Callable[[], Awaitable], timeout: Optional[float], text: str, leaves: Callable[[], bool]) -> Any:
         seconds = self._timeout if timeout is None else timeout
         until_of(seconds)
+        told: Optional[Exception] = None
+
+        async def tried() -> Any:
+            nonlocal told
+            try:
+                return await done()
+            except asyncio.TimeoutError as error:  # the server is silent, or the carrier: the seconds are not over
+                told = error
+                raise
+
         try:
-            return await asyncio.wait_for(done(), seconds)
+            return await asyncio.wait_for(tried(), seconds)
         except asyncio.TimeoutError as error:
-            if isinstance(error, SilentError):
+            if error is told:
                 raise
             if leaves():
                 self._leave()

@@ -1,5 +1,6 @@
 """What a loop of asyncio has to expect of `serve_async` and `AsyncClient` where carriers, tasks and services end in other ways than they should."""
 import asyncio
+import errno
 import unittest
 
 import xns
@@ -185,6 +186,19 @@ class AsyncioTest(unittest.TestCase):
                     await client.call(7, 1, 1, [5], timeout=5)
             server.cancel()
             await asyncio.wait([server])
+
+        asyncio.run(play())
+
+    def test_an_error_of_a_carrier_that_is_one_of_time_is_told_as_it_is(self):
+        async def play():
+            carrier = Counting(self.here)
+            with self.assertRaisesRegex(TimeoutError, "the line is silent"):
+                async with xns.AsyncClient(carrier, self.there.getsockname(), CLIENT, SERVER) as client:
+                    carrier.fileno = fails
+                    await asyncio.wait_for(client.call(7, 1, 1), 5)
+
+        def fails():
+            raise OSError(errno.ETIMEDOUT, "the line is silent")
 
         asyncio.run(play())
 
