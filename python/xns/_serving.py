@@ -196,7 +196,8 @@ def serve(
     program where `programs` is empty. It gives what the call is answered by `returns`, `aborts` or `rejects`. A call whose answering raises an error is
     rejected: with `Reject.INVALID_ARGUMENTS` where the error is one of a `Reader`, else with `UNSPECIFIED`, and the log of the name `xns` has the error. Typed
     servers of one program follow each other in their versions; else `serve` raises a ValueError. `other` is given each packet that is not the host's, as one
-    of a packet exchange, with the place that it comes from.
+    of a packet exchange, with the place that it comes from. Calls are carried out one behind another, and meanwhile nothing is said: the clients of a server
+    that takes longer than their patience, with the settings of this module some 30 seconds, give it up. See `serve_async` for what takes long.
 
     It returns once the event `stop` is set; a `Server` can be stopped by its `stop`. The connections are closed then, also where Ctrl-C ends it. An `OSError`
     says within a second that the socket, or the link, was closed."""

@@ -98,6 +98,12 @@ class CallsTest(unittest.TestCase):
         thread.join()
         self.assertEqual([(one.kind, one.code) for one in told], [(xns.Kind.REJECT, xns.UNSPECIFIED)])
 
+    def test_a_server_that_is_busy_says_nothing_and_is_given_up(self):
+        quick = {"first_wait": 20, "longest_wait": 40, "tries": 3, "patience": 100}
+        with serving(self.there):
+            with self.assertRaises(xns.SilentError):
+                self.client(**quick, idle=20).call(7, 1, 1, timeout=5)
+
 
 if __name__ == "__main__":
     unittest.main()
