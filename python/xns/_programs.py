@@ -376,6 +376,7 @@ def read_programs(*files: File) -> Programs:
     `Programs.read`."""
     programs = Programs()
     for file in files:
-        with open(file, "rb") as opened:
-            programs.read(opened.read(), os.fspath(file))
+        name = os.fspath(file)  # `open` takes a number for a file that is open, which is then closed
+        with open(name, "rb") as opened:
+            programs.read(opened.read(), name)
     return programs

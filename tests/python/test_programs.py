@@ -93,6 +93,10 @@ class ReadingTest(unittest.TestCase):
         self.assertEqual(list(programs), ["Shapes"])
         with self.assertRaises(FileNotFoundError):
             xns.read_programs("/nowhere.courier")
+        with open(TALLY, "rb") as opened:
+            with self.assertRaises(TypeError):
+                xns.read_programs(opened.fileno())
+            self.assertIn(b"PROGRAM", opened.read())  # it is not closed
 
     def test_texts(self):
         programs = xns.read_programs(TALLY)
