@@ -4,7 +4,7 @@ import errno
 import unittest
 
 import xns
-from relay import LOCAL, Counting, bound
+from relay import LOCAL, Counting, Hub, bound
 
 SERVER, CLIENT = xns.Address(1, bytes.fromhex("0000aa000102"), 5), xns.Address(1, bytes.fromhex("0000aa000304"), 1024)
 
@@ -201,6 +201,26 @@ class AsyncioTest(unittest.TestCase):
             raise OSError(errno.ETIMEDOUT, "the line is silent")
 
         asyncio.run(play())
+
+    def test_a_hub_that_is_gone_for_a_while(self):
+        async def play(hub):
+            theirs, ours = (xns.nethub(LOCAL, hub.port, one.host) for one in (SERVER, CLIENT))
+            with theirs, ours:
+                stop = asyncio.Event()
+                server = asyncio.ensure_future(xns.serve_async(theirs, SERVER, [], answers, stop=stop))
+                async with xns.AsyncClient(ours, SERVER.host, CLIENT, SERVER, timeout=20) as client:
+                    for word in range(3):
+                        self.assertEqual((await client.call(7, 1, 1, [word])).words, [word])
+                        hub.drop()
+                stop.set()
+                await asyncio.wait_for(server, 5)
+
+        hub = Hub()
+        hub.start()
+        try:
+            asyncio.run(play(hub))
+        finally:
+            hub.stop()
 
 
 if __name__ == "__main__":
