@@ -292,8 +292,14 @@ class Programs(Object, Mapping):
     _family = "programs"
 
     def __init__(self) -> None:
-        super().__init__()
         self._programs: List[Program] = []
+        self._freed = 0  # how many of them the library has no longer
+        super().__init__()
+
+    def free(self) -> None:
+        """Gives the memory back. The programs that were read stay; those that are read later know nothing of them, and `call_text` and the like neither."""
+        super().free()
+        self._freed = len(self._programs)
 
     def read(self, text: bytes, file: str = "text") -> Program:
         """Reads a text in Courier's notation, one program, which may depend upon those that were read before. `WrongTextError` with `line`, `column` and
@@ -303,7 +309,7 @@ class Programs(Object, Mapping):
             self._done("read", given, len(given), byref(fault))
         except BY_RESULT[Result.WRONG_TEXT]:
             raise _wrong(file, fault) from None
-        self._programs.append(self._table(len(self._programs)))
+        self._programs.append(self._table(len(self._programs) - self._freed))
         return self._programs[-1]
 
     def _table(self, index: int) -> Program:

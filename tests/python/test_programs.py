@@ -98,6 +98,14 @@ class ReadingTest(unittest.TestCase):
                 xns.read_programs(opened.fileno())
             self.assertIn(b"PROGRAM", opened.read())  # it is not closed
 
+    def test_what_is_read_behind_what_was_freed(self):
+        with xns.read_programs(TALLY) as programs:
+            pass
+        shapes = programs.read(SHAPES)
+        self.assertEqual((shapes.name, shapes.number, shapes.version, list(programs)), ("Shapes", 4660, 2, ["Tally", "Shapes"]))
+        self.assertIsNone(programs.call_text(7, 2, 1, [5]))
+        self.assertEqual(programs.call_text(4660, 2, 7, []), "Shapes 4660.2 Nothing []")
+
     def test_texts(self):
         programs = xns.read_programs(TALLY)
         self.assertEqual(programs.call_text(7, 2, 1, [5]), "Tally 7.2 Add [amount: 5]")
