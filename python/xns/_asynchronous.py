@@ -2,6 +2,7 @@
 import asyncio
 import contextlib
 import inspect
+import select
 from typing import Any, Awaitable, Callable, Dict, Iterable, Optional, Set, Union
 
 from ._client import Conversation, until_of
@@ -26,12 +27,14 @@ class _Pump:
     def __init__(self, station: Station, turned: Callable[[], None], failed: Callable[[Exception], None]) -> None:
         self._station, self._turned, self._failed, self._loop = station, turned, failed, asyncio.get_running_loop()
         self._file: Optional[int] = None
+        self._waiting = select.epoll()  # the loop has this file alone: the carrier's may be closed, and its number another one's, before a pump hears of it
+        self._loop.add_reader(self._waiting.fileno(), self._come)
         self._timer: Optional[asyncio.TimerHandle] = None
-        self._is_stopped = False
+        self.is_stopped = False
 
     def turn(self) -> None:
         """What is to be done after each function of the host: events, packets, and when to come again."""
-        if self._is_stopped:
+        if self.is_stopped:
             return
         self._turned()
         self._station.send()
@@ -42,30 +45,34 @@ class _Pump:
         self._timer = self._loop.call_later(_AGAIN if rest is None else min(rest / 1000, _AGAIN), self._come)
 
     def stop(self) -> None:
-        self._is_stopped = True
-        self._watch(None)
+        self.is_stopped = True
+        if not self._waiting.closed:
+            self._loop.remove_reader(self._waiting.fileno())
+            self._waiting.close()
         if self._timer is not None:
             self._timer.cancel()
 
-    def turn_alone(self) -> None:
-        """`turn` where nobody waits for it to return."""
+    def turn_alone(self, takes_in: bool = False) -> None:
+        """`turn` where nobody waits for it to return, and before it what came, if that is to be taken in."""
         try:
+            if takes_in:
+                self._station.take_in()
             self.turn()
         except Exception as error:
             self.stop()
             self._failed(error)
 
     def _come(self) -> None:
-        self._station.take_in()
-        self.turn_alone()
+        self.turn_alone(True)
 
     def _watch(self, file: Optional[int]) -> None:
         if file == self._file:
             return
         if self._file is not None:
-            self._loop.remove_reader(self._file)
+            with contextlib.suppress(OSError):  # it was closed
+                self._waiting.unregister(self._file)
         if file is not None:
-            self._loop.add_reader(file, self._come)
+            self._waiting.register(file, select.EPOLLIN)
         self._file = file
 
 
@@ -99,25 +106,27 @@ class AsyncClient:
         try:
             if error is None:
                 await self.close()
-            else:
-                self._leave()
         finally:
-            self._left.close()
+            with self._left:
+                self._leave()  # where it is not closed, as its task was cancelled, others may wait still
 
     async def call(self, program: int, version: int, procedure: int, words: Iterable[int] = (), timeout: Optional[float] = None) -> Answer:
-        """What a call is answered, and the errors, as of `Client.call`. The answer to a call whose task was cancelled is let go."""
+        """What a call is answered, and the errors, as of `Client.call`. The answer to a call whose task was cancelled is let go. A call whose time is over
+        while it waits for another one is not made, and closes nothing."""
         numbers, (given, _) = (unsigned(program, 32, "program"), unsigned(version, 16, "version"), unsigned(procedure, 16, "procedure")), words_of(words)
-        listed = memoryview(given).cast("H").tolist()
+        listed, has_turn = memoryview(given).cast("H").tolist(), False
 
         async def answer() -> Answer:
+            nonlocal has_turn
             async with self._calls:
+                has_turn = True
                 while not self._conversation.put_out(*numbers, listed):
                     await self._next()
                 self._forget()
                 self._pump.turn()
                 return self._conversation.answer(await self._next())
 
-        return await self._in_time(answer, timeout, "the call was not answered")
+        return await self._in_time(answer, timeout, "the call was not answered", lambda: has_turn)
 
     async def close(self, timeout: Optional[float] = None) -> None:
         """Closes the connection, and waits until the server has closed it too. A call that waits meanwhile is still answered, if the answer comes before.
@@ -129,13 +138,14 @@ class AsyncClient:
             while not isinstance(await self._next(), Closed):
                 pass
 
-        await self._in_time(closed, timeout, "the server did not close the connection")
+        await self._in_time(closed, timeout, "the server did not close the connection", lambda: True)
         self._conversation.check()
 
     def _fetch(self) -> None:
-        while self._conversation.closed is None:
+        while True:
+            was_closed = self._conversation.closed is not None
             event = self._conversation.fetch()
-            if event is None:
+            if event is None or was_closed:
                 return
             if isinstance(event, Closed):
                 self._end(event)
@@ -169,15 +179,26 @@ class AsyncClient:
             raise event
         return event
 
-    async def _in_time(self, done: Callable[[], Awaitable], timeout: Optional[float], text: str) -> Any:
+    async def _in_time(self, done: Callable[[], Awaitable], timeout: Optional[float], text: str, leaves: Callable[[], bool]) -> Any:
         seconds = self._timeout if timeout is None else timeout
         until_of(seconds)
-        try:
-            return await asyncio.wait_for(done(), seconds)
-        except asyncio.TimeoutError as error:
-            if isinstance(error, SilentError):
+        told: Optional[Exception] = None
+
+        async def tried() -> Any:
+            nonlocal told
+            try:
+                return await done()
+            except asyncio.TimeoutError as error:  # the server is silent, or the carrier: the seconds are not over
+                told = error
                 raise
-            self._leave()
+
+        try:
+            return await asyncio.wait_for(tried(), seconds)
+        except asyncio.TimeoutError as error:
+            if error is told:
+                raise
+            if leaves():
+                self._leave()
             raise SilentError(f"{text} in {seconds:g} seconds") from None
 
 
@@ -189,9 +210,9 @@ class _AsyncServer:
         self._tasks: Set[asyncio.Future] = set()
         self._called: Dict[int, Call] = {}  # by the connection the call that is carried out, until the connection is closed
         self._there: Optional[Set[int]] = None  # the connections that are to be closed
-        self._gone, self._stopped = asyncio.Event(), asyncio.ensure_future(stopped.wait())
         self._error: Optional[Exception] = None
         self._pump = _Pump(station, self._turned, self._failed)
+        self._gone, self._stopped = asyncio.Event(), asyncio.ensure_future(stopped.wait())
 
     async def run(self) -> None:
         """Serves until the event is set, the task is cancelled, or an error ends the pump. Then the connections are closed."""
@@ -213,7 +234,16 @@ class _AsyncServer:
     async def _close(self) -> None:
         self._there = close_all(self._host, self._station.now)
         self._pump.turn()
-        with contextlib.suppress(asyncio.TimeoutError, asyncio.CancelledError):
+        await self._are_gone()
+        if self._called and self._error is None:  # their clients would wait until they give the server up
+            called, self._called = self._called, {}
+            for call in called.values():
+                self._replies.give(self._station.time(), call, rejects(UNSPECIFIED))
+            self._pump.turn()
+            await self._are_gone()
+
+    async def _are_gone(self) -> None:
+        with contextlib.suppress(asyncio.TimeoutError):
             await asyncio.wait_for(self._gone.wait(), CLOSING / 1000)
 
     async def _end(self) -> None:
@@ -249,6 +279,10 @@ class _AsyncServer:
             reply = self._answered(call)
             if inspect.isawaitable(reply):
                 reply = await reply
+        except asyncio.CancelledError as error:
+            if self._pump.is_stopped:  # the server has ended, and cancels its tasks
+                raise
+            reply = failed(call, error)  # what it waited for was cancelled
         except Exception as error:
             reply = failed(call, error)
         if self._called.get(call.number) is call:  # else the number may be another connection's by now
@@ -267,8 +301,8 @@ async def serve_async(
     **settings: Optional[int],
 ) -> None:
     """Serves clients in a loop of asyncio, as `serve` does. `answer` may be a coroutine function: while it waits, other calls are carried out. The reply
-    to a call whose connection is closed meanwhile is let go. It ends once the event is set, or its task is cancelled, and closes the connections. An `OSError`
-    says within a second that the socket, or the link, was closed."""
+    to a call whose connection is closed meanwhile is let go. It ends once the event is set, or its task is cancelled, and closes the connections; a call that
+    is carried out two seconds later still is rejected. An `OSError` says within a second that the socket, or the link, was closed."""
     if stop is not None and not inspect.iscoroutinefunction(getattr(stop, "wait", None)):
         raise TypeError(f"stop is no event of asyncio: it is of type {type(stop).__name__}")
     served, answered = together(programs, answer)

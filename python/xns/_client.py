@@ -2,7 +2,7 @@
 import contextlib
 from typing import Any, Iterable, Iterator, Optional
 
-from ._errors import BY_RESULT, CLOSED_TEXTS, TEXTS, BusyError, ClosedError, ClosingError, NoConnectionError, NotServedError, SilentError
+from ._errors import BY_RESULT, CLOSED_TEXTS, TEXTS, BusyError, ClosedError, ClosingError, NoConnectionError, NoSlotError, NotServedError, SilentError
 from ._library import unsigned, words_of
 from ._links import Carrier, checked, not_blocking
 from ._objects import Host
@@ -38,11 +38,16 @@ class Conversation:
         self.open()
 
     def open(self) -> None:
-        """Opens a connection: the next one, where there was another."""
+        """Opens a connection: the next one, where there was another. Those that were left, and are not closed yet, give their places up where there is no other."""
+        try:
+            self._number = self.station.connect(self._place, self._own, self._peer)
+        except NoSlotError:
+            for number in self.station.host.numbers():
+                self.station.host.abandon(number)
+            self._number = self.station.connect(self._place, self._own, self._peer)
         self.closed: Optional[Closed] = None
         self.is_answered = False  # whether the server has confirmed the connection
         self._acted = milliseconds()
-        self._number = self.station.connect(self._place, self._own, self._peer)
 
     @property
     def rested(self) -> int:
@@ -62,6 +67,10 @@ class Conversation:
                 return found
             if not self.station.host.connections:  # a call that Ctrl-C ended has fetched the event that it is closed
                 self.closed = Closed(self._number, Why.SILENT, None)
+        elif self.station.host.connections:
+            for _ in self.station.host.events():  # nobody waits for them, but while one stays the host does not rest
+                pass
+            self.station.send()
         return self.closed
 
     def _next(self) -> Optional[Event]:
@@ -202,7 +211,7 @@ class Client:
             if error is None:
                 self.close()
             else:
-                with not_blocking(self._station.carrier):
+                with contextlib.suppress(OSError), not_blocking(self._station.carrier):  # it may be closed, which is not what ended the `with`
                     self._conversation.leave()
         finally:
             self._host.free()

@@ -70,7 +70,8 @@ class ArgumentsError(XnsError):
 
 
 class SilentError(XnsError, TimeoutError):
-    """The server is silent, or what was waited for did not come in the time that was given. The connection is closed."""
+    """The server is silent, or what was waited for did not come in the time that was given. The connection is closed, unless the call of an `AsyncClient`
+    still waited for another one."""
 
 
 class NotServedError(XnsError, ConnectionRefusedError):
@@ -98,8 +99,8 @@ def _error_of(result: Result, text: str) -> type:
 
 
 BY_RESULT = {result: _error_of(result, text) for result, text in TEXTS.items()}
-ClosingError, NoConnectionError, BusyError, NoMemoryError = (
-    BY_RESULT[result] for result in (Result.CLOSING, Result.NO_CONNECTION, Result.BUSY, Result.NO_MEMORY)
+ClosingError, NoConnectionError, BusyError, NoMemoryError, NoSlotError = (
+    BY_RESULT[result] for result in (Result.CLOSING, Result.NO_CONNECTION, Result.BUSY, Result.NO_MEMORY, Result.NO_SLOT)
 )
 
 

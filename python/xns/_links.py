@@ -7,6 +7,8 @@ import socket
 import time
 from typing import Any, Iterator, Optional, Protocol, Tuple, runtime_checkable
 
+from ._library import octets
+
 FRAME_TYPE = 0x0600  # the type of an Ethernet frame that has an internet packet in it
 BROADCAST = b"\xff" * 6  # the host that is all hosts, and the station that is all stations
 _HEAD = 14  # bytes of a frame before the packet
@@ -79,6 +81,8 @@ class _Link:
 class Ethernet(_Link):
     """Packets in frames of type 0600 at an interface, as XNS ran on Ethernet. A place is the station that a packet comes from or goes to."""
 
+    _is_down = False  # whether there was an error since the last frame came
+
     def __init__(self, interface: str) -> None:
         if not isinstance(interface, str):
             raise TypeError(f"interface is no name: it is of type {type(interface).__name__}")
@@ -109,50 +113,83 @@ class Ethernet(_Link):
         """The next packet to this station or to all, and the station that it comes from. Frames to others, which come where the interface is promiscuous,
         and those that this machine sends are passed over. `BlockingIOError` behind so many of them, as where nothing is there."""
         for _ in range(_MOST_PASSED):
-            packet, (_, _, kind, _, station) = self._socket.recvfrom(size)
+            packet, (_, _, kind, _, station) = self._frame(size)
             if kind not in (_TO_OTHERS, _SENT) and packet:
                 return packet, station
         raise BlockingIOError
 
+    def _frame(self, size: int) -> tuple:
+        if self._is_down and not self._socket.getsockname()[0]:  # the interface was taken away: what has its name by now is another one
+            self._socket.bind((self._interface, FRAME_TYPE))
+        try:
+            frame = self._socket.recvfrom(size)
+        except OSError as error:
+            self._note(error)
+            raise
+        self._is_down = False
+        return frame
+
     def sendto(self, packet: bytes, station: bytes) -> int:
         """Sends a packet, padded to the shortest frame."""
-        return self._socket.sendto(packet.ljust(_LEAST, b"\0"), (self._interface, FRAME_TYPE, 0, 0, station))
+        try:
+            return self._socket.sendto(packet.ljust(_LEAST, b"\0"), (self._interface, FRAME_TYPE, 0, 0, station))
+        except OSError as error:
+            self._note(error)
+            raise
+
+    def _note(self, error: OSError) -> None:
+        """Notes that the interface is down: the kernel says so once, to whoever asks first."""
+        self._is_down = self._is_down or not isinstance(error, BlockingIOError)
 
 
 class NetHub(_Link):
     """Packets by way of a hub of emulators: a stream of TCP with Ethernet frames in it, each behind two bytes of its length. A place is the station that a
-    packet comes from or goes to. A hub that is gone is a network that is down: a second later the link is made again."""
+    packet comes from or goes to. A hub that is gone is a network that is down: a second later the link is made again. One that is gone without a word, as where
+    its machine fell silent, is so within half a minute."""
 
-    AGAIN = 1.0  # seconds from one attempt to reach the hub to the next
+    AGAIN = 1.0  # seconds from the end of one attempt to reach the hub to the next
     REACHED = 2.0  # seconds in which the hub replies, or is gone
+    ASKED = 10  # seconds without a byte after which the hub's system is asked whether it has the stream, and from one such question to the next
+    _ASKED_IN_VAIN = 2  # how many questions go out, each without a reply, before the hub is gone
 
     def __init__(self, host: str, port: int, station: Optional[bytes] = None) -> None:
         """`OSError` where the hub is not there. Without a station it is one of no maker's, at random."""
-        self.station = bytes([2]) + secrets.token_bytes(5) if station is None else station
-        if not isinstance(self.station, bytes) or len(self.station) != 6:
-            raise ValueError("station has six bytes")
+        self.station = bytes([2]) + secrets.token_bytes(5) if station is None else octets(station, "station")
+        if len(self.station) != 6:
+            raise ValueError(f"station has {len(self.station)} bytes, and not six")
         self._place, self._stream, self._came, self._tried = (host, port), None, b"", time.monotonic()
         self._open()
 
-    def _open(self) -> None:
-        self._tried, self._came = time.monotonic(), b""
-        self._stream = socket.create_connection(self._place, self.REACHED)
-        self._stream.setsockopt(socket.IPPROTO_TCP, socket.TCP_NODELAY, 1)
-        self._stream.setblocking(False)
+    def _open(self) -> socket.socket:
+        try:
+            stream = socket.create_connection(self._place, self.REACHED)
+        finally:
+            self._tried = time.monotonic()  # behind the attempt, which may take longer than the wait for the next one
+        stream.setsockopt(socket.SOL_SOCKET, socket.SO_KEEPALIVE, 1)  # who only waits for packets would not learn that the hub has forgotten the stream
+        of_tcp = {socket.TCP_NODELAY: 1, socket.TCP_KEEPIDLE: self.ASKED, socket.TCP_KEEPINTVL: self.ASKED, socket.TCP_KEEPCNT: self._ASKED_IN_VAIN}
+        for name, value in of_tcp.items():
+            stream.setsockopt(socket.IPPROTO_TCP, name, value)
+        stream.setblocking(False)
+        self._stream = stream
+        if self._is_closed:  # by another thread meanwhile
+            self._lose()
+            self._check()
+        return stream
 
     def _reached(self) -> socket.socket:
         """The stream. `OSError` while the hub is gone, and once it is left."""
         self._check()
-        if self._stream is None:
-            if time.monotonic() < self._tried + self.AGAIN:
-                raise BlockingIOError
-            self._open()
-        return self._stream
+        stream = self._stream  # another thread may close it
+        if stream is not None:
+            return stream
+        if time.monotonic() < self._tried + self.AGAIN:
+            raise BlockingIOError
+        return self._open()
 
     def _lose(self) -> None:
-        if self._stream is not None:
-            self._stream.close()
-        self._stream, self._tried = None, time.monotonic()
+        stream, self._stream, self._came, self._tried = self._stream, None, b"", time.monotonic()
+        if stream is not None:
+            stream.close()
 
     def close(self) -> None:
         """Leaves the hub, for good."""
@@ -166,7 +203,8 @@ class NetHub(_Link):
         return -1 if stream is None else stream.fileno()
 
     def setblocking(self, flag: bool) -> None:
-        """Changes nothing: a hub never blocks."""
+        """Changes nothing: the other methods wait for no packet. They wait for a hub that does not reply as long as `REACHED` says, for each address that its
+        name has, and for one that takes nothing as long as `AGAIN` says; in a loop of asyncio all else waits then too."""
 
     def recvfrom(self, _: int) -> Tuple[bytes, bytes]:
         """The next packet to this station or to all, and the station that it comes from. Other frames are passed over, as those of `Ethernet`."""
@@ -184,20 +222,24 @@ class NetHub(_Link):
             if len(self._came) >= _LENGTH and len(self._came) == wanted:
                 frame, self._came = self._came[_LENGTH:], b""
                 return frame
-            self._came += self._some(wanted - len(self._came))
+            self._read(wanted - len(self._came))
 
-    def _some(self, size: int) -> bytes:
+    def _read(self, size: int) -> None:
+        """Reads so many bytes at most."""
         stream = self._reached()
         try:
             more = stream.recv(size)
+            self._came += more
         except BlockingIOError:
             raise
         except OSError:
             more = b""
+        except BaseException:  # Ctrl-C, and perhaps bytes were read: without them the stream is of no more use
+            self._lose()
+            raise
         if not more:
             self._lose()
             raise BlockingIOError
-        return more
 
     def sendto(self, packet: bytes, station: bytes) -> int:
         """Sends a packet, padded to the shortest frame. A hub that takes no more for a second is gone."""
@@ -208,17 +250,26 @@ class NetHub(_Link):
                 try:
                     rest = rest[stream.send(rest) :]
                 except BlockingIOError:
-                    if not select.select([], [stream], [], self.AGAIN)[1]:
+                    if not _takes_more(stream, self.AGAIN):
                         raise ConnectionError("the hub takes nothing") from None
-        except (ConnectionError, socket.timeout):
+        except BaseException:  # also Ctrl-C: behind a part of a frame the stream is of no more use
             self._lose()
             raise
         return len(packet)
 
 
+def _takes_more(stream: socket.socket, seconds: float) -> bool:
+    """Whether a stream takes more, within so many seconds."""
+    file, waiting = stream.fileno(), select.poll()
+    if file < 0:  # another thread has closed it
+        return False
+    waiting.register(file, select.POLLOUT)
+    return bool(waiting.poll(1000 * seconds))
+
+
 def ethernet(interface: str) -> Ethernet:
     """What carries packets on this interface, as `eth0`. `PermissionError` without the right CAP_NET_RAW; another `OSError` where there is no such interface.
-    One that is down is as a network that loses all, until it is up."""
+    One that is down, or taken away, is as a network that loses all, until it is up, or there is one of its name."""
     return Ethernet(interface)
 
 

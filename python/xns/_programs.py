@@ -21,6 +21,9 @@ class AbortedError(XnsError):
         super().__init__(f"error {code}" if text is None else text)
         self._code, self._words = code, list(words)
 
+    def __reduce__(self) -> tuple:  # another process has not read the program, and so not the class of a declared error
+        return AbortedError, (self._code, self._words, str(self))
+
     @property
     def code(self) -> int:
         """The number of the error."""
@@ -59,6 +62,9 @@ class RejectedError(XnsError):
         self.reason: int = Reject(reason) if reason in list(Reject) else reason
         self.words = list(words)
         super().__init__(self.reason.name.lower().replace("_", " ") if isinstance(self.reason, Reject) else f"reason {reason}")
+
+    def __reduce__(self) -> tuple:
+        return RejectedError, (self.reason, self.words)
 
 
 def _bound(record: Record, arguments: tuple, named: dict, name: str) -> tuple:
@@ -286,8 +292,14 @@ class Programs(Object, Mapping):
     _family = "programs"
 
     def __init__(self) -> None:
-        super().__init__()
         self._programs: List[Program] = []
+        self._freed = 0  # how many of them the library has no longer
+        super().__init__()
+
+    def free(self) -> None:
+        """Gives the memory back. The programs that were read stay; those that are read later know nothing of them, and `call_text` and the like neither."""
+        super().free()
+        self._freed = len(self._programs)
 
     def read(self, text: bytes, file: str = "text") -> Program:
         """Reads a text in Courier's notation, one program, which may depend upon those that were read before. `WrongTextError` with `line`, `column` and
@@ -297,7 +309,7 @@ class Programs(Object, Mapping):
             self._done("read", given, len(given), byref(fault))
         except BY_RESULT[Result.WRONG_TEXT]:
             raise _wrong(file, fault) from None
-        self._programs.append(self._table(len(self._programs)))
+        self._programs.append(self._table(len(self._programs) - self._freed))
         return self._programs[-1]
 
     def _table(self, index: int) -> Program:
@@ -370,6 +382,7 @@ def read_programs(*files: File) -> Programs:
     `Programs.read`."""
     programs = Programs()
     for file in files:
-        with open(file, "rb") as opened:
-            programs.read(opened.read(), os.fspath(file))
+        name = os.fspath(file)  # `open` takes a number for a file that is open, which is then closed
+        with open(name, "rb") as opened:
+            programs.read(opened.read(), name)
     return programs

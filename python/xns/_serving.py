@@ -23,7 +23,7 @@ Service = Callable[[Call], Reply]
 Programs = Iterable[Union[Tuple[int, int, int], TypedServer]]
 
 
-def failed(call: Call, error: Exception) -> Reply:
+def failed(call: Call, error: BaseException) -> Reply:
     """What a call is answered whose answering raised this."""
     if isinstance(error, ArgumentsError):
         return rejects(Reject.INVALID_ARGUMENTS)
@@ -92,6 +92,8 @@ def close_all(host: Host, now: int) -> Set[int]:
 
 def guarded(other: Other) -> Other:
     """What is given each packet that is not the host's: what it raises ends nothing."""
+    if other is not None and not callable(other):
+        raise TypeError(f"other is no function: it is of type {type(other).__name__}")
 
     def heard(packet: bytes, place: Any) -> None:
         try:
@@ -109,9 +111,7 @@ class Server:
         self, carrier: Carrier, own: Address, programs: Programs, answer: Optional[Service] = None, other: Other = None, **settings: Optional[int]
     ) -> None:
         self._programs, self._service = together(programs, answer)
-        if other is not None and not callable(other):
-            raise TypeError(f"other is no function: it is of type {type(other).__name__}")
-        self._carrier, self._own, self._settings, self._other = checked(carrier), address_of(own, "own"), settings, other
+        self._carrier, self._own, self._settings, self._other = checked(carrier), address_of(own, "own"), settings, guarded(other)
         self._is_stopped = False
         self._bell, self._ringer = socket.socketpair()  # wakes what waits
         for one in (self._bell, self._ringer):
@@ -131,7 +131,7 @@ class Server:
                 raise TypeError(f"stop is no event: it is of type {type(stop).__name__}")
             with Host(self._own, **self._settings) as host, not_blocking(self._carrier):
                 host.serve(self._own.socket, self._programs)
-                station, replies = Station(self._carrier, host, guarded(self._other)), Replies(host)
+                station, replies = Station(self._carrier, host, self._other), Replies(host)
                 try:
                     while not (self._is_stopped or stop is not None and stop.is_set()):
                         station.wait(also=self._bell.fileno(), **({} if stop is None else {"most": _LOOKED_AT}))
@@ -146,7 +146,11 @@ class Server:
         station.take_in()
         for event in station.host.events():
             if isinstance(event, Call):
-                replies.give(station.now, event, self._reply(event))
+                reply = rejects(UNSPECIFIED)  # where Ctrl-C ends what carries it out: the connection stays until the call is answered
+                try:
+                    reply = self._reply(event)
+                finally:
+                    replies.give(station.now, event, reply)
             elif isinstance(event, Closed):
                 note_closed(station.host, event)
                 replies.forget(event.number)
@@ -192,7 +196,8 @@ def serve(
     program where `programs` is empty. It gives what the call is answered by `returns`, `aborts` or `rejects`. A call whose answering raises an error is
     rejected: with `Reject.INVALID_ARGUMENTS` where the error is one of a `Reader`, else with `UNSPECIFIED`, and the log of the name `xns` has the error. Typed
     servers of one program follow each other in their versions; else `serve` raises a ValueError. `other` is given each packet that is not the host's, as one
-    of a packet exchange, with the place that it comes from.
+    of a packet exchange, with the place that it comes from. Calls are carried out one behind another, and meanwhile nothing is said: the clients of a server
+    that takes longer than their patience, with the settings of this module some 30 seconds, give it up. See `serve_async` for what takes long.
 
     It returns once the event `stop` is set; a `Server` can be stopped by its `stop`. The connections are closed then, also where Ctrl-C ends it. An `OSError`
     says within a second that the socket, or the link, was closed."""

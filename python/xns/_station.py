@@ -106,6 +106,8 @@ class Station:
                 continue
             except OSError:  # nothing is there, or the network is down
                 return
+            if place is None and isinstance(self.carrier, socket.socket):  # of a socket without a name, to which nothing can be sent
+                continue
             if not self.host.receive(self.now, self._places.number(place, packet[_SOURCE]), packet) and self._other is not None:
                 self._other(packet, place)
 

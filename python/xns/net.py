@@ -185,8 +185,8 @@ def _call(given: argparse.Namespace) -> int:
         peer = read_address(given.address, given.network, COURIER)
         with Client(network.link, network.place(peer), network.own(), peer, timeout=given.timeout) as client:
             answer = client.call(program, given.version, procedure, words)
-    line = plain(answer)
-    _say(line if named is None else named.told(line, program, given.version, procedure, answer))
+            line = plain(answer)
+            _say(line if named is None else named.told(line, program, given.version, procedure, answer))
     return DONE if answer.kind == Kind.RETURN else NOT_RETURNED
 
 

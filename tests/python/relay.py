@@ -1,5 +1,5 @@
-"""Networks for the tests: a relay between UDP clients and a server that spoils some of their datagrams, and an end of a connection over UDP that says what
-no client says."""
+"""Networks for the tests: a relay between UDP clients and a server that spoils some of their datagrams, a hub, a carrier that counts, and an end of a connection
+over UDP that says what no client says."""
 import contextlib
 import heapq
 import random
@@ -51,6 +51,18 @@ def send_all_kinds(place, own, server):
             udp.sendto(data, place)
     for data in (b"", b"\0", echo, opening):
         from_port_0(data, place[1])
+
+
+class Counting:
+    """A carrier over a socket that counts how often it is asked for a packet."""
+
+    def __init__(self, udp):
+        self._udp, self.asked = udp, 0
+        self.fileno, self.setblocking, self.sendto = udp.fileno, udp.setblocking, udp.sendto
+
+    def recvfrom(self, size):
+        self.asked += 1
+        return self._udp.recvfrom(size)
 
 
 class Relay(threading.Thread):

@@ -60,6 +60,13 @@ async def later(**settings):
         await client.call(7, 1, 1, **settings)
 
 
+async def served(**settings):
+    """A server in a loop of asyncio, which is stopped at once."""
+    stop = asyncio.Event()
+    stop.set()
+    await xns.serve_async(Memory(), CLIENT, [], print, stop=stop, **settings)
+
+
 class TypesTest(unittest.TestCase):
     def test_names_of_arguments(self):
         host = xns.Host(CLIENT)
@@ -103,6 +110,8 @@ class TypesTest(unittest.TestCase):
             ("stop", lambda: asyncio.run(xns.serve_async(Memory(), CLIENT, [], print, stop=threading.Event()))),
             ("reopens", lambda: xns.Client(Memory(), None, CLIENT, SERVER, reopens="5")),
             ("interface", lambda: xns.ethernet(0)),
+            ("station", lambda: xns.nethub("127.0.0.1", 9, "0000aa000304")),
+            ("other", lambda: asyncio.run(served(other="other"))),
         ):
             with self.subTest(name), self.assertRaisesRegex(TypeError, name):
                 call()

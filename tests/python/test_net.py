@@ -13,7 +13,7 @@ import unittest
 from unittest import mock
 
 import xns
-from relay import bound
+from relay import Peer, bound
 from xns._ping import Ping
 from xns._reached import Network, read_address, read_host
 from xns._watch import watch
@@ -173,6 +173,21 @@ class NetTest(unittest.TestCase):
             self.assertEqual((calling.communicate(timeout=30), calling.returncode), (("", ""), 130))
             status, out, err = run("call", SERVER, "7", "1", "1", "--timeout", "0.3", "--udp", str(nobody.getsockname()[1]))
             self.assertEqual((status, out, err), (1, "", "xns-net: the call was not answered in 0.3 seconds\n"))
+
+    def test_an_answer_is_printed_where_the_server_does_not_close(self):
+        with bound() as udp:
+
+            def answers():
+                peer = Peer.answering(udp, xns.Address(1, bytes.fromhex(SERVER), 5))
+                peer.endpoint.send(bytes.fromhex("000200010007"))
+                with contextlib.suppress(TimeoutError):
+                    peer.until(lambda: False, 4)
+
+            thread = threading.Thread(target=answers)
+            thread.start()
+            told = run("call", SERVER, "7", "1", "1", "--timeout", "1", "--udp", str(udp.getsockname()[1]))
+            thread.join()
+        self.assertEqual(told, (1, "return 0007\n", "xns-net: the server did not close the connection in 1 seconds\n"))
 
     def test_a_call_by_name(self):
         with tempfile.TemporaryDirectory() as folder:

@@ -4,6 +4,7 @@ import asyncio
 import enum
 import os
 import pathlib
+import pickle
 import pydoc
 import random
 import subprocess
@@ -92,6 +93,18 @@ class ReadingTest(unittest.TestCase):
         self.assertEqual(list(programs), ["Shapes"])
         with self.assertRaises(FileNotFoundError):
             xns.read_programs("/nowhere.courier")
+        with open(TALLY, "rb") as opened:
+            with self.assertRaises(TypeError):
+                xns.read_programs(opened.fileno())
+            self.assertIn(b"PROGRAM", opened.read())  # it is not closed
+
+    def test_what_is_read_behind_what_was_freed(self):
+        with xns.read_programs(TALLY) as programs:
+            pass
+        shapes = programs.read(SHAPES)
+        self.assertEqual((shapes.name, shapes.number, shapes.version, list(programs)), ("Shapes", 4660, 2, ["Tally", "Shapes"]))
+        self.assertIsNone(programs.call_text(7, 2, 1, [5]))
+        self.assertEqual(programs.call_text(4660, 2, 7, []), "Shapes 4660.2 Nothing []")
 
     def test_texts(self):
         programs = xns.read_programs(TALLY)
@@ -117,6 +130,19 @@ class ReadingTest(unittest.TestCase):
         self.assertIn("Draw(self, points: List[Shapes.Point], color: Shapes.Color) -> Shapes.DrawResults", told)
         self.assertIn("Ask(self, from_: int)", told)
         self.assertIn("Nothing(self) -> None", told)
+
+    def test_errors_go_to_another_process(self):
+        """One that could not would break a pool of processes."""
+        lost = xns.Programs().read(SHAPES).Lost(b"red", 5, args=True)
+        for error, wanted in (
+            (xns.AbortedError(5, [1, 2]), ("error 5", 5, [1, 2])),
+            (lost, (str(lost), 9, xns.Writer().text(b"red").cardinal(5).boolean(True).words)),
+        ):
+            told = pickle.loads(pickle.dumps(error))
+            self.assertEqual((type(told), str(told), told.code, told.words), (xns.AbortedError, *wanted))
+        for error in (xns.RejectedError(xns.Reject.NO_SUCH_PROCEDURE), xns.RejectedError(77, [5])):
+            told = pickle.loads(pickle.dumps(error))
+            self.assertEqual((str(told), told.reason, told.words), (str(error), error.reason, error.words))
 
     def test_names_of_python(self):
         own = xns.Programs().read(

@@ -1,0 +1,234 @@
+"""What becomes of a link to a hub of emulators where the hub is slow, gone, or left amid a frame, and of one at an interface that is gone."""
+import errno
+import fcntl
+import resource
+import select
+import shutil
+import socket
+import subprocess
+import sys
+import time
+import types
+import unittest
+import unittest.mock
+
+import xns
+from relay import LOCAL
+
+HOST, OTHER = bytes.fromhex("0000aa000102"), bytes.fromhex("0000aa000304")
+PACKET = bytes(range(60))
+COMES = b"\x00\x4a" + HOST + OTHER + b"\x06\x00" + PACKET  # as the link hears it, behind its length
+FRAME = b"\x00\x4a" + OTHER + HOST + b"\x06\x00" + PACKET  # as the hub hears it, behind its length
+
+
+class HubTest(unittest.TestCase):
+    """The test is the hub."""
+
+    def setUp(self):
+        self.hub = socket.create_server((LOCAL, 0))
+        self.hub.settimeout(5)
+        self.addCleanup(self.hub.close)
+        self.link = xns.nethub(*self.hub.getsockname(), HOST)
+        self.link.AGAIN = 0.2
+        self.addCleanup(self.link.close)
+        self.stream = self.accepted()
+
+    def accepted(self):
+        stream, _ = self.hub.accept()
+        stream.settimeout(5)
+        self.addCleanup(stream.close)
+        return stream
+
+    def lost(self):
+        """The hub closes the stream, the link sees it, and may open another one."""
+        self.stream.close()
+        while self.link.fileno() >= 0:
+            with self.assertRaises(OSError):
+                self.link.recvfrom(2048)
+        time.sleep(self.link.AGAIN)
+
+    def opened_again(self):
+        """Sends, once the link has left the stream: by a new one."""
+        time.sleep(self.link.AGAIN)
+        self.link.sendto(PACKET, OTHER)
+        self.stream = self.accepted()
+        self.assertEqual(self.stream.recv(2048), FRAME)
+
+    def test_a_stream_that_took_a_part_of_a_frame_is_left(self):
+        """Also where Ctrl-C ended the sending: the hub would take the next frame for the rest of this one."""
+        for error in (KeyboardInterrupt(), OSError(errno.EHOSTUNREACH, "no way to the hub"), ConnectionResetError()):
+            stream, sent = self.link._stream, []
+
+            def takes_a_part(data):
+                if sent:
+                    raise error
+                sent.append(data[:20])
+                return stream.send(data[:20])
+
+            self.link._stream = types.SimpleNamespace(send=takes_a_part, fileno=stream.fileno, close=stream.close)
+            with self.assertRaises(type(error)):
+                self.link.sendto(PACKET, OTHER)
+            self.assertEqual((self.stream.recv(2048), self.stream.recv(2048)), (FRAME[:20], b""))
+            self.opened_again()
+
+    def test_a_stream_of_which_a_part_is_gone_is_left(self):
+        """Ctrl-C came between the reading of bytes and what is done with them."""
+        stream, read = self.link._stream, []
+
+        def reads_and_is_interrupted(size):
+            read.append(stream.recv(size))
+            raise KeyboardInterrupt
+
+        self.stream.sendall(b"\x00\x4a" + HOST + OTHER)
+        select.select([stream], [], [], 5)
+        self.link._stream = types.SimpleNamespace(recv=reads_and_is_interrupted, fileno=stream.fileno, close=stream.close)
+        with self.assertRaises(KeyboardInterrupt):
+            self.link.recvfrom(2048)
+        self.assertEqual(read, [b"\x00\x4a"])
+        self.opened_again()
+
+    def test_a_part_of_a_frame_goes_with_its_stream(self):
+        """Also where the new stream has frames at once."""
+
+        def opened_with_frames(*place):
+            stream = connect(*place)
+            self.stream = self.accepted()
+            self.stream.sendall(10 * COMES)
+            select.select([stream], [], [], 5)
+            return stream
+
+        connect = socket.create_connection
+        self.stream.sendall(b"\x02\x4e" + COMES[2:50])
+        select.select([self.link], [], [], 5)
+        self.lost()
+        with unittest.mock.patch("socket.create_connection", opened_with_frames):
+            for _ in range(10):
+                self.assertEqual(self.link.recvfrom(2048), (PACKET, OTHER))
+
+    def test_a_hub_that_reads_nothing_in_a_program_with_many_files(self):
+        soft, hard = resource.getrlimit(resource.RLIMIT_NOFILE)
+        if hard < 2000:
+            self.skipTest("a program may not have so many files")
+        resource.setrlimit(resource.RLIMIT_NOFILE, (max(soft, 2000), hard))
+        self.addCleanup(resource.setrlimit, resource.RLIMIT_NOFILE, (soft, hard))
+        with self.link._stream as stream:
+            self.link._stream = socket.socket(fileno=fcntl.fcntl(stream.fileno(), fcntl.F_DUPFD, 1500))
+        self.link._stream.setblocking(False)
+        with self.assertRaisesRegex(ConnectionError, "takes nothing"):
+            while True:
+                self.link.sendto(bytes(576), OTHER)
+        self.assertLess(self.link.fileno(), 0)
+
+    def test_a_link_that_another_thread_closes_while_it_is_opened_again_stays_closed(self):
+        def closed_meanwhile(*place):
+            self.link.close()
+            return connect(*place)
+
+        connect = socket.create_connection
+        self.lost()
+        with unittest.mock.patch("socket.create_connection", closed_meanwhile), self.assertRaisesRegex(OSError, "the link is closed"):
+            self.link.sendto(PACKET, OTHER)
+        self.assertEqual(self.accepted().recv(2048), b"")
+
+    def test_a_hub_that_does_not_reply_is_tried_a_while_behind_each_attempt(self):
+        attempts = []
+
+        def silent(place, seconds):
+            attempts.append(place)
+            time.sleep(2 * self.link.AGAIN)
+            raise socket.timeout
+
+        self.lost()
+        with unittest.mock.patch("socket.create_connection", silent):
+            for _ in range(5):
+                with self.assertRaises(OSError):
+                    self.link.sendto(PACKET, OTHER)
+        self.assertEqual(len(attempts), 1)
+
+
+PLUGGED = """import contextlib, subprocess, time, xns
+FIRST, SECOND = "02:00:aa:00:00:01", "02:00:aa:00:00:02"
+def ip(*words):
+    subprocess.run(["ip", "link", *words], check=True)
+def plug():
+    ip("add", "xa", "address", FIRST, "type", "veth", "peer", "name", "xb", "address", SECOND)
+    for name in ("xa", "xb"):
+        ip("set", name, "up")
+    return xns.ethernet("xb")
+def is_heard():
+    until = time.monotonic() + 5
+    while time.monotonic() < until:
+        with contextlib.suppress(OSError):
+            far.sendto(b"there" + bytes(50), near.station)
+        for _ in range(9):
+            with contextlib.suppress(OSError):
+                return near.recvfrom(2048)[0][:5] == b"there"
+        time.sleep(0.05)
+far = plug()
+near = xns.ethernet("xa")
+for link in (near, far):
+    link.setblocking(False)
+heard = [is_heard()]
+for asks in (near.recvfrom, lambda size: near.sendto(b"", near.station)):
+    for steps in ((("set", "xa", "down"), ("del", "xa")), (("del", "xa"),)):
+        far.close()
+        for step in steps:
+            ip(*step)
+            with contextlib.suppress(OSError):
+                asks(2048)
+        far = plug()
+        far.setblocking(False)
+        heard.append(is_heard())
+for link in (near, far):
+    link.close()
+print(*heard)
+"""
+
+SILENT = """import contextlib, socket, struct, subprocess, sys, time, xns
+def lo(way):
+    subprocess.run(["ip", "link", "set", "lo", way], check=True)
+lo("up")
+xns.NetHub.ASKED = 1
+with socket.create_server(("127.0.0.1", 0)) as hub, xns.nethub(*hub.getsockname()) as link:
+    hub.settimeout(10)
+    for way in ("forgets", "is gone"):
+        stream, _ = hub.accept()
+        lo("down")
+        if way == "forgets":  # and what it says of that is lost
+            stream.setsockopt(socket.SOL_SOCKET, socket.SO_LINGER, struct.pack("ii", 1, 0))
+            stream.close()
+            lo("up")
+        until = time.monotonic() + 10
+        while link.fileno() >= 0 and time.monotonic() < until:
+            with contextlib.suppress(OSError):
+                link.recvfrom(2048)
+            time.sleep(0.05)
+        print("it", way, "and is left" if link.fileno() < 0 else "and is believed in")
+        lo("up")
+        while link.fileno() < 0:
+            with contextlib.suppress(OSError):
+                link.recvfrom(2048)
+            time.sleep(0.05)
+    stream.close()
+"""
+
+
+class ApartTest(unittest.TestCase):
+    """What takes the right to a network of its own."""
+
+    def told(self, script):
+        """What a script prints there."""
+        apart = ["unshare", "-n"]
+        if not shutil.which("unshare") or not shutil.which("ip") or subprocess.run([*apart, "true"], stderr=subprocess.DEVNULL).returncode:
+            self.skipTest("there is no right to a network of its own")
+        return subprocess.run([*apart, sys.executable, "-W", "error", "-c", script], stdout=subprocess.PIPE, text=True, timeout=60).stdout
+
+    def test_a_hub_that_is_gone_without_a_word(self):
+        self.assertEqual(self.told(SILENT), "it forgets and is left\nit is gone and is left\n")
+
+    def test_an_interface_that_is_taken_away_and_put_back(self):
+        self.assertEqual(self.told(PLUGGED), "True True True True True\n")
+
+
+if __name__ == "__main__":
+    unittest.main()
