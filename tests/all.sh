@@ -1,6 +1,7 @@
 #!/bin/sh
 # All proofs, wrong bodies, tests and programs from nothing, then the figures of docs/PROOF.md, and then the scripts that try what was built.
 set -eu
+CDPATH=
 cd "$(dirname "$0")/.."
 
 # `rt ci` keeps no library for other commands. The library for C and those below it are built of a copy meanwhile, and put in their places

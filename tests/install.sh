@@ -2,6 +2,7 @@
 # Tries install.sh: first with a kit that builds nothing, in seconds, and then with the real one, under a fresh folder. The installed
 # files are used, and removed again. It says which tests it leaves out because a tool is missing.
 set -u
+CDPATH=
 cd "$(dirname "$0")/.."
 . tests/lib.sh
 prefix=$work/installed

@@ -3,6 +3,7 @@
 # frames, and where an interface goes down and comes back. No frame leaves the machine. It needs the rights to make namespaces, and leaves all out where it has
 # none. What it leaves out because a tool is missing it says. Its last line is 'N passed, M failed', and it ends with 1 where one failed.
 set -u
+CDPATH=
 cd "$(dirname "$0")/.."
 . tests/lib.sh
 front=xns$$
