@@ -7,6 +7,8 @@ trap 'rm -rf "$work"' EXIT
 trap 'exit 1' HUP INT TERM
 passed=0
 failed=0
+# What scripts in Python assert is looked at.
+unset PYTHONOPTIMIZE
 
 # Whether there is a command of this name.
 has() {
