@@ -127,7 +127,7 @@ holds 'and nothing else is left there' "$work/way" lib lib/libxns.a
 other=
 if [ "$(id -u)" -eq 0 ]; then other='setpriv --reuid=65534 --regid=65534 --clear-groups'; fi
 if [ -z "$other" ] || has setpriv; then
-    chmod 755 "$work"
+    chmod -R a+rX "$work"
     mkdir "$work/closed" "$work/way/bin"
     chmod 555 "$work/closed" "$work/way" "$work/way/bin"
     # shellcheck disable=SC2086
