@@ -258,7 +258,8 @@ begin 1 "$work/epoll" "$(station 1)"
 served=$started
 for number in 2 3; do
     expect "a host at two interfaces answers station $number" answers $number 1
-    prints 'and its calls' "$longest" at $number "$work/client" -i eth0 "$(station 1)" x131060
+    prints 'and its calls' "$longest
+return 0 bytes, the same" at $number "$work/client" -i eth0 "$(station 1)" x131060 x0
 done
 kill "$served"
 wait "$served"
