@@ -3,7 +3,7 @@
 #[path = "peer/packets.rs"]
 mod packets;
 
-use packets::{NO_SUM, be, cycle, nearest, next_line, nibble};
+use packets::{NO_SUM, be, cycle, nearest, next_line, nibble, put_words};
 use std::collections::{BTreeMap, HashMap, VecDeque};
 use std::fmt::{self, Display, Formatter};
 use std::fs::File;
@@ -47,15 +47,6 @@ impl Display for Name {
     fn fmt(&self, f: &mut Formatter) -> fmt::Result { write!(f, "{} {}{}", self.line, self.connection, if self.side == 0 { 'a' } else { 'b' }) }
 }
 
-fn words(out: &mut Vec<u8>, b: &[u8]) {
-    if b.is_empty() { out.push(b'-'); }
-    for (i, w) in b.chunks(2).enumerate() {
-        if i > 0 { out.push(b' '); }
-        write!(out, "{:02x}{:02x}", w[0], w[1]).unwrap();
-    }
-    out.push(b'\n');
-}
-
 fn behind_mark(last: bool) -> Said { if last { Said::Message(Vec::new()) } else { Said::Waiting } }
 
 const MOST: usize = 131_072;
@@ -80,7 +71,7 @@ fn message(out: &mut Vec<u8>, name: &Name, d: &[u8], own: &mut Option<(u64, u64)
             _ => write!(out, "abort {transaction} of {of} error {} args ", be(&d[4..6])),
         }.unwrap();
     }
-    words(out, &d[head..]);
+    put_words(out, &d[head..]);
     Ok(())
 }
 

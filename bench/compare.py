@@ -177,7 +177,7 @@ def time_captures(folder, given):
         given.write_bytes(made_by("captures.py", which))
         print(f"{which}:", end=" ", flush=True)
         least = compare([ours, "calls"], [peer], given)
-        dump = statistics.median(seconds_of([ours, "dump"], given) for _ in range(RUNS))
+        dump = min(seconds_of([ours, "dump"], given) for _ in range(RUNS))
         print(f"    {least['ours'] / dump:.2f} of the time of dump; ours holds {held_by([ours, 'calls'], given)} KiB at most, the peer {held_by([peer], given)}")
         yield f"`xns calls` of 65,536 packets, {which}", "captures_peer", ratio_of(least)
     given.write_bytes(b"")

@@ -4,21 +4,9 @@
 #[path = "peer/packets.rs"]
 mod packets;
 
-use packets::{NO_SUM, be, cycle, nearest, next_line, nibble};
+use packets::{NO_SUM, be, cycle, nearest, next_line, nibble, put_hex, put_words};
 use std::collections::HashMap;
 use std::io::{self, Write};
-
-fn hex(out: &mut Vec<u8>, b: &[u8]) {
-    const D: &[u8; 16] = b"0123456789abcdef";
-    if b.is_empty() { out.push(b'-'); }
-    for x in b { out.push(D[(x >> 4) as usize]); out.push(D[(x & 15) as usize]); }
-}
-
-fn words(out: &mut Vec<u8>, b: &[u8]) {
-    if b.is_empty() { out.push(b'-'); }
-    for (i, w) in b.chunks(2).enumerate() { if i > 0 { out.push(b' '); } hex(out, w); }
-    out.push(b'\n');
-}
 
 fn message(out: &mut Vec<u8>, n: u32, d: &[u8]) {
     let at = |place: usize| be(&d[place..place + 2]);
@@ -30,7 +18,7 @@ fn message(out: &mut Vec<u8>, n: u32, d: &[u8]) {
         3 if d.len() >= 6 => { write!(out, "{n} abort {} error {} args ", at(2), at(4)).unwrap(); &d[6..] }
         _ => { write!(out, "{n} words ").unwrap(); d }
     };
-    words(out, rest);
+    put_words(out, rest);
 }
 
 fn main() {
@@ -78,7 +66,7 @@ fn main() {
                             let item = items.entry(flow).and_modify(|last| *last = nearest(*last, field as u16).unwrap_or(field)).or_insert(field);
                             writeln!(out, "{n} item {item}").unwrap();
                             let d = &b[12..];
-                            if b[0] & 16 != 0 { message(&mut out, n, d); } else { write!(out, "{n} words ").unwrap(); words(&mut out, d); }
+                            if b[0] & 16 != 0 { message(&mut out, n, d); } else { write!(out, "{n} words ").unwrap(); put_words(&mut out, d); }
                         } else {
                             let rest = match bytes[5] {
                                 2 if b.len() >= 2 => { write!(out, "{n} echo {} ", if b[1] == 1 { "request" } else { "reply" }).unwrap(); &b[2..] }
@@ -86,7 +74,7 @@ fn main() {
                                 4 if b.len() >= 6 => { write!(out, "{n} exchange id {:08x} client {} body ", be(&b[0..4]), be(&b[4..6])).unwrap(); &b[6..] }
                                 _ => { write!(out, "{n} data ").unwrap(); b }
                             };
-                            hex(&mut out, rest);
+                            put_hex(&mut out, rest);
                             out.push(b'\n');
                         }
                     }

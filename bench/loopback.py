@@ -99,14 +99,17 @@ def instructions(kind, calls, clients, environment):
 
 
 def measured_kinds(kinds, runs, calls, counted, clients=1, environment=None):
-    """Of each kind of server and client, run in turn: the seconds of processor of a call, both sides together, and its instructions where they mean something."""
+    """Of each kind of server and client, run in turn: the seconds of processor of a call, both sides together, and its instructions where they mean something.
+    What starting and ending take is left out of both: it is that of a run without calls."""
     environment = environment or {}
-    times = {kind: [] for kind in kinds}
+    times = {kind: {calls: [], 0: []} for kind in kinds}
     for _ in range(runs):
         for kind in kinds:
-            times[kind].append(run(kind, calls, clients, environment) / calls / clients)
+            for wanted, spent in times[kind].items():
+                spent.append(run(kind, wanted, clients, environment))
+    least = {kind: (min(spent[calls]) - min(spent[0])) / calls / clients for kind, spent in times.items()}
     counts = {kind: instructions(kind, counted, clients, environment) for kind in kinds if kind.is_counted and has_valgrind()}
-    return {kind: min(spent) for kind, spent in times.items()}, counts
+    return least, counts
 
 
 def compare_kinds(what, kinds, runs, calls, counted, clients=1, environment=None):

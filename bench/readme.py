@@ -51,6 +51,11 @@ def beside_lines(ours, peer, given, *script):
     return beside(ours, peer, whole, few=few if script[-1] in ("long", "endless") else None)
 
 
+def megabytes(held):
+    """What `held_by` tells in KiB."""
+    return held * 1024 / 1_000_000
+
+
 def held_by_both(ours, peer, given, *script):
     whole, _ = made(given, *script)
     return held_by(ours, whole), held_by(peer, whole)
@@ -63,7 +68,7 @@ def dump_row(folder, given):
         [[beside_lines(ours, peer, given, "packets.py", *words)] for words in (("sequenced", "1"), ("messages",))],
     )
     held = [held_by_both(ours, peer, given, "packets.py", "sequenced", flows) for flows in ("1", "65536")]
-    shown = "; ".join(f"{mine / 1000:.1f} of {theirs / 1000:.1f} MB" for mine, theirs in held)
+    shown = "; ".join(f"{megabytes(mine):.1f} of {megabytes(theirs):.1f} MB" for mine, theirs in held)
     yield f"| most resident memory of `xns dump`, beside the peer: one flow; 65,536 flows | {shown} | |"
 
 
@@ -81,7 +86,7 @@ def calls_rows(folder, given):
         capture.write_bytes(made_by("captures.py", which, "pcap"))
         cells.append(beside([*ours, capture], [*peer, capture], given))
     yield Row("`xns calls x.pcap` of as many: short calls, each in a flow of its own, out of order", [cells])
-    yield f"| of `xns calls`: one flow; 65,536 flows that each kept 534 bytes of a message | {held[0] / 1000:.1f} MB; {held[1] / 1000:.0f} MB | |"
+    yield f"| of `xns calls`: one flow; 65,536 flows that each kept 534 bytes of a message | {megabytes(held[0]):.1f} MB; {megabytes(held[1]):.0f} MB | |"
 
 
 def bench_rows(folder, given):

@@ -3,6 +3,7 @@
 # docs/FORMATS.md prints of them. Of captures in which nothing is lost it looks for all messages, and for each call's answer. It builds the
 # program first.
 set -u
+CDPATH=
 cd "$(dirname "$0")/.."
 . tests/lib.sh
 build_program xns -- sim

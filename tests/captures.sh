@@ -3,6 +3,7 @@
 # program reads of a capture with what it prints of the lines that tshark makes of it. It builds the program first.
 # Without tshark or text2pcap it says so and ends with 0; without tcpdump that one command is passed over.
 set -u
+CDPATH=
 cd "$(dirname "$0")/.."
 for tool in tshark text2pcap; do
     if ! command -v "$tool" > /dev/null; then

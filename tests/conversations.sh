@@ -2,6 +2,7 @@
 # Builds the program `test_conversations`, and refuses each growth of it in turn, while a caller calls and while a server is fed a call.
 # It looks at what each side then does.
 set -u
+CDPATH=
 cd "$(dirname "$0")/.."
 . tests/lib.sh
 build_program test_conversations

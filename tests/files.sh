@@ -2,6 +2,7 @@
 # Compares what the program prints of random captures with a second account of what they hold, as tests/files.py says, and tries what it
 # says of files: it builds the program first. Its last line is 'N passed, M failed', and it ends with 1 where one failed.
 set -u
+CDPATH=
 cd "$(dirname "$0")/.."
 . tests/lib.sh
 build_program xns -- sim

@@ -2,6 +2,7 @@
 # Tries install.sh: first with a kit that builds nothing, in seconds, and then with the real one, under a fresh folder. The installed
 # files are used, and removed again. It says which tests it leaves out because a tool is missing.
 set -u
+CDPATH=
 cd "$(dirname "$0")/.."
 . tests/lib.sh
 prefix=$work/installed
@@ -126,7 +127,7 @@ holds 'and nothing else is left there' "$work/way" lib lib/libxns.a
 other=
 if [ "$(id -u)" -eq 0 ]; then other='setpriv --reuid=65534 --regid=65534 --clear-groups'; fi
 if [ -z "$other" ] || has setpriv; then
-    chmod 755 "$work"
+    chmod -R a+rX "$work"
     mkdir "$work/closed" "$work/way/bin"
     chmod 555 "$work/closed" "$work/way" "$work/way/bin"
     # shellcheck disable=SC2086

@@ -1,11 +1,17 @@
 # shellcheck shell=sh
 # What the scripts of this folder share. Each goes to the top of the clone and reads this file. It then has a folder $work, which is
-# removed when the script ends, and counts the tests that pass and those that fail. Its last line is 'N passed, M failed', and it ends
-# with 1 where a test failed.
+# removed when the script ends, by a signal too, and counts the tests that pass and those that fail. Its last line is
+# 'N passed, M failed', and it ends with 1 where a test failed.
+
+# What is preloaded, and the PREFIX of install.sh, stand in a folder whose name has no blank.
+case ${TMPDIR-} in *[!A-Za-z0-9/._+,@=~-]*) TMPDIR=/tmp ;; esac
 work=$(mktemp -d)
 trap 'rm -rf "$work"' EXIT
+trap 'exit 1' HUP INT TERM
 passed=0
 failed=0
+# What scripts in Python assert is looked at.
+unset PYTHONOPTIMIZE
 
 # Whether there is a command of this name.
 has() {

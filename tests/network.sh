@@ -3,6 +3,7 @@
 # frames, and where an interface goes down and comes back. No frame leaves the machine. It needs the rights to make namespaces, and leaves all out where it has
 # none. What it leaves out because a tool is missing it says. Its last line is 'N passed, M failed', and it ends with 1 where one failed.
 set -u
+CDPATH=
 cd "$(dirname "$0")/.."
 . tests/lib.sh
 front=xns$$
@@ -257,7 +258,8 @@ begin 1 "$work/epoll" "$(station 1)"
 served=$started
 for number in 2 3; do
     expect "a host at two interfaces answers station $number" answers $number 1
-    prints 'and its calls' "$longest" at $number "$work/client" -i eth0 "$(station 1)" x131060
+    prints 'and its calls' "$longest
+return 0 bytes, the same" at $number "$work/client" -i eth0 "$(station 1)" x131060 x0
 done
 kill "$served"
 wait "$served"

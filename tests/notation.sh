@@ -5,6 +5,7 @@
 # with a description. It builds both programs first. Its last line is 'N passed, M failed', and it ends with 1 where one failed. A first
 # word is the number of random cases.
 set -u
+CDPATH=
 cd "$(dirname "$0")/.."
 . tests/lib.sh
 count=${1:-60}

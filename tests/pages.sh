@@ -2,6 +2,7 @@
 # Compares the code that the pages in docs/ quote with the code itself, by tests/pages.py, and tries on copies that each way in which a
 # page can differ is found. It builds nothing.
 set -u
+CDPATH=
 cd "$(dirname "$0")/.."
 . tests/lib.sh
 

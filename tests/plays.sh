@@ -3,6 +3,7 @@
 # Then it refuses each growth in turn, while items are played, while calls are, and while a server is given packets. Each run must end by
 # itself, and print the whole text, or that memory was refused and nothing else; the same play must then run whole when it comes next.
 set -u
+CDPATH=
 cd "$(dirname "$0")/.."
 . tests/lib.sh
 build_program test_plays

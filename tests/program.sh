@@ -2,6 +2,7 @@
 # Builds the program `xns`, and checks its exit statuses, its output, and that it writes one line to standard error where it ends with 2
 # or 3.
 set -u
+CDPATH=
 cd "$(dirname "$0")/.."
 . tests/lib.sh
 if ! has gcc; then

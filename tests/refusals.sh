@@ -5,6 +5,7 @@
 # three times, once for each of its parts, and an early item twice, for its body and for the reply. Then the script refuses each growth of
 # a whole conversation between two hosts of `test_hosts`, which ends the same each time.
 set -u
+CDPATH=
 cd "$(dirname "$0")/.."
 . tests/lib.sh
 

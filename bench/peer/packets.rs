@@ -57,3 +57,31 @@ pub fn next_line(input: &mut impl BufRead, line: &mut Vec<u8>) -> bool {
     line.retain(|byte| *byte != b' ' && *byte != b'\t');
     true
 }
+
+/// Appends bytes in hex, `-` for none.
+#[inline]
+pub fn put_hex(out: &mut Vec<u8>, bytes: &[u8]) {
+    const DIGITS: &[u8; 16] = b"0123456789abcdef";
+    if bytes.is_empty() {
+        out.push(b'-');
+    }
+    for byte in bytes {
+        out.push(DIGITS[usize::from(byte >> 4)]);
+        out.push(DIGITS[usize::from(byte & 15)]);
+    }
+}
+
+/// Appends words in hex, with a blank between them, `-` for none, and the end of the line.
+#[inline]
+pub fn put_words(out: &mut Vec<u8>, bytes: &[u8]) {
+    if bytes.is_empty() {
+        out.push(b'-');
+    }
+    for (place, word) in bytes.chunks(2).enumerate() {
+        if place > 0 {
+            out.push(b' ');
+        }
+        put_hex(out, word);
+    }
+    out.push(b'\n');
+}

@@ -11,7 +11,8 @@ static struct xns_settings settings = { .connections = 1, .first_wait = 100, .lo
 static struct xns_host host;
 static size_t connection;
 static uint16_t sent[XNS_MOST_CALL_WORDS], words[XNS_MOST_MESSAGE_WORDS];
-static size_t sent_count; /* of the words that are to come back; 0 where the call adds */
+static bool comes_back;   /* whether the words of the call are to come back, and not the total */
+static size_t sent_count; /* of those words */
 
 /* Whether the words each name a call. */
 static bool are_calls(char **given) {
@@ -24,10 +25,10 @@ static bool are_calls(char **given) {
 
 /* The words of the next call, and its procedure. */
 static uint16_t next_call(const char *next, size_t *count) {
-    sent_count = 0;
+    comes_back = next != NULL && next[0] == 'x';
     *count = 1;
     sent[0] = next == NULL ? 0 : (uint16_t)strtoul(next, NULL, 10);
-    if (next == NULL || next[0] != 'x') return 1;
+    if (!comes_back) return 1;
     sent_count = (strtoul(next + 1, NULL, 10) + 1) / 2;
     for (size_t i = 0; i < sent_count; i++) sent[i] = (uint16_t)(i * 2654435761u >> 7);
     *count = sent_count;
@@ -47,8 +48,8 @@ static void go_on(uint64_t now, const char *next) {
 static void print_answer(const struct xns_message *message, size_t count) {
     static const char *const kinds[] = { "call", "reject", "return", "abort" };
     fputs(kinds[message->kind], stdout);
-    if (sent_count > 0) printf(" %zu bytes, %s", 2 * count, count == sent_count && memcmp(words, sent, 2 * count) == 0 ? "the same" : "others");
-    for (size_t i = 0; sent_count == 0 && i < count; i++) printf(" %u", words[i]);
+    if (comes_back) printf(" %zu bytes, %s", 2 * count, count == sent_count && memcmp(words, sent, 2 * count) == 0 ? "the same" : "others");
+    for (size_t i = 0; !comes_back && i < count; i++) printf(" %u", words[i]);
     putchar('\n');
 }
 

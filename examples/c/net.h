@@ -41,10 +41,9 @@ static inline bool read_station(const char *text, uint8_t station[6]) {
     }
     for (int i = 0; i < 6; i++) {
         unsigned byte;
-        int used = 0;
-        if (sscanf(text, "%2x%n", &byte, &used) != 1 || used != 2) return false;
+        if (strspn(text, "0123456789ABCDEFabcdef") < 2 || sscanf(text, "%2x", &byte) != 1) return false;
         station[i] = (uint8_t)byte;
-        text += used;
+        text += 2;
         if (*text == ':' && i < 5) text++;
     }
     return *text == '\0';

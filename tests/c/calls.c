@@ -85,6 +85,12 @@ static void formats(void) {
     written = 7;
     CHECK(xns_echo_reply(&at_b, request, 34, buffer, sizeof buffer, &written) == XNS_NOTHING && written == 7);
     CHECK(xns_echo_reply(&own, request, 33, buffer, sizeof buffer, &written) == XNS_NOTHING && written == 7);
+    memcpy(damaged, request, sizeof request);
+    damaged[0] = damaged[1] = 0xff; /* no checksum */
+    memset(damaged + 10, 255, 6);   /* to all hosts */
+    CHECK(xns_echo_reply(&own, damaged, 34, buffer, sizeof buffer, &written) == XNS_OK && written == 34 && memcmp(buffer, echoed, 34) == 0);
+    memset(damaged + 22, 255, 6);   /* and from all */
+    CHECK(xns_echo_reply(&own, damaged, 34, buffer, sizeof buffer, &written) == XNS_OK && written == 34 && memcmp(buffer + 10, damaged + 22, 6) == 0);
 
     CHECK(xns_complain(&own, 1, 9, request, 34, buffer, sizeof buffer, &written) == XNS_OK && written == 68);
     CHECK(xns_decode(buffer, written, &packet.it) == XNS_OK && packet.it.kind == 3 && is_address(&packet.it.target, &at_a) && memcmp(buffer + 34, request, 34) == 0);

@@ -30,6 +30,9 @@ static void services(void) {
     CHECK(xns_host_new(&service, &there, &usual, secret) == XNS_OK && xns_host_wake(&service) == XNS_NEVER && xns_host_connections(&service) == 0);
     for (uint16_t socket = 3; socket < XNS_MOST_SERVICES + 3; socket++) CHECK(xns_host_serve(&service, socket, programs, 1) == XNS_OK);
     CHECK(xns_host_serve(&service, XNS_MOST_SERVICES + 3, programs, 1) == XNS_TOO_MANY_SERVICES && xns_host_serve(&service, 3, programs, 0) == XNS_OK);
+    growths = 0, refuse_at = 1; /* where two results hold, the one that the header names first */
+    CHECK(xns_host_serve(&service, XNS_MOST_SERVICES + 3, programs, 1) == XNS_TOO_MANY_SERVICES && xns_host_serve(&service, 3, programs, 1) == XNS_NO_MEMORY);
+    refuse_at = 0;
     CHECK(xns_host_receive(&service, 0, 0, packet, sizeof packet) == XNS_NOTHING && xns_host_next_packet(&service, 0, packet, sizeof packet, &length, &via) == XNS_NOTHING);
     CHECK(length == 7 && via == 7 && xns_host_wake(&service) == XNS_NEVER);
     CHECK(xns_host_new(&service, &there, &usual, secret) == XNS_OK && xns_host_serve(&service, XNS_MOST_SERVICES + 1, programs, 1) == XNS_OK);

@@ -100,6 +100,22 @@ static void texts(struct xns_programs *programs) {
     }
 }
 
+/* Where two results hold, the one that the header names first: no such procedure, then want of memory, then what is wrong with the words and a short buffer. */
+static void first_results(void) {
+    static const uint16_t draw[] = { 2, 1, 65535, 3, 4, 7 };
+    struct xns_programs programs = XNS_PROGRAMS_INIT;
+    struct xns_notation_fault fault;
+    size_t written = 99, place = 77;
+    CHECK(read_text(&programs, shapes, &fault) == XNS_OK);
+    for (size_t count = 5; count <= 6; count++) {
+        growths = 0, refuse_at = 1;
+        CHECK(xns_programs_call_text(&programs, 4660, 2, 7, draw, count, NULL, 0, &written, &place) == XNS_NOTHING);
+        CHECK(xns_programs_call_text(&programs, 4660, 2, 5, draw, count, NULL, 0, &written, &place) == XNS_NO_MEMORY && written == 99 && place == 77);
+        refuse_at = 0;
+    }
+    xns_programs_free(&programs);
+}
+
 static void names(struct xns_programs *programs) {
     uint8_t buffer[16];
     uint32_t number = 1;
@@ -210,6 +226,7 @@ static void nothing(void) {
 int main(void) {
     long refused = 0, seen;
     nothing();
+    first_results();
     all_of_it();
     do {
         refuse_at = ++refused;
