@@ -108,8 +108,8 @@ pub extern "C" fn xns_host_set_network(alloc: Global, handle: &mut XnsHost, netw
 /// From now on connections that peers open to this socket are answered, for these programs, which are copied; where there are none, each
 /// call is handed. If the socket is served already, its list is replaced for new connections.
 ///
-/// `NO_HOST`; `ECHO_SOCKET` for socket 2; `NO_VERSION` where the lowest version of a program is above its highest; `NO_MEMORY`;
-/// `TOO_MANY_SERVICES` where 16 other sockets are served.
+/// `NO_HOST`; `ECHO_SOCKET` for socket 2; `NO_VERSION` where the lowest version of a program is above its highest; `TOO_MANY_SERVICES`
+/// where 16 other sockets are served; `NO_MEMORY`. What is served is then as it was.
 #[unsafe(no_mangle)]
 pub extern "C" fn xns_host_serve(
     alloc: Global,

@@ -15,9 +15,10 @@ use std::alloc::Global;
 
 /// Puts the text of a call with these words as arguments to the front of a buffer.
 ///
-/// `NOTHING` where the program, in this version, or the procedure is not declared. `TRUNCATED`, `NOT_BOOLEAN`, `NOT_LISTED`, `OVER_MAXIMUM` or
-/// `LEFT_OVER` where the words are not exactly one value, and `place` is then the word that goes on none; `TOO_LONG` over 1,048,576 bytes of
-/// text, and `place` is then 0; `SHORT_BUFFER`, and `written` is then the length of the text; `NO_MEMORY`.
+/// `NOTHING` where the program, in this version, or the procedure is not declared; `NO_MEMORY`; `TRUNCATED`, `NOT_BOOLEAN`, `NOT_LISTED`,
+/// `OVER_MAXIMUM` or `LEFT_OVER` where the words are not exactly one value, and `place` is then the number, from 0, of the word with which
+/// no value goes on; `TOO_LONG` over 1,048,576 bytes of text, and `place` is then 0; `SHORT_BUFFER`, and `written` is then the length of
+/// the text.
 #[unsafe(no_mangle)]
 pub extern "C" fn xns_programs_call_text(
     alloc: Global,
@@ -44,9 +45,10 @@ pub extern "C" fn xns_programs_call_text(
 
 /// Puts the text of a return of a call with these words as results to the front of a buffer.
 ///
-/// `NOTHING` where the call's program, in this version, or its procedure is not declared. `TRUNCATED`, `NOT_BOOLEAN`, `NOT_LISTED`, `OVER_MAXIMUM` or
-/// `LEFT_OVER` where the words are not exactly one value, and `place` is then the word that goes on none; `TOO_LONG` over 1,048,576 bytes of
-/// text, and `place` is then 0; `SHORT_BUFFER`, and `written` is then the length of the text; `NO_MEMORY`.
+/// `NOTHING` where the call's program, in this version, or its procedure is not declared; `NO_MEMORY`; `TRUNCATED`, `NOT_BOOLEAN`, `NOT_LISTED`,
+/// `OVER_MAXIMUM` or `LEFT_OVER` where the words are not exactly one value, and `place` is then the number, from 0, of the word with which
+/// no value goes on; `TOO_LONG` over 1,048,576 bytes of text, and `place` is then 0; `SHORT_BUFFER`, and `written` is then the length of
+/// the text.
 #[unsafe(no_mangle)]
 pub extern "C" fn xns_programs_return_text(
     alloc: Global,
@@ -73,9 +75,10 @@ pub extern "C" fn xns_programs_return_text(
 
 /// Puts the text of an abort of a call with these words as the error's arguments to the front of a buffer.
 ///
-/// `NOTHING` where the call's program, in this version, or the error is not declared. `TRUNCATED`, `NOT_BOOLEAN`, `NOT_LISTED`, `OVER_MAXIMUM` or
-/// `LEFT_OVER` where the words are not exactly one value, and `place` is then the word that goes on none; `TOO_LONG` over 1,048,576 bytes of
-/// text, and `place` is then 0; `SHORT_BUFFER`, and `written` is then the length of the text; `NO_MEMORY`.
+/// `NOTHING` where the call's program, in this version, or the error is not declared; `NO_MEMORY`; `TRUNCATED`, `NOT_BOOLEAN`, `NOT_LISTED`,
+/// `OVER_MAXIMUM` or `LEFT_OVER` where the words are not exactly one value, and `place` is then the number, from 0, of the word with which
+/// no value goes on; `TOO_LONG` over 1,048,576 bytes of text, and `place` is then 0; `SHORT_BUFFER`, and `written` is then the length of
+/// the text.
 #[unsafe(no_mangle)]
 pub extern "C" fn xns_programs_abort_text(
     alloc: Global,

@@ -19,8 +19,8 @@ use xns_small::{Exchange, answer_echo, complain, read_error, read_exchange, writ
 
 /// Puts the answer to an Echo request to the front of the buffer (XSIS 028112, Echo Protocol).
 ///
-/// `NOTHING` where the bytes are no request to `own`; else `SHORT_BUFFER`, and `written` is then how many bytes are needed, or `NO_MEMORY`
-/// where memory is refused.
+/// `NOTHING` where the bytes are no request to `own`, or to its socket of the broadcast host; `NO_MEMORY`; `SHORT_BUFFER`, and `written`
+/// is then how many bytes are needed.
 #[unsafe(no_mangle)]
 pub extern "C" fn xns_echo_reply(
     alloc: Global,
