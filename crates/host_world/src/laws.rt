@@ -181,8 +181,7 @@ pub fn the_ends_of_a_meeting_are_not_stuck()
 /// (`order`). The reason that the program is told is the one for which the connection was closed (`reason`), and nothing more of that
 /// connection is told behind the reason (`last`). The program is told that a connection is open only of one that it opened, once, before all
 /// else of that connection (`opening`). The number becomes free once the program was told the reason, or where a peer opened the connection
-/// and the program was told nothing of it (`gone`), or where the program abandons the connection. Nothing happens at a free number but that a
-/// connection gets it (`first`, `again`): so the program is told nothing more of a connection that it abandoned.
+/// and the program was told nothing of it (`gone`), or where the program abandons the connection.
 pub fn a_number_keeps_its_order()
     ensures order { (xs : List Happening) (d : Dialogue) → Course free xs (held d) → IsAnsweredInOrder d }
     ensures reason { (xs : List Happening) (why : Why) (ys : List Happening) (v : View) → Course free (xs ++ tells why ∷ ys) v
@@ -192,6 +191,11 @@ pub fn a_number_keeps_its_order()
         → (g : Happening) × Contains ys g × (is_going g ≡ true) }
     ensures opening { (xs ys : List Happening) (v : View) → Course free (xs ++ announces ∷ ys) v → IsNewlyConnected xs }
     ensures gone { (xs ys : List Happening) (v : View) → Course free (xs ++ goes ∷ ys) v → WasTold xs ⊎ IsUnheard xs }
+{}
+
+/// What happens at a free number of a host is that a connection gets it, the first time (`first`) and after the number became free (`again`).
+/// So the program is told nothing more of a connection that it abandoned.
+pub fn a_free_number_gets_a_connection()
     ensures first { (x : Happening) (xs : List Happening) (v : View) → Course free (x ∷ xs) v → IsOpening x }
     ensures again { (v : View) (xs : List Happening) (g x : Happening) (ys : List Happening) (w : View)
         → Course v (xs ++ g ∷ (x ∷ ys)) w → is_going g ≡ true → IsOpening x }
@@ -199,7 +203,7 @@ pub fn a_number_keeps_its_order()
 
 /// Each number of a host has a history, whatever functions of the host are called from a new one on, in whatever order. What happened at it
 /// leads from the free number to what the number is now, and what the program said and was told there is what is said in it. So what
-/// [`a_number_keeps_its_order`] says of histories holds of what a program sees.
+/// [`a_number_keeps_its_order`] and [`a_free_number_gets_a_connection`] say of histories holds of what a program sees.
 ///
 /// What the program does not see is the host's own, read off the place with the number before and behind each function. A peer opened a
 /// connection where one is in the place that was not there before and that a peer opened. A connection was closed where the one in the place

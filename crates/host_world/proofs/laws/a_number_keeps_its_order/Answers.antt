@@ -1,5 +1,5 @@
-use Rattle.host_world.proofs.Dialogues.{in_order, reason, last, newly, gone, first, first_again}
+use Rattle.host_world.proofs.Dialogues.{in_order, reason, last, newly, gone}
 use Rattle.host_world.proofs.laws.a_number_keeps_its_order.Goals as goal
 
 pub returns : goal.returns
-returns c = record { order = in_order; reason = reason; last = last; opening = newly; gone = gone; first = first; again = first_again }
+returns c = record { order = in_order; reason = reason; last = last; opening = newly; gone = gone }
