@@ -21,6 +21,7 @@ use Rattle.item_world.specs.World.{World, end_at, lifetime, marked_delivered, ha
 use Rattle.item_world.specs.declared.emitted.Emitted.{Emitted}
 use Rattle.item_world.specs.declared.side.Side.{Side}
 use Rattle.item_world.specs.declared.side.Side.TheVariants.{A, B}
+use Rattle.item_world.proofs.Sides.{same_end, same_other}
 use Rattle.xns_connection.specs.Acting.{Acts, idling, calling, handing, answering, IsTold}
 use Rattle.xns_connection.specs.Agreeing.{ArePeers}
 use Rattle.xns_connection.specs.Living.{Deeds, no_deeds, IsLived, ProgramsAgree}
@@ -34,7 +35,7 @@ use Rattle.host_world.specs.Meets.{heard_story, Meets, MeetingStep, acts, arrive
 use Rattle.host_world.specs.Pairing.{MayCome, WasMade, made as comes}
 use Rattle.host_world.specs.Station.{IsStation, calling_end, called_end}
 use Rattle.host_world.specs.declared.station.Station.{Station}
-use Rattle.host_world.proofs.Led.{same_end, same_other, moved_bag, led_end, led_other, led_bag, led_holds, are_items, in_both, by}
+use Rattle.host_world.proofs.Led.{moved_bag, led_end, led_other, led_bag, led_holds, are_items, in_both, by}
 
 -- ---- the laws of the crates below
 

@@ -22,18 +22,11 @@ use Rattle.item_world.specs.declared.moment.Moment.{Moment}
 use Rattle.item_world.specs.declared.side.Side.{Side}
 use Rattle.item_world.specs.declared.side.Side.TheVariants.{A, B}
 use Rattle.xns_connection.specs.Story.{Runs, start, sends as accepts, takes, flushes, resends, tells, made_on}
+use Rattle.item_world.proofs.Sides.{same_end, same_other}
 use Rattle.host_world.specs.Meeting.{led}
 use Rattle.host_world.specs.Pairing.{AreKept}
 
 -- ---- one move
-
-pub same_end : (w : World) (side : Side) (s : State) (bs : List (List ℕ)) → end_at (moved w side s bs) side ≡ s
-same_end w A s bs = refl
-same_end w B s bs = refl
-
-pub same_other : (w : World) (side : Side) (s : State) (bs : List (List ℕ)) → end_at (moved w side s bs) (other side) ≡ end_at w (other side)
-same_other w A s bs = refl
-same_other w B s bs = refl
 
 -- where the end stays and nothing is sent, nothing changes
 stays : (w : World) (side : Side) → moved w side (end_at w side) [] ≡ w

@@ -25,7 +25,8 @@ use Rattle.host_world.specs.Meets.{Meets, MeetingStep, acts, arrives, gives, mov
 use Rattle.host_world.specs.Station.{IsStation, calling_end, called_end}
 use Rattle.host_world.specs.declared.station.Station.{Station}
 use Rattle.host_world.proofs.Kept.{Keeps, StoryLaws, kept, acts_end, same_marked, new_holds}
-use Rattle.host_world.proofs.Led.{same_end, are_items, led_keeps}
+use Rattle.item_world.proofs.Sides.{same_end}
+use Rattle.host_world.proofs.Led.{are_items, led_keeps}
 
 -- the laws of the crates below
 pub record Laws : Type 0 where
