@@ -71,7 +71,7 @@ makes true cs rs (Calls t) c may h =
 
 -- ---- an answer
 
-unanswered : (o : Option ℕ) (kind : Answer) (words : List ℕ) → answer_fault (answer_refusal o kind words) ≡ None → (k : ℕ) × (o ≡ Some k)
+pub unanswered : (o : Option ℕ) (kind : Answer) (words : List ℕ) → answer_fault (answer_refusal o kind words) ≡ None → (k : ℕ) × (o ≡ Some k)
 unanswered None kind words e = absurd (cc)
 unanswered (Some k) kind words e = (k, refl)
 

@@ -9,16 +9,12 @@ use Rattle.courier_sessions.specs.Answering.{answer_message, transaction_in}
 use Rattle.courier_sessions.specs.declared.answer.Answer.{Answer}
 use Rattle.courier_sessions.specs.declared.answer.Answer.TheVariants as kinds
 use Rattle.xns_connection.specs.declared.why.Why.{Why}
+use Rattle.item_world.proofs.Fronts.{front_get}
 use Rattle.host_world.specs.Dialogue.{Dialogue, new_dialogue, View, free, held, IsEven, IsOpen, IsUntold, MayGo, Happening, announces, connects, tells, opens, closes, goes}
 use Rattle.host_world.specs.Dialogue.{ViewMove, connecting, opening, announcing, calling, handing_answer, handing_call, answering, asking, closing, telling, freeing, abandoning, Course}
 use Rattle.host_world.specs.Dialogue.{IsAnsweredInOrder, IsOpening, is_news, is_going, Happened, WasTold, IsUnheard, IsNewlyConnected}
 
 -- ---- lists
-
-at_front : {X : Type 0} (xs ys : List X) (k : ℕ) (x : X) → slice_get xs k ≡ Some x → slice_get (xs ++ ys) k ≡ Some x
-at_front [] ys k x e = absurd (cc)
-at_front (y ∷ xs) ys zero x e = e
-at_front (y ∷ xs) ys (suc k) x e = at_front xs ys k x e
 
 -- an element of a list that is one longer is one of the list, or the last
 one_of : {X : Type 0} (xs : List X) (x y : X) (k : ℕ) → slice_get (xs ++ x ∷ []) k ≡ Some y → (slice_get xs k ≡ Some y) ⊎ ((k ≡ length xs) × (x ≡ y))
@@ -76,7 +72,7 @@ one_call_more : (d : Dialogue) (c : Message) → IsEven d → IsAnsweredInOrder 
 one_call_more d c even h =
     let one = length-append d.calls (c ∷ []) in
     record {
-      each = λ k m e. let x = h.each k m e in (x.0, at_front d.calls (c ∷ []) k x.0 x.1, x.2);
+      each = λ k m e. let x = h.each k m e in (x.0, front_get d.calls (c ∷ []) k x.0 x.1, x.2);
       few = omega (arith, one, even);
       most = omega (arith, one, even);
     }

@@ -1,6 +1,7 @@
 -- By which steps what is done at a connection changes what a program sees of it.
 use Rattle.std.proofs.Common.{◌≡◌, ◌∙◌, ap, refl, sym, ℕ, ◌+◌, Bool, true, false, List, [], ◌∷◌, ◌++◌, length, Option, Some, None, Result}
 use Rattle.std.specs.Prelude.{◌||◌, if◌then◌else◌}
+use Rattle.std.proofs.lemmas.Bool.{false_from_ne_true, or_parts}
 use Rattle.courier_messages.specs.RawCalls.{RawCall, call_message, transaction_of}
 use Rattle.courier_sessions.specs.Answering.{answer_message, transaction_in}
 use Rattle.courier_sessions.specs.declared.answer.Answer.{Answer}
@@ -22,7 +23,7 @@ use Rattle.host_world.specs.Dialogue.{calling, answering, asking}
 use Rattle.host_world.proofs.Deeds.{makes, gives}
 use Rattle.host_world.proofs.Stepping.{acts, gives as gives_packet, not_served, steps}
 use Rattle.host_world.proofs.Happens.{closed_between}
-use Rattle.host_world.proofs.Shown.{Alone, Nearly, Passes, Shows, by_itself, first, nearly, nearly_by, not_true, settled, some_not, unmoved}
+use Rattle.host_world.proofs.Shown.{Alone, Nearly, Passes, Shows, by_itself, first, nearly, nearly_by, settled, some_not, unmoved}
 
 -- ---- the program closes a connection
 
@@ -39,10 +40,6 @@ unfaulted : (b : Bool) (o : Option Refusal) → (if b then Some Closing else o) 
 unfaulted true o e = absurd (cc)
 unfaulted false o e = (refl, e)
 
-neither : (a b : Bool) → (a || b) ≡ false → (a ≡ false) × (b ≡ false)
-neither true b e = absurd (cc)
-neither false b e = (refl, e)
-
 -- a connection that is read is not closed, and the program was not told that it is
 unclosed : (c : Connection) → drains c.conversation.side c.conversation.closing ≡ false → (o : Option Why) → c.closed ≡ o → o ≡ None
 unclosed c reads None is = refl
@@ -55,7 +52,7 @@ pub after_call : AConnectionKeepsItsEnd → (now : ℕ) (d : Dialogue) (g h : Gu
 after_call ends now d g h c s step =
     let t = g.connection.conversation in
     let may = unfaulted (drains t.side t.closing || t.closing.wanted) (side_call_fault t.side c) step.step.may in
-    let both = neither (drains t.side t.closing) t.closing.wanted may.0 in
+    let both = or_parts (drains t.side t.closing) t.closing.wanted may.0 in
     let k = makes d.ours d.calls d.answers t.side c may.1 s.side in
     let none : d.closed ≡ None = sym s.closed ∙ unclosed g.connection both.0 g.connection.closed refl in
     let e : Dialogue = record d { calls = d.calls ++ call_message (transaction_of (length d.calls + 1)) c ∷ [] } in
@@ -64,7 +61,7 @@ after_call ends now d g h c s step =
     = nearly d e g h (side_called t.side c) t.closing.wanted s ch (ends.steps now (deeds.made c) g.connection h.connection step.step).opener refl refl refl k.has s.asked
     (λ z. absurd (untold d g s none z)) (λ z theirs. let our = k.is_ours in absurd (cc)) (λ z. s.newly (sym (ap (λ (x : Guest). x.opening_untold) step.same) ∙ z)) in
     first (held d) (held e) (calls c) (closed_between g h) (Some (Some h))
-    (calling d c k.is_ours k.even (not_true d.asked (λ z. let wanted = s.asked z in let unwanted = both.1 in cc)) none) (settled e g h s.closed near)
+    (calling d c k.is_ours k.even (false_from_ne_true d.asked (λ z. let wanted = s.asked z in let unwanted = both.1 in cc)) none) (settled e g h s.closed near)
 
 pub after_answer : AConnectionKeepsItsEnd → (now : ℕ) (d : Dialogue) (g h : Guest) (kind : Answer) (words : List ℕ) → Shows d g → GuestStep now (deeds.gave kind words) g h
     → Passes (answers kind words ∷ closed_between g h) (held d) (Some (Some h))

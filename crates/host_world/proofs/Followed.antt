@@ -4,6 +4,7 @@ use Rattle.std.specs.Prelude.{◌==◌, cond, if◌then◌else◌, slice_get, sl
 use Rattle.std.specs.Option.{is_some}
 use Rattle.std.proofs.lemmas.Bool.{eq-eqb}
 use Rattle.std.proofs.lemmas.Option.{slice_get_within}
+use Rattle.courier_sessions.proofs.Done.{none_there}
 use Rattle.courier_messages.specs.declared.message.Message.{Message}
 use Rattle.xns_idp.specs.declared.address.Address.{Address}
 use Rattle.courier_messages.specs.declared.message.Message.TheVariants as messages
@@ -45,10 +46,10 @@ use Rattle.host_world.specs.Meeting.{Meeting}
 use Rattle.host_world.specs.Pairing.{with_no_more, one_message_more}
 use Rattle.host_world.specs.Seen.{number_of}
 use Rattle.host_world.proofs.Guests.{announced, answers, calls, closes, hands, hears_it, not_served, same_goes, tells}
-use Rattle.host_world.proofs.Numbers.{at_place, beside, may_be_told, none_is, same_or_other, since_stranger, since_told}
+use Rattle.host_world.proofs.Numbers.{at_place, beside, in_vain, may_be_told, no_event, same_or_other, since_stranger, since_told}
 use Rattle.host_world.proofs.Reporting.{event_number, later_is, newly_event, why_by}
 use Rattle.host_world.proofs.Untold.{another_id, handed_told, heard_id, unserved_told}
-use Rattle.host_world.proofs.Following.{AskedOnce, Led, led, left, Goes, Still, TellsOn, asked_once, gives_on, tells_on, at_once, leads_wider, not_asked, once_still, still, still_then, then_does, EachStill, each_then, still_if, turns_still, all_act, no_packet, in_vain, follows, followed, did_same, did_other, one_guest, not_equal}
+use Rattle.host_world.proofs.Following.{AskedOnce, Led, led, left, Goes, Still, TellsOn, asked_once, gives_on, tells_on, at_once, leads_wider, not_asked, once_still, still, still_then, then_does, EachStill, each_then, still_if, turns_still, all_act, no_packet, follows, followed, did_same, did_other, one_guest, not_equal}
 
 -- ---- at one number, and at the others
 
@@ -184,9 +185,6 @@ events_followed law now h j event p r from to (places.told {q = q} number before
     (subst (λ (l : List (Option Guest)). IsFollowed 1 (MayTake None) (deed_of event) [] (is_last event) (slice_get l number) (slice_get j.guests.items number)) from
     (subst (λ (l : List (Option Guest)). IsFollowed 1 (MayTake None) (deed_of event) [] (is_last event) (slice_get p.guests number) (slice_get l number)) to x.2))))
 
-nothing_told : (now : ℕ) (p : Places) {r : Places} → NextEvent now p None r → r.guests ≡ p.guests
-nothing_told now p (places.nothing before none) = in_vain now p before
-
 -- ---- a new connection
 
 nobody_there : (g : Guest) → (let a : Option (Option Guest) = Some None in a) ≡ Some (Some g) → ⊥
@@ -198,7 +196,7 @@ may_go_away gs (of_closed k t f full there since first) g e =
     subst (MayBeForgotten false) (one_guest f g (sym there ∙ e)) (inr (inl (since_told (is_some f.connection.closed) f.connection.told (due_time f.connection.wait.due) t since)))
 may_go_away gs (of_stranger k t f full none there since first) g e =
     let x = since_stranger (is_some (peer_that_opened f.connection)) f.confirmed f.heard_of (is_some f.connection.closed) (has_news f.connection) t f.connection.wait.heard_at since in
-    subst (MayBeForgotten false) (one_guest f g (sym there ∙ e)) (inr (inr (x.0, x.1, none_is f.connection.closed x.2)))
+    subst (MayBeForgotten false) (one_guest f g (sym there ∙ e)) (inr (inr (x.0, x.1, none_there f.connection.closed x.2)))
 
 -- a connection of another identifier is in the place then: the next one, which none that was there has
 gives_way : (most : ℕ) (may : Meeting → Side → Type 0) (register : Register) (gs : List (Option Guest)) {n : ℕ} (place : Option (Option Guest)) (h : Guest) → IsAllRegistered register gs
@@ -256,7 +254,7 @@ done_followed law h j did told (following.was_refused now number deed fault t) =
 done_followed law h j did told (following.abandoned number a) = gone_followed number h j a
 done_followed law h j did told (following.abandoned_none number fault a) = each_still 1 (MayTake None) h j (still_if 1 h.guests.items j.guests.items (ap (λ (p : Places). p.guests) a.unchanged))
 done_followed law h j did told (following.found_no_room now way socket peer fault c) = each_still 1 (MayTake None) h j (still_if 1 h.guests.items j.guests.items (ap (λ (p : Places). p.guests) c.unchanged))
-done_followed law h j did told (following.was_told_nothing t) = each_still 1 (MayTake None) h j (still_if 1 h.guests.items j.guests.items (nothing_told h.clock.latest (places_of h) t.next))
+done_followed law h j did told (following.was_told_nothing t) = each_still 1 (MayTake None) h j (still_if 1 h.guests.items j.guests.items (no_event h.clock.latest (places_of h) t.next))
 done_followed law h j did told (following.served socket programs result s) = each_still 1 (MayTake None) h j (still_if 1 h.guests.items j.guests.items (ap (λ (w : Whole). w.places.guests) s.rest))
 done_followed law h j did told (following.moved network m) = each_still 1 (MayTake None) h j (still_if 1 h.guests.items j.guests.items (ap (λ (w : Whole). w.places.guests) m.is))
 done_followed law h j did told (following.tagged number tag (Ok u) t) =

@@ -9,8 +9,7 @@ use Rattle.item_world.specs.declared.side.Side.{Side}
 use Rattle.xns_host.specs.Hosting.{may_go}
 use Rattle.xns_connection.specs.Living.{Deeds}
 use Rattle.xns_agenda.specs.Turns.{Line, has_turn, with_turn}
-use Rattle.xns_host.specs.Places.{ActsOneByOne, ActsAt, AsksEvent, AsksPacket, AsksInVain, GivesNone, Places, PlaceTurns, became, packet_passed, seated, vacated_if}
-use Rattle.xns_host.specs.Places as places
+use Rattle.xns_host.specs.Places.{ActsOneByOne, ActsAt, AsksPacket, GivesNone, Places, PlaceTurns, became, packet_passed, seated, vacated_if}
 use Rattle.xns_connection.specs.Step.{AStepKeepsItsPromises, parts_of}
 use Rattle.xns_connection.specs.Deeds.{Parts}
 use Rattle.xns_agenda.specs.Waiting.{act_at}
@@ -295,15 +294,6 @@ once_still p r k (inr once) = once.0
 pub not_asked : (p r : Places) (k : ℕ) → has_turn r.agenda.packets k ≡ true → AskedOnce p r k → slice_get r.guests k ≡ slice_get p.guests k
 not_asked p r k has (inl is) = is
 not_asked p r k has (inr once) = let none = once.1 in absurd (cc)
-
--- ---- what is told
-
-asked_none : (now number : ℕ) (p : Places) {r : Places} → AsksEvent now number p None r → r.guests ≡ p.guests
-asked_none now number p (places.quiet place at none) = refl
-
-pub in_vain : (now : ℕ) (p : Places) {r : Places} → AsksInVain now p r → r.guests ≡ p.guests
-in_vain now p AsksInVain.nobody = refl
-in_vain now p (AsksInVain.another {q = q} number before first asked) = asked_none now number q asked ∙ in_vain now p before
 
 -- ---- what becomes of a guest in the words of the law
 

@@ -21,7 +21,8 @@ use Rattle.item_world.specs.World.{World, end_at, lifetime, marked_delivered, ha
 use Rattle.item_world.specs.declared.emitted.Emitted.{Emitted}
 use Rattle.item_world.specs.declared.side.Side.{Side}
 use Rattle.item_world.specs.declared.side.Side.TheVariants.{A, B}
-use Rattle.item_world.proofs.Sides.{same_end, same_other}
+use Rattle.item_world.proofs.Fronts.{begins_get}
+use Rattle.item_world.proofs.Sides.{same_end, same_marked, same_other}
 use Rattle.xns_connection.specs.Acting.{Acts, idling, calling, handing, answering, IsTold}
 use Rattle.xns_connection.specs.Agreeing.{ArePeers}
 use Rattle.xns_connection.specs.Living.{Deeds, no_deeds, IsLived, ProgramsAgree}
@@ -35,7 +36,7 @@ use Rattle.host_world.specs.Meets.{heard_story, Meets, MeetingStep, acts, arrive
 use Rattle.host_world.specs.Pairing.{MayCome, WasMade, made as comes}
 use Rattle.host_world.specs.Station.{IsStation, calling_end, called_end}
 use Rattle.host_world.specs.declared.station.Station.{Station}
-use Rattle.host_world.proofs.Led.{moved_bag, led_end, led_other, led_bag, led_holds, are_items, in_both, by}
+use Rattle.host_world.proofs.Led.{moved_bag, led_end, led_other, led_bag, led_holds, are_items, by}
 
 -- ---- the laws of the crates below
 
@@ -51,7 +52,7 @@ abbrev Sent : Type 0
 Sent = List (Side × List ℕ)
 
 still_made : (w v : World) (side : Side) (b : List ℕ) → Begins (sent_packets w) (sent_packets v) → HasMade w side b → HasMade v side b
-still_made w v side b more made = (made.0, in_both (sent_packets w) (sent_packets v) made.0 (side, b) more made.1)
+still_made w v side b more made = (made.0, begins_get (sent_packets w) (sent_packets v) made.0 (side, b) more made.1)
 
 all_still : (w v : World) (side : Side) (bs : List (List ℕ)) → Begins (sent_packets w) (sent_packets v) → All (HasMade w side) bs → All (HasMade v side) bs
 all_still w v side bs more all = All-weaker (HasMade w side) (HasMade v side) (λ b made. still_made w v side b more made) bs all
@@ -180,10 +181,6 @@ gives_keeps laws keeps stories {a} {b} {programs} m side packet n k out =
           (All-append (HasMade v side) (p.given ++ old) (made_on n.on.path) (all_still m.world v side (p.given ++ old) (more_bag m.world m.world side n (k.ends side) (itself m.world)) (k.made side))
           (all_made v (sent_packets m.world) side (made_on n.on.path) (sym (led_bag m.world side n.on.path (k.ends side)))));
     })
-
-pub same_marked : (w : World) (k : ℕ) (x : Emitted) (side : Side) → end_at (marked_delivered w k x) side ≡ end_at w side
-same_marked w k x A = refl
-same_marked w k x B = refl
 
 arrives_keeps : EndLaws → EachStepKeepsTheOrder → StoryLaws → {a b : Station} {programs : List Program} (m : Meeting) (j : ℕ) (x : Emitted) → slice_get m.world.bag j ≡ Some x → has_passed m.world x ≡ false → (n : Next (heard_story (at m (other x.side)) x.bytes))
     → Keeps a b programs m → n.conversation.packets ≡ (at m (other x.side)).conversation.packets → Keeps a b programs (went_on m (with_arrival m.world j x) (other x.side) n (at m (other x.side)).deeds (at m (other x.side)).given)

@@ -20,18 +20,13 @@ use Rattle.item_world.specs.World.{World, end_at, moved, moment, emitted, sent_p
 use Rattle.item_world.specs.declared.emitted.Emitted.{Emitted}
 use Rattle.item_world.specs.declared.moment.Moment.{Moment}
 use Rattle.item_world.specs.declared.side.Side.{Side}
-use Rattle.item_world.specs.declared.side.Side.TheVariants.{A, B}
 use Rattle.xns_connection.specs.Story.{Runs, start, sends as accepts, takes, flushes, resends, tells, made_on}
-use Rattle.item_world.proofs.Sides.{same_end, same_other}
+use Rattle.item_world.proofs.Fronts.{begins_get, front_get}
+use Rattle.item_world.proofs.Sides.{moved_nowhere, same_end, same_other}
 use Rattle.host_world.specs.Meeting.{led}
 use Rattle.host_world.specs.Pairing.{AreKept}
 
 -- ---- one move
-
--- where the end stays and nothing is sent, nothing changes
-stays : (w : World) (side : Side) → moved w side (end_at w side) [] ≡ w
-stays w A = ap (λ (bag : List Emitted). record w { bag = bag }) (append-nil w.bag)
-stays w B = ap (λ (bag : List Emitted). record w { bag = bag }) (append-nil w.bag)
 
 abbrev pub by : Side → List ℕ → Side × List ℕ
 by side bytes = (side, bytes)
@@ -99,11 +94,6 @@ led_bag w side (tells {v = v} p asks) e =
 
 -- ---- what was made is kept
 
-in_front : {X : Type 0} (xs ys : List X) (k : ℕ) (x : X) → slice_get xs k ≡ Some x → slice_get (xs ++ ys) k ≡ Some x
-in_front [] ys k x e = absurd (cc)
-in_front (z ∷ xs) ys zero x e = e
-in_front (z ∷ xs) ys (suc k) x e = in_front xs ys k x e
-
 pub kept_itself : (bag : List Emitted) → AreKept bag bag
 kept_itself bag = record { each = λ k x e. (x, e, refl) }
 
@@ -116,7 +106,7 @@ kept_then xs ys zs p q = record {
 }
 
 kept_in_front : (xs ys : List Emitted) → AreKept xs (xs ++ ys)
-kept_in_front xs ys = record { each = λ k x e. (x, in_front xs ys k x e, refl) }
+kept_in_front xs ys = record { each = λ k x e. (x, front_get xs ys k x e, refl) }
 
 pub kept_moved : (w : World) (side : Side) (s : State) (bs : List (List ℕ)) → AreKept w.bag (moved w side s bs).bag
 kept_moved w side s bs = kept_in_front w.bag (map (emitted side (moment s (end_at w (other side)))) bs)
@@ -163,12 +153,9 @@ AreItems s = (k : ℕ) (x : Item) → slice_get s.accepted k ≡ Some x → IsIt
 pub are_items : (s : State) → IsState s → AreItems s
 are_items s fits k x is = let i : IsShortItem x = subst IsShortItem (get_or_from_slice_get s.accepted k x x is) (fits.items k x (slice_get_within s.accepted k x is)) in i.fits
 
-pub in_both : {X : Type 0} (xs ys : List X) (k : ℕ) (x : X) → Begins xs ys → slice_get xs k ≡ Some x → slice_get ys k ≡ Some x
-in_both {X} xs ys k x b e = subst (λ (l : List X). slice_get l k ≡ Some x) b.1 (in_front xs b.0 k x e)
-
 -- as far as a step only accepts more
 fewer_items : (s v : State) → Begins s.accepted v.accepted → AreItems v → AreItems s
-fewer_items s v b items k x is = items k x (in_both s.accepted v.accepted k x b is)
+fewer_items s v b items k x is = items k x (begins_get s.accepted v.accepted k x b is)
 
 same_begins : (s v : State) → v.accepted ≡ s.accepted → Begins s.accepted v.accepted
 same_begins s v e = ([], append-nil s.accepted ∙ sym e)
@@ -187,7 +174,7 @@ led_keeps laws P each w side (accepts {v = v} p x) e items h =
           each u (sending side x) (items (length v.accepted) x (last_of v.accepted x (after_send v x).accepted ([], append-nil (v.accepted ++ x ∷ []) ∙ more))) before
       | false ↦ λ no.
           let same : after_send (end_at u side) x ≡ end_at u side = ap (λ (s : State). after_send s x) here ∙ laws.accepts.refused v x no ∙ sym here in
-          subst P (sym (ap (λ (s : State). moved u side s []) same ∙ stays u side)) before
+          subst P (sym (ap (λ (s : State). moved u side s []) same ∙ moved_nowhere u side)) before
     ] refl
 led_keeps laws P each w side (takes {v = v} p) e items h = each (led w side p) (taking side) tt (led_keeps laws P each w side p e (fewer_items v (after_take v) (laws.grows.take v).accepted items) h)
 led_keeps laws P each w side (flushes {v = v} p) e items h = each (led w side p) (flushing side) tt (led_keeps laws P each w side p e (fewer_items v (after_flush v) (same_begins v (after_flush v) (laws.stays.flush v).accepted) items) h)

@@ -3,6 +3,8 @@ use Rattle.std.proofs.Common.{◌≡◌, ◌≢◌, ◌∙◌, ◌⊎◌, inl, i
 use Rattle.std.specs.Prelude.{not, ◌&&◌, if◌then◌else◌, slice_get, slice_set}
 use Rattle.std.specs.Option.{is_some, is_none, option_to_list}
 use Rattle.std.proofs.lemmas.Option.{slice_get_within}
+use Rattle.std.proofs.lemmas.Bool.{and_parts}
+use Rattle.courier_sessions.proofs.Done.{none_there}
 use Rattle.courier_messages.specs.Conversation.{conversation}
 use Rattle.courier_sessions.specs.Talks.{count_if}
 use Rattle.courier_sessions.specs.declared.program.Program.{Program}
@@ -104,12 +106,8 @@ one_said number x old new others here =
 
 -- ---- a number that becomes free
 
-and_true : (a b : Bool) → (a && b) ≡ true → (a ≡ true) × (b ≡ true)
-and_true true b e = (refl, e)
-and_true false b e = absurd (cc)
-
 pub may_be_told : (c : Connection) → may_go c ≡ true → c.told ≡ true
-may_be_told c e = (and_true c.told (lingers_no_more c) (and_true (is_some c.closed) (c.told && lingers_no_more c) e).1).0
+may_be_told c e = (and_parts c.told (lingers_no_more c) (and_parts (is_some c.closed) (c.told && lingers_no_more c) e).1).0
 
 pub goes_from : (v : View) (g : Guest) → g.connection.told ≡ true → ShowsIn v (Some (Some g)) → Passes (goes ∷ []) v (Some None)
 goes_from free g told shows = absurd shows
@@ -150,10 +148,10 @@ became_so p number g h event was each = by (may_go h.connection) refl where
       told (slice_set (seated p number h).guests number None) (λ k other. beside (seated p number h).guests number k None other ∙ beside p.guests number k (Some h) other) (Some None) gone
       (of_guest g (news_of event ∷ []) (Some None) (λ d s. tells_and_goes d g h event (each d s) (may_be_told h.connection is)))
 
-asked_none : (now number : ℕ) (p : Places) {r : Places} → AsksEvent now number p None r → r.guests ≡ p.guests
+pub asked_none : (now number : ℕ) (p : Places) {r : Places} → AsksEvent now number p None r → r.guests ≡ p.guests
 asked_none now number p (places.quiet place at none) = refl
 
-in_vain : (now : ℕ) (p : Places) {r : Places} → AsksInVain now p r → r.guests ≡ p.guests
+pub in_vain : (now : ℕ) (p : Places) {r : Places} → AsksInVain now p r → r.guests ≡ p.guests
 in_vain now p AsksInVain.nobody = refl
 in_vain now p (AsksInVain.another {q = q} {r = r} number before first asked) = asked_none now number q asked ∙ in_vain now p before
 
@@ -267,10 +265,6 @@ some_is : {X : Type 0} (o : Option X) → is_some o ≡ true → is_none o ≡ f
 some_is None e = absurd (cc)
 some_is (Some x) e = refl
 
-pub none_is : {X : Type 0} (o : Option X) → is_some o ≡ false → o ≡ None
-none_is None e = refl
-none_is (Some x) e = absurd (cc)
-
 -- the connection in a place gives way to one of another identifier
 gives_way : (g new : Guest) (said : List Happening) → id_of new ≢ id_of g → ((d : Dialogue) → Shows d g → MayGo d) → Passes (said ++ arriving new) free (Some (Some new))
     → LeadsAt said (Some (Some g)) (Some (Some new))
@@ -293,4 +287,4 @@ taking gs said new (of_stranger k t g full none at since first) other gets =
     subst (λ (o : Option (Option Guest)). LeadsAt said o (Some (Some new))) (sym at)
     (gives_way g new said (other k g at) (λ d s.
     let theirs : d.ours ≡ false = sym s.ours ∙ some_is (peer_that_opened g.connection) x.0 in
-    inr (theirs, s.unheard x.1 theirs, sym s.closed ∙ none_is g.connection.closed x.2)) gets)
+    inr (theirs, s.unheard x.1 theirs, sym s.closed ∙ none_there g.connection.closed x.2)) gets)

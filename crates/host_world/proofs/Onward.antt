@@ -24,8 +24,8 @@ use Rattle.host_world.specs.Meeting.{Meeting, at, led, Next}
 use Rattle.host_world.specs.Meets.{Meets, MeetingStep, acts, arrives, gives, moves, opens, strays}
 use Rattle.host_world.specs.Station.{IsStation, calling_end, called_end}
 use Rattle.host_world.specs.declared.station.Station.{Station}
-use Rattle.host_world.proofs.Kept.{Keeps, StoryLaws, kept, acts_end, same_marked, new_holds}
-use Rattle.item_world.proofs.Sides.{same_end}
+use Rattle.host_world.proofs.Kept.{Keeps, StoryLaws, kept, acts_end, new_holds}
+use Rattle.item_world.proofs.Sides.{same_end, same_marked}
 use Rattle.host_world.proofs.Led.{are_items, led_keeps}
 
 -- the laws of the crates below

@@ -4,7 +4,7 @@ use Rattle.std.specs.Prelude.{slice_get, if◌then◌else◌}
 use Rattle.std.specs.Option.{option_to_list}
 use Rattle.courier_messages.specs.RawCalls.{RawCall}
 use Rattle.courier_messages.specs.declared.message.Message.{Message}
-use Rattle.courier_sessions.specs.Answering.{answer_message, answer_refusal}
+use Rattle.courier_sessions.specs.Answering.{answer_message}
 use Rattle.courier_sessions.specs.declared.answer.Answer.{Answer}
 use Rattle.courier_sessions.specs.declared.program.Program.{Program}
 use Rattle.item_world.specs.Landing.{with_arrival}
@@ -26,7 +26,7 @@ use Rattle.xns_connection.specs.Acting.{Acts, idling, calling, handing, answerin
 use Rattle.xns_connection.specs.Closing.{drains}
 use Rattle.xns_connection.specs.Living.{Deeds, GoesFrom}
 use Rattle.xns_connection.specs.Reasons.{answer_fault_of}
-use Rattle.xns_connection.specs.Refusing.{answer_fault, side_answer_fault, Answers as Refusals}
+use Rattle.xns_connection.specs.Refusing.{side_answer_fault, Answers as Refusals}
 use Rattle.xns_connection.specs.Story.{Story, ProgramDoesNothing, asked_of, start, waiting_message, with_handed}
 use Rattle.xns_connection.specs.Telling.{Tells, Goes, GivesNextPacket, MovesAndGives, HearsBytes}
 use Rattle.xns_agenda.specs.Waiting.{StepsAt, still}
@@ -41,6 +41,7 @@ use Rattle.host_world.specs.Meets.{heard_story, IsWithinSteps, Meets, MeetingSte
 use Rattle.host_world.specs.Pairing.{AreKept, connection_at, with_connection, DoesAt, Steps, StepsByBytes, MayCome, made, foreign, with_no_more, one_call_more, one_message_more, one_answer_more}
 use Rattle.host_world.specs.declared.pair.Pair.{Pair}
 use Rattle.host_world.specs.declared.station.Station.{Station}
+use Rattle.host_world.proofs.Deeds.{unanswered}
 use Rattle.host_world.proofs.Led.{kept_itself, kept_marked, kept_moved, kept_then, led_kept}
 
 -- ---- each connection of a meeting has its story
@@ -281,13 +282,9 @@ pub one_waits : (p : Pair) (c d : Connection) (side : Side) (now : ℕ) → c �
 one_waits p c d A now is steps = waits_there c (connection_at p A) d now is steps
 one_waits p c d B now is steps = waits_there c (connection_at p B) d now is steps
 
-asked_in : (o : Option ℕ) (kind : Answer) (words : List ℕ) → answer_fault (answer_refusal o kind words) ≡ None → (k : ℕ) × (o ≡ Some k)
-asked_in None kind words e = absurd (cc)
-asked_in (Some k) kind words e = (k, refl)
-
 side_asked : (s : Kind) (kind : Answer) (words : List ℕ) → side_answer_fault s kind words ≡ None → (k : ℕ) × (asked_of s ≡ Some k)
 side_asked (Calls t) kind words e = absurd (cc)
-side_asked (Answers a) kind words e = asked_in a.asked kind words e
+side_asked (Answers a) kind words e = unanswered a.asked kind words e
 
 asked : (c : Conversation) (kind : Answer) (words : List ℕ) → answer_fault_of c kind words ≡ None → (k : ℕ) × (asked_of c.side ≡ Some k)
 asked c kind words e = by (drains c.side c.closing) e where

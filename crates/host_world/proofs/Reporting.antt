@@ -1,7 +1,8 @@
 -- By which steps what a program is told changes what it sees of a connection.
 use Rattle.std.proofs.Common.{◌≡◌, ◌≢◌, ◌∙◌, ap, refl, sym, subst, ℕ, Bool, true, false, [], ◌∷◌, ◌++◌, Option, Some, None}
-use Rattle.std.specs.Prelude.{◌&&◌, ◌||◌, if◌then◌else◌}
+use Rattle.std.specs.Prelude.{◌||◌, if◌then◌else◌}
 use Rattle.std.specs.Option.{is_some, is_none}
+use Rattle.std.proofs.lemmas.Bool.{and_parts, false_from_ne_true}
 use Rattle.courier_messages.specs.declared.message.Message.{Message}
 use Rattle.courier_messages.specs.declared.message.Message.TheVariants as messages
 use Rattle.xns_spp.specs.Held.{StandsFor}
@@ -26,7 +27,7 @@ use Rattle.host_world.proofs.Deeds.{answer_handed, call_handed}
 use Rattle.host_world.proofs.Happens.{closed_between, closed_same}
 use Rattle.host_world.proofs.Sides.{Has}
 use Rattle.host_world.proofs.Stepping.{Changes, by_parts, steps}
-use Rattle.host_world.proofs.Shown.{Nearly, Passes, Shows, as_closed, first, nearly, not_true, settled, shown_as}
+use Rattle.host_world.proofs.Shown.{Nearly, Passes, Shows, as_closed, first, nearly, settled, shown_as}
 use Rattle.host_world.proofs.Untold.{kept_id}
 
 -- ---- the program is told
@@ -61,7 +62,7 @@ after_hand ends now d g h m s t is = record {
   keeps = ends.hands now g.connection h.connection (t.handed some)
 
   not_told : d.told ≡ false
-  not_told = not_true d.told (λ z. some (s.over z).1)
+  not_told = false_from_ne_true d.told (λ z. some (s.over z).1)
 
   told_of : h.heard_of ≡ true
   told_of = ap (λ (k : Guest). k.heard_of) t.same ∙ ap (λ (o : Option Message). is_some o || g.heard_of) is
@@ -152,17 +153,13 @@ event_number number g event e = by (is_newly_open g) refl where
   by false is =
       number_by number g.tag g.connection.told g.connection.closed (waiting_message g.connection.conversation.side) event (later_is number g event is e)
 
-first_of : (a b : Bool) → (a && b) ≡ true → a ≡ true
-first_of true b e = refl
-first_of false b e = absurd (cc)
-
 after_opening : (d : Dialogue) (g h : Guest) → Shows d g → is_newly_open g ≡ true → GuestAnnounced g h → Reports announces d g h
 after_opening d g h s is announced =
     let e : Dialogue = record d { opened = true } in
     let same = ap (λ (k : Guest). k.connection.closed) announced in
     record {
       id = ap id_of announced;
-      passes = first (held d) (held e) announces (closed_between g h) (Some (Some h)) (announcing d (s.newly (first_of g.opening_untold g.confirmed is)))
+      passes = first (held d) (held e) announces (closed_between g h) (Some (Some h)) (announcing d (s.newly (and_parts g.opening_untold g.confirmed is).0))
           (as_closed e g h (subst (Shows e) (sym announced) (shown_as g.tag true false d g s (λ z. absurd (cc)))) same);
       over = λ z. closed_same g h same;
     }

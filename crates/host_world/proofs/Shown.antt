@@ -146,10 +146,6 @@ unmoved d g h s same = record {
   passes = as_closed d g h s (ap (λ (c : Connection). c.closed) same);
 }
 
-pub not_true : (b : Bool) → (b ≡ true → ⊥) → b ≡ false
-not_true true never = absurd (never refl)
-not_true false never = refl
-
 -- ---- the program gives the connection a tag
 
 -- neither the tag of a connection nor whether the program was told that it is open changes what else is shown of it
