@@ -119,9 +119,16 @@ class Ethernet(_Link):
                 return packet, station
         raise BlockingIOError
 
-    def _frame(self, size: int) -> tuple:
-        if self._is_down and not self._socket.getsockname()[0]:  # the interface was taken away: what has its name by now is another one
+    def _name(self) -> str:
+        """The name that the interface has by now. Where it was taken away, the one that has the name that was given is taken for it."""
+        name = self._socket.getsockname()[0]
+        if not name:
             self._socket.bind((self._interface, FRAME_TYPE))
+        return name or self._interface
+
+    def _frame(self, size: int) -> tuple:
+        if self._is_down:
+            self._name()
         try:
             frame = self._socket.recvfrom(size)
         except OSError as error:
@@ -133,7 +140,7 @@ class Ethernet(_Link):
     def sendto(self, packet: bytes, station: bytes) -> int:
         """Sends a packet, padded to the shortest frame."""
         try:
-            return self._socket.sendto(packet.ljust(_LEAST, b"\0"), (self._interface, FRAME_TYPE, 0, 0, station))
+            return self._socket.sendto(packet.ljust(_LEAST, b"\0"), (self._name(), FRAME_TYPE, 0, 0, station))
         except OSError as error:
             self._note(error)
             raise
@@ -298,7 +305,8 @@ def _takes_more(stream: socket.socket, seconds: float) -> bool:
 
 def ethernet(interface: str) -> Ethernet:
     """What carries packets on this interface, as `eth0`. `PermissionError` without the right CAP_NET_RAW; another `OSError` where there is no such interface.
-    One that is down, or taken away, is as a network that loses all, until it is up, or there is one of its name."""
+    One that is down, or taken away, is as a network that loses all, until it is up, or there is one of the name that was given. One that is renamed stays the
+    same."""
     return Ethernet(interface)
 
 

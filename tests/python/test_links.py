@@ -214,6 +214,44 @@ for link in (near, far):
 print(*heard)
 """
 
+RENAMED = """import contextlib, subprocess, time, xns
+def ip(words):
+    subprocess.run(["ip", "link", *words.split()], check=True)
+def pair():
+    for step in ("add one address 02:00:aa:00:00:01 type veth peer name far address 02:00:aa:00:00:02", "set one up", "set far up"):
+        ip(step)
+def opened(name):
+    link = xns.ethernet(name)
+    link.setblocking(False)
+    return link
+def hears(there, here):
+    until = time.monotonic() + 5
+    while time.monotonic() < until:
+        with contextlib.suppress(OSError):
+            there.sendto(b"there" + bytes(50), here.station)
+        with contextlib.suppress(OSError):
+            return here.recvfrom(2048)[0][:5] == b"there"
+        time.sleep(0.05)
+pair()
+near, far = opened("one"), opened("far")
+for step in ("set one down", "set one name other", "set other up"):
+    ip(step)
+for step in ("add one type veth peer name two", "set one up"):  # another one has the name by now
+    ip(step)
+heard = [hears(near, far), hears(far, near)]
+for step in ("del other", "del one"):
+    ip(step)
+    with contextlib.suppress(OSError):
+        near.recvfrom(2048)
+far.close()
+pair()
+far = opened("far")
+heard += [hears(near, far), hears(far, near)]
+for link in (near, far):
+    link.close()
+print(*heard)
+"""
+
 SILENT = """import contextlib, socket, struct, subprocess, sys, time, xns
 def lo(way):
     subprocess.run(["ip", "link", "set", "lo", way], check=True)
@@ -258,6 +296,10 @@ class ApartTest(unittest.TestCase):
 
     def test_an_interface_that_is_taken_away_and_put_back(self):
         self.assertEqual(self.told(PLUGGED), "True True True True True\n")
+
+    def test_an_interface_that_is_renamed_is_the_same_one(self):
+        """Once it is taken away, one of the name that was given is taken for it."""
+        self.assertEqual(self.told(RENAMED), "True True True True\n")
 
 
 if __name__ == "__main__":
