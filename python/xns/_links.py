@@ -33,7 +33,8 @@ class Carrier(Protocol):
         """Is called with False before the first packet."""
 
     def recvfrom(self, size: int) -> Tuple[bytes, Any]:
-        """The next packet that is there, and its place. `BlockingIOError`, or another `OSError`, where there is none: a network that is down ends nothing."""
+        """The next packet that is there, and its place. `BlockingIOError`, or another `OSError`, where there is none: a network that is down ends nothing. But
+        one of EBADF, as of a closed socket, ends whoever asks, where there is no file either."""
 
     def sendto(self, packet: bytes, place: Any) -> Any:
         """Sends a packet to a place. An `OSError` is as a packet that is lost."""
