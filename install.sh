@@ -37,11 +37,16 @@ refuse() {
     exit 2
 }
 
-# Makes a folder, and those above it that are missing, and notes each that it made.
+# A path without doubled slashes, without a point between two, and without a slash at its end.
+plain() {
+    printf '%s/\n' "$1" | sed 's|/\(\.\{0,1\}/\)*|/|g; s|/$||'
+}
+
+# Makes a folder, and those above it that are missing, for all to read, and notes each that it made.
 make_folder() {
     if [ ! -d "$1" ]; then
         make_folder "$(dirname "$1")"
-        mkdir "$1" 2> /dev/null || stop "$1 cannot be made"
+        mkdir -m 755 "$1" 2> /dev/null || stop "$1 cannot be made"
         echo "$1" >> "$work/made"
     fi
 }
@@ -108,8 +113,8 @@ export LC_ALL
 case $prefix in
 *[!A-Za-z0-9/._+,@=~-]*) refuse "pkg-config does not take the folder $prefix" ;;
 esac
-while [ "$prefix" != "${prefix%/}" ]; do prefix=${prefix%/}; done
-root=${DESTDIR-}$prefix
+prefix=$(plain "$prefix")
+root=$(plain "${DESTDIR-}")$prefix
 list=$root/share/xns/installed
 installed=no
 work=$(mktemp -d)
@@ -125,11 +130,14 @@ fi
 cd "$(dirname "$0")"
 command -v rt > /dev/null || stop 'there is no rt: the Rattle kit is needed to build'
 # The compiler may have words behind it, and stand behind another program, as in CC='ccache gcc'.
-compiler=
-for one in "${CC:-}" gcc cc clang; do
-    if [ -z "$compiler" ] && command -v "${one%% *}" > /dev/null; then compiler=$one; fi
+compiler=${CC-}
+for one in gcc cc clang; do
+    if [ -z "$compiler" ] && command -v $one > /dev/null; then compiler=$one; fi
 done
 [ -n "$compiler" ] || stop 'there is no C compiler'
+echo 'int tried;' > "$work/tried.c"
+# shellcheck disable=SC2086
+$compiler -shared "$work/tried.c" -o "$work/tried.so" || stop "the C compiler $compiler makes no shared library"
 command -v ar > /dev/null || stop 'there is no ar'
 heap=
 kit=$(dirname "$(rt doc)")
@@ -173,7 +181,7 @@ cp crates/xns_c/out/libxns_c.a "$work/archive/libxns.a"
 
 echo '{ global: xns_*; local: *; };' > "$work/exports"
 # shellcheck disable=SC2086
-$compiler -shared -Wl,-soname,"$soname" -Wl,--version-script="$work/exports" \
+$compiler -shared -Wl,-soname,"$soname" -Xlinker --version-script="$work/exports" \
     -Wl,--whole-archive "$work/archive/libxns.a" -Wl,--no-whole-archive -o "$work/libxns.so"
 
 cat > "$work/xns.pc" << END

@@ -97,6 +97,8 @@ ends_with 'without the kit' 1 'install.sh: there is no rt: the Rattle kit is nee
 [ ! -e "$work/none" ] || fail 'without the kit a folder is left'
 
 PATH=$work/kit/bin:$plain_path
+ends_with 'a compiler that is not there' 1 'install.sh: the C compiler nowhere -O1 makes no shared library' env CC='nowhere -O1' sh "$script" "$work/none/deep"
+[ ! -e "$work/none" ] || fail 'without the compiler a folder is left'
 for words in '' --uninstall 'one two' '--uninstall one two'; do
     # shellcheck disable=SC2086
     ends_with "the words '$words'" 2 "install.sh: one folder is wanted; try 'sh install.sh --help'" sh "$script" $words
@@ -175,6 +177,17 @@ ends_with 'a compiler of several words' 0 "$notice" env CC="behind $compiler -O1
 mkdir -p "$work/elsewhere/copy" "$work/elsewhere/one"
 ends_with 'a CDPATH' 0 "$notice" sh -c "cd '$work' && CDPATH='$work/elsewhere' && export CDPATH && sh copy/install.sh '$work/versions'"
 
+mkdir "$work/a,comma"
+ends_with 'a folder for the work with a comma' 0 "$notice" env TMPDIR="$work/a,comma" sh "$script" "$work/versions"
+
+# A path with points, and new files that by themselves are for nobody else.
+ends_with 'a new folder that ends in a point' 0 "$notice" sh -c "umask 077 && sh '$script' '$work/pointed/./deep//.'"
+expect 'its name for pkg-config' grep -qx "prefix=$work/pointed/deep" "$work/pointed/deep/lib/pkgconfig/xns.pc"
+find "$work/pointed" ! -type l ! -perm 755 ! -perm 644 > "$work/out"
+expect 'all may read it' cmp /dev/null "$work/out"
+expect 'taking it away by its points' sh "$script" --uninstall "$work/pointed/./deep/."
+[ ! -e "$work/pointed" ] || fail 'a folder with points is left'
+
 # Installing under another folder, whose name may have a blank.
 ends_with 'installing under DESTDIR' 0 "$notice" env DESTDIR="$work/a stage" sh "$script" /opt/xns/
 # shellcheck disable=SC2046,SC2086
@@ -182,6 +195,11 @@ holds 'what is there under DESTDIR' "$work/a stage" opt opt/xns $(printf 'opt/xn
 expect 'PREFIX for pkg-config' grep -qx 'prefix=/opt/xns' "$work/a stage/opt/xns/lib/pkgconfig/xns.pc"
 expect 'taking it away from DESTDIR' env DESTDIR="$work/a stage" sh "$script" --uninstall /opt/xns
 [ ! -e "$work/a stage" ] || fail 'a folder under DESTDIR is left'
+for words in '' --uninstall; do
+    # shellcheck disable=SC2086
+    expect "a DESTDIR that ends in a point, $words" sh -c "DESTDIR='$work/a stage/.' sh '$script' $words /opt/xns 2> '$work/log'"
+done
+[ ! -e "$work/a stage" ] || fail 'a folder under DESTDIR with a point is left'
 
 # The archive: the same bytes each time, whatever rights new files get, and nothing else than what is installed.
 for place in one two; do mkdir "$work/$place"; done

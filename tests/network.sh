@@ -86,13 +86,18 @@ add_station() {
     ip netns exec "$front-$1" sysctl -qw net.ipv6.conf.all.disable_ipv6=1 net.ipv6.conf.default.disable_ipv6=1 2> /dev/null
 }
 
+# A cable between two stations.
+plug() {
+    ip link add name eth0 netns "$front-1" address "$(station 1)" type veth peer name eth0 netns "$front-2" address "$(station 2)"
+    for number in 1 2; do ip -n "$front-$number" link set eth0 up; done
+}
+
 # Two stations and a cable.
 cable() {
     remove_all
     add_station 1
     add_station 2
-    ip link add name eth0 netns "$front-1" address "$(station 1)" type veth peer name eth0 netns "$front-2" address "$(station 2)"
-    for number in 1 2; do ip -n "$front-$number" link set eth0 up; done
+    plug
 }
 
 # Four stations, whose cables end in another namespace at p1 to p4.
@@ -223,19 +228,19 @@ prints 'the one' 'return 0 5' at 2 "$work/client" -i eth0 "$(station 1)" 5
 prints 'the other' 'return 0000 0007' at 2 xns-net call 1.0200aa000001.6 7 1 1 0007 -i eth0
 end_all
 
-# ---- an interface that goes down and comes back, at each side, while calls are made
+# ---- an interface that goes down and comes back, at each side, and both that are taken away and made anew, while calls are made
 
-for side in 1 2; do
+for side in 1 2 both; do
     for language in C Python; do
         if [ $language = C ]; then begin 1 "$work/server" -i eth0; else begin 1 xns-net serve -i eth0; fi
         expect "a server in $language is there again" answers 2 1
         { at 2 "$work/client" -i eth0 "$(station 1)" $(seq 1 12000) > "$work/many" 2> "$work/err"; } &
         calling=$!
         sleep 0.15
-        ip -n "$front-$side" link set eth0 down
+        if [ $side = both ]; then ip -n "$front-1" link del eth0; else ip -n "$front-$side" link set eth0 down; fi
         expect "calls go on as side $side goes down, $language" kill -0 $calling
         sleep 0.7
-        ip -n "$front-$side" link set eth0 up
+        if [ $side = both ]; then plug; else ip -n "$front-$side" link set eth0 up; fi
         wait $calling
         ended=$?
         expect "side $side was down for a while, $language" test $ended -eq 0 -a "$(wc -l < "$work/many")" -eq 12000

@@ -12,6 +12,7 @@ else
     fail 'the pages:' "$work/said"
 fi
 tail -1 "$work/said"
+expect 'no mark of a merge is left' sh -c '! grep -rnE "^(<{7}|>{7}) " README.md install.sh release.sh docs examples include python tests'
 
 # A copy of the repository, whose quotes are made anew. Each change is made there, and taken back.
 right=$work/right

@@ -12,6 +12,8 @@
 
 enum { ETHERNET_TYPE = 0x0600, ETHERNET_LEAST = 46, ETHERNET_TARGET_AT = 10 };
 
+static const char *ethernet_interface; /* its name, where the link is at one */
+
 static inline struct sockaddr_ll ethernet_place(uint64_t via) {
     struct sockaddr_ll place;
     memset(&place, 0, sizeof place);
@@ -22,10 +24,20 @@ static inline struct sockaddr_ll ethernet_place(uint64_t via) {
     return place;
 }
 
+/* Where the interface was taken away, the one that has its name by now is taken for it. */
+static inline void ethernet_come_back(struct link *link) {
+    struct sockaddr_ll place;
+    socklen_t size = sizeof place;
+    if (link->via == 0 || getsockname(link->file, (struct sockaddr *)&place, &size) != 0 || place.sll_ifindex > 0) return;
+    place = ethernet_place(if_nametoindex(ethernet_interface));
+    if (place.sll_ifindex != 0 && bind(link->file, (struct sockaddr *)&place, sizeof place) == 0) link->via = (uint32_t)place.sll_ifindex;
+}
+
 /* Packets to this station or to all; frames to others, which come where an interface is promiscuous, and those that this machine sends are passed over.
  * Where an interface is down there is none. */
 static inline void ethernet_receive(struct link *link, link_taker *take, void *given) {
     const unsigned count = batch_receive(link);
+    if (count == 0) ethernet_come_back(link);
     for (unsigned k = 0; k < count; k++) {
         const struct sockaddr_ll *from = (const struct sockaddr_ll *)&batch_in.places[k];
         if (from->sll_pkttype != PACKET_HOST && from->sll_pkttype != PACKET_BROADCAST) continue;
@@ -33,9 +45,9 @@ static inline void ethernet_receive(struct link *link, link_taker *take, void *g
     }
 }
 
-/* A packet is made up to the shortest frame. */
+/* A packet is made up to the shortest frame. A link at one interface sends all by it: a connection may have the number that the interface had before. */
 static inline void ethernet_put(struct link *link, uint64_t via, const uint8_t *packet, size_t length) {
-    struct sockaddr_ll place = ethernet_place(via);
+    struct sockaddr_ll place = ethernet_place(link->via == 0 ? via : link->via);
     memcpy(place.sll_addr, packet + ETHERNET_TARGET_AT, 6);
     batch_put(link, packet, length, ETHERNET_LEAST, &place, sizeof place);
 }
@@ -61,6 +73,7 @@ static inline void ethernet_open(struct link *link, const char *interface) {
     link->flush = batch_flush;
     batch_let_wait(link);
     link->via = (uint32_t)place.sll_ifindex;
+    ethernet_interface = interface;
     link->socket = random_socket();
 }
 

@@ -6,7 +6,7 @@ import select
 from typing import Any, Awaitable, Callable, Dict, Iterable, Optional, Set, Union
 
 from ._client import Conversation, until_of
-from ._errors import SilentError
+from ._errors import ClosedError, SilentError
 from ._library import address_of, unsigned, words_of
 from ._links import Carrier, checked, not_blocking
 from ._objects import Host
@@ -83,24 +83,31 @@ class AsyncClient:
     def __init__(
         self, carrier: Carrier, place: Any, own: Address, peer: Address, timeout: Optional[float] = None, **settings: Optional[int]
     ) -> None:
-        """As of `Client`, without `reopens`. Nothing is done before the `async with`."""
+        """As of `Client`, without `reopens`. Nothing is done before the `async with`, and a call before it is a `ClosedError`."""
         until_of(timeout)
         self._carrier, self._place, self._own, self._peer, self._timeout, self._settings = checked(carrier), place, own, peer, timeout, settings
         self._events: "asyncio.Queue[Union[Event, Exception]]"
         self._calls: asyncio.Lock
         self._last: Union[Closed, Exception, None]  # behind which no event comes
+        self._opened: Optional[Conversation] = None
 
     async def __aenter__(self) -> "AsyncClient":
-        self._events, self._calls, self._last = asyncio.Queue(), asyncio.Lock(), None
+        self._events, self._calls, self._last, self._opened = asyncio.Queue(), asyncio.Lock(), None, None
         with contextlib.ExitStack() as left:
             host = left.enter_context(Host(self._own, **{**self._settings, "tells_opened": True}))
             left.enter_context(not_blocking(self._carrier))
-            self._conversation = Conversation(Station(self._carrier, host), self._place, self._own, self._peer)
+            self._opened = Conversation(Station(self._carrier, host), self._place, self._own, self._peer)
             self._pump = _Pump(self._conversation.station, self._fetch, self._end)
             left.callback(self._pump.stop)
             self._pump.turn()
             self._left = left.pop_all()
         return self
+
+    @property
+    def _conversation(self) -> Conversation:
+        if self._opened is None:
+            raise ClosedError("the connection is not open: `async with` opens it")
+        return self._opened
 
     async def __aexit__(self, error: Optional[type], *_) -> None:
         try:
@@ -114,17 +121,17 @@ class AsyncClient:
         """What a call is answered, and the errors, as of `Client.call`. The answer to a call whose task was cancelled is let go. A call whose time is over
         while it waits for another one is not made, and closes nothing."""
         numbers, (given, _) = (unsigned(program, 32, "program"), unsigned(version, 16, "version"), unsigned(procedure, 16, "procedure")), words_of(words)
-        listed, has_turn = memoryview(given).cast("H").tolist(), False
+        listed, has_turn, conversation = memoryview(given).cast("H").tolist(), False, self._conversation
 
         async def answer() -> Answer:
             nonlocal has_turn
             async with self._calls:
                 has_turn = True
-                while not self._conversation.put_out(*numbers, listed):
+                while not conversation.put_out(*numbers, listed):
                     await self._next()
                 self._forget()
                 self._pump.turn()
-                return self._conversation.answer(await self._next())
+                return conversation.answer(await self._next())
 
         return await self._in_time(answer, timeout, "the call was not answered", lambda: has_turn)
 

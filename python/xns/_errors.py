@@ -81,7 +81,7 @@ class NotServedError(XnsError, ConnectionRefusedError):
 
 
 class ClosedError(XnsError, ConnectionResetError):
-    """The connection is closed."""
+    """The connection is closed, or was not opened yet."""
 
 
 class NoCallError(XnsError, LookupError):

@@ -1,6 +1,7 @@
 """What carries packets: the protocol of a carrier, frames on Ethernet, and the hubs of emulators."""
 import contextlib
 import errno
+import os
 import secrets
 import select
 import socket
@@ -32,7 +33,8 @@ class Carrier(Protocol):
         """Is called with False before the first packet."""
 
     def recvfrom(self, size: int) -> Tuple[bytes, Any]:
-        """The next packet that is there, and its place. `BlockingIOError`, or another `OSError`, where there is none: a network that is down ends nothing."""
+        """The next packet that is there, and its place. `BlockingIOError`, or another `OSError`, where there is none: a network that is down ends nothing. But
+        one of EBADF, as of a closed socket, ends whoever asks, where there is no file either."""
 
     def sendto(self, packet: bytes, place: Any) -> Any:
         """Sends a packet to a place. An `OSError` is as a packet that is lost."""
@@ -118,9 +120,16 @@ class Ethernet(_Link):
                 return packet, station
         raise BlockingIOError
 
-    def _frame(self, size: int) -> tuple:
-        if self._is_down and not self._socket.getsockname()[0]:  # the interface was taken away: what has its name by now is another one
+    def _name(self) -> str:
+        """The name that the interface has by now. Where it was taken away, the one that has the name that was given is taken for it."""
+        name = self._socket.getsockname()[0]
+        if not name:
             self._socket.bind((self._interface, FRAME_TYPE))
+        return name or self._interface
+
+    def _frame(self, size: int) -> tuple:
+        if self._is_down:
+            self._name()
         try:
             frame = self._socket.recvfrom(size)
         except OSError as error:
@@ -132,7 +141,7 @@ class Ethernet(_Link):
     def sendto(self, packet: bytes, station: bytes) -> int:
         """Sends a packet, padded to the shortest frame."""
         try:
-            return self._socket.sendto(packet.ljust(_LEAST, b"\0"), (self._interface, FRAME_TYPE, 0, 0, station))
+            return self._socket.sendto(packet.ljust(_LEAST, b"\0"), (self._name(), FRAME_TYPE, 0, 0, station))
         except OSError as error:
             self._note(error)
             raise
@@ -151,40 +160,68 @@ class NetHub(_Link):
     REACHED = 2.0  # seconds in which the hub replies, or is gone
     ASKED = 10  # seconds without a byte after which the hub's system is asked whether it has the stream, and from one such question to the next
     _ASKED_IN_VAIN = 2  # how many questions go out, each without a reply, before the hub is gone
+    _until: Optional[float] = None  # the time by which the hub is to reply, while it is asked for a stream
 
     def __init__(self, host: str, port: int, station: Optional[bytes] = None) -> None:
-        """`OSError` where the hub is not there. Without a station it is one of no maker's, at random."""
+        """`OSError` where the hub is not there, which may take as long as `REACHED` says, for each address that its name has. The name is looked up here
+        alone. Without a station it is one of no maker's, at random."""
         self.station = bytes([2]) + secrets.token_bytes(5) if station is None else octets(station, "station")
         if len(self.station) != 6:
             raise ValueError(f"station has {len(self.station)} bytes, and not six")
-        self._place, self._stream, self._came, self._tried = (host, port), None, b"", time.monotonic()
-        self._open()
+        self._stream: Optional[socket.socket] = None
+        self._came, self._tried, self._places = b"", 0.0, socket.getaddrinfo(host, port, type=socket.SOCK_STREAM)
+        for left in reversed(range(len(self._places))):
+            try:
+                self._join(self._open(), self.REACHED)
+                return
+            except OSError:
+                if not left:
+                    raise
 
     def _open(self) -> socket.socket:
-        try:
-            stream = socket.create_connection(self._place, self.REACHED)
-        finally:
-            self._tried = time.monotonic()  # behind the attempt, which may take longer than the wait for the next one
+        """A stream that the hub is asked for, at the first of its addresses."""
+        family, kind, protocol, _, place = self._places[0]
+        stream = socket.socket(family, kind, protocol)
+        self._stream, self._until = stream, time.monotonic() + self.REACHED
+        if self._is_closed:  # by another thread meanwhile
+            self._lose()
+            self._check()
+        stream.setblocking(False)
         stream.setsockopt(socket.SOL_SOCKET, socket.SO_KEEPALIVE, 1)  # who only waits for packets would not learn that the hub has forgotten the stream
         of_tcp = {socket.TCP_NODELAY: 1, socket.TCP_KEEPIDLE: self.ASKED, socket.TCP_KEEPINTVL: self.ASKED, socket.TCP_KEEPCNT: self._ASKED_IN_VAIN}
         for name, value in of_tcp.items():
             stream.setsockopt(socket.IPPROTO_TCP, name, value)
-        stream.setblocking(False)
-        self._stream = stream
-        if self._is_closed:  # by another thread meanwhile
-            self._lose()
-            self._check()
+        self._miss(stream.connect_ex(place))
         return stream
+
+    def _join(self, stream: socket.socket, seconds: float = 0) -> None:
+        """The hub has replied, at the latest in so many seconds. `BlockingIOError` where it may still."""
+        if _takes_more(stream, seconds):
+            self._miss(stream.getsockopt(socket.SOL_SOCKET, socket.SO_ERROR))
+            self._until = None
+        elif time.monotonic() < self._until:
+            raise BlockingIOError
+        else:
+            self._miss(errno.ETIMEDOUT)
+
+    def _miss(self, error: int) -> None:
+        """Where there was an error, the hub is not at this address: its next one is tried the next time. Raises the error."""
+        if error not in (0, errno.EINPROGRESS):
+            self._lose()
+            self._places = self._places[1:] + self._places[:1]
+            raise OSError(error, os.strerror(error))
 
     def _reached(self) -> socket.socket:
         """The stream. `OSError` while the hub is gone, and once it is left."""
         self._check()
         stream = self._stream  # another thread may close it
-        if stream is not None:
-            return stream
-        if time.monotonic() < self._tried + self.AGAIN:
-            raise BlockingIOError
-        return self._open()
+        if stream is None:
+            if time.monotonic() < self._tried + self.AGAIN:
+                raise BlockingIOError
+            stream = self._open()
+        if self._until is not None:
+            self._join(stream)
+        return stream
 
     def _lose(self) -> None:
         stream, self._stream, self._came, self._tried = self._stream, None, b"", time.monotonic()
@@ -197,14 +234,14 @@ class NetHub(_Link):
         self._lose()
 
     def fileno(self) -> int:
-        """The file of its stream, below 0 while the hub is gone. `OSError` once it is closed."""
+        """The file of its stream, also while the hub is asked for one; below 0 while there is none. `OSError` once it is closed."""
         self._check()
         stream = self._stream  # another thread may close it
         return -1 if stream is None else stream.fileno()
 
     def setblocking(self, flag: bool) -> None:
-        """Changes nothing: the other methods wait for no packet. They wait for a hub that does not reply as long as `REACHED` says, for each address that its
-        name has, and for one that takes nothing as long as `AGAIN` says; in a loop of asyncio all else waits then too."""
+        """Changes nothing: the other methods wait for no packet, and for no hub that is gone. They wait for one that takes nothing as long as `AGAIN` says;
+        in a loop of asyncio all else waits then too."""
 
     def recvfrom(self, _: int) -> Tuple[bytes, bytes]:
         """The next packet to this station or to all, and the station that it comes from. Other frames are passed over, as those of `Ethernet`."""
@@ -269,7 +306,8 @@ def _takes_more(stream: socket.socket, seconds: float) -> bool:
 
 def ethernet(interface: str) -> Ethernet:
     """What carries packets on this interface, as `eth0`. `PermissionError` without the right CAP_NET_RAW; another `OSError` where there is no such interface.
-    One that is down, or taken away, is as a network that loses all, until it is up, or there is one of its name."""
+    One that is down, or taken away, is as a network that loses all, until it is up, or there is one of the name that was given. One that is renamed stays the
+    same."""
     return Ethernet(interface)
 
 

@@ -97,14 +97,16 @@ class Station:
                     self.carrier.sendto(packet, self._places[via])
 
     def take_in(self) -> None:
-        """Takes in the packets that are there, but not more at once than a few."""
+        """Takes in the packets that are there, but not more at once than a few. `OSError` of a carrier that is closed."""
         self.time()
         for _ in range(_MOST_AT_ONCE):
             try:
                 packet, place = self.carrier.recvfrom(_LONGEST_DATAGRAM)
             except ConnectionError:  # a datagram before did not arrive
                 continue
-            except OSError:  # nothing is there, or the network is down
+            except OSError as error:  # nothing is there, or the network is down
+                if error.errno == errno.EBADF and file_of(self.carrier) is None:
+                    raise OSError(errno.EBADF, "the carrier is closed") from None
                 return
             if place is None and isinstance(self.carrier, socket.socket):  # of a socket without a name, to which nothing can be sent
                 continue

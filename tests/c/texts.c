@@ -88,8 +88,12 @@ static void faults(void) {
     CHECK(strcmp(xns_fault_text(&cursor), xns_result_text(XNS_OK)) == 0);
     xns_read_cardinal(NULL, 0, &cursor, &value);
     CHECK(strcmp(xns_fault_text(&cursor), xns_result_text(XNS_TRUNCATED)) == 0);
-    cursor.fault = 1000;
-    CHECK(strcmp(xns_fault_text(&cursor), xns_result_text((enum xns_result)127)) == 0);
+    for (cursor.fault = 0; cursor.fault < 127; cursor.fault++)
+        CHECK(strcmp(xns_fault_text(&cursor), xns_result_text((enum xns_result)cursor.fault)) == 0);
+    for (int i = 0; i < 2; i++) {
+        cursor.fault = i == 0 ? 1000 : UINT32_MAX;
+        CHECK(strcmp(xns_fault_text(&cursor), xns_result_text((enum xns_result)127)) == 0);
+    }
 }
 
 /* A pointer with the length 0 may be null. */

@@ -93,6 +93,15 @@ class AsyncioTest(unittest.TestCase):
 
         asyncio.run(play())
 
+    def test_a_client_that_is_not_open_yet_says_so(self):
+        async def play():
+            client = xns.AsyncClient(self.here, self.there.getsockname(), CLIENT, SERVER, timeout=1)
+            for one in (client.call(7, 1, 1), client.close()):
+                with self.assertRaisesRegex(xns.ClosedError, "not open"):
+                    await one
+
+        asyncio.run(play())
+
     def test_a_client_that_has_given_a_call_up_rests(self):
         """The answer comes later, and nobody waits for it."""
         carrier = Counting(self.here)

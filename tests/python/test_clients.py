@@ -332,6 +332,13 @@ class OverUdp(unittest.TestCase):
     def test_a_socket_that_another_thread_closes_ends_the_server_within_a_second(self):
         self.assertEqual(told_at_closing(self.there), ["the socket is closed"])
 
+    def test_a_carrier_over_a_socket_that_is_closed_ends_the_server_within_a_second(self):
+        for told in (told_at_closing, told_at_closing_by_asyncio):
+            udp = bound()
+            carrier = Counting(udp)
+            carrier.close = udp.close
+            self.assertEqual(told(carrier), ["the carrier is closed"])
+
     def test_many_clients_at_once(self):
         with serving(self.there, connections=20):
             told = []

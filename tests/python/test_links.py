@@ -1,4 +1,6 @@
 """What becomes of a link to a hub of emulators where the hub is slow, gone, or left amid a frame, and of one at an interface that is gone."""
+import asyncio
+import contextlib
 import errno
 import fcntl
 import resource
@@ -90,20 +92,19 @@ class HubTest(unittest.TestCase):
     def test_a_part_of_a_frame_goes_with_its_stream(self):
         """Also where the new stream has frames at once."""
 
-        def opened_with_frames(*place):
-            stream = connect(*place)
+        def opened_with_frames():
+            stream = opens()
             self.stream = self.accepted()
             self.stream.sendall(10 * COMES)
             select.select([stream], [], [], 5)
             return stream
 
-        connect = socket.create_connection
+        opens, self.link._open = self.link._open, opened_with_frames
         self.stream.sendall(b"\x02\x4e" + COMES[2:50])
         select.select([self.link], [], [], 5)
         self.lost()
-        with unittest.mock.patch("socket.create_connection", opened_with_frames):
-            for _ in range(10):
-                self.assertEqual(self.link.recvfrom(2048), (PACKET, OTHER))
+        for _ in range(10):
+            self.assertEqual(self.link.recvfrom(2048), (PACKET, OTHER))
 
     def test_a_hub_that_reads_nothing_in_a_program_with_many_files(self):
         soft, hard = resource.getrlimit(resource.RLIMIT_NOFILE)
@@ -120,30 +121,59 @@ class HubTest(unittest.TestCase):
         self.assertLess(self.link.fileno(), 0)
 
     def test_a_link_that_another_thread_closes_while_it_is_opened_again_stays_closed(self):
-        def closed_meanwhile(*place):
+        def closed_meanwhile(*kind):
             self.link.close()
-            return connect(*place)
+            return made(*kind)
 
-        connect = socket.create_connection
+        made = socket.socket
         self.lost()
-        with unittest.mock.patch("socket.create_connection", closed_meanwhile), self.assertRaisesRegex(OSError, "the link is closed"):
+        with unittest.mock.patch("socket.socket", closed_meanwhile), self.assertRaisesRegex(OSError, "the link is closed"):
             self.link.sendto(PACKET, OTHER)
-        self.assertEqual(self.accepted().recv(2048), b"")
+        self.assertIsNone(self.link._stream)
 
-    def test_a_hub_that_does_not_reply_is_tried_a_while_behind_each_attempt(self):
-        attempts = []
+    def silent(self):
+        """The hub lets in one more, and then replies to nobody until that one is taken."""
+        self.hub.listen(0)
+        self.addCleanup(socket.create_connection(self.hub.getsockname()).close)
 
-        def silent(place, seconds):
-            attempts.append(place)
-            time.sleep(2 * self.link.AGAIN)
-            raise socket.timeout
+    def test_a_hub_that_does_not_reply_keeps_nobody(self):
+        """It is asked a while behind each attempt, and is there once it replies."""
+        self.link.REACHED, asked = 0.3, []
+        self.lost()
+        self.silent()
+        opens, self.link._open = self.link._open, lambda: asked.append(time.monotonic()) or opens()
+        while len(asked) < 3:
+            begun = time.monotonic()
+            for one in (lambda: self.link.sendto(PACKET, OTHER), lambda: self.link.recvfrom(2048)):
+                with self.assertRaises(OSError):
+                    one()
+            self.assertLess(time.monotonic() - begun, 0.1)
+            time.sleep(0.01)
+        for before, behind in zip(asked, asked[1:]):
+            self.assertGreater(behind - before, 0.45)
+        self.accepted()
+        until = time.monotonic() + 10
+        while time.monotonic() < until:
+            with contextlib.suppress(OSError):
+                self.link.sendto(PACKET, OTHER)
+                break
+            time.sleep(0.05)
+        self.assertEqual(self.accepted().recv(2048), FRAME)
+
+    def test_a_loop_goes_on_while_a_hub_does_not_reply(self):
+        async def longest_rest():
+            server = asyncio.ensure_future(xns.serve_async(self.link, xns.Address(1, HOST, 5), [], lambda call: xns.returns()))
+            longest, last, until = 0.0, time.monotonic(), time.monotonic() + 2.5
+            while time.monotonic() < until:
+                await asyncio.sleep(0.01)
+                longest, last = max(longest, time.monotonic() - last), time.monotonic()
+            server.cancel()
+            await asyncio.wait([server])
+            return longest
 
         self.lost()
-        with unittest.mock.patch("socket.create_connection", silent):
-            for _ in range(5):
-                with self.assertRaises(OSError):
-                    self.link.sendto(PACKET, OTHER)
-        self.assertEqual(len(attempts), 1)
+        self.silent()
+        self.assertLess(asyncio.run(longest_rest()), 1)
 
 
 PLUGGED = """import contextlib, subprocess, time, xns
@@ -179,6 +209,44 @@ for asks in (near.recvfrom, lambda size: near.sendto(b"", near.station)):
         far = plug()
         far.setblocking(False)
         heard.append(is_heard())
+for link in (near, far):
+    link.close()
+print(*heard)
+"""
+
+RENAMED = """import contextlib, subprocess, time, xns
+def ip(words):
+    subprocess.run(["ip", "link", *words.split()], check=True)
+def pair():
+    for step in ("add one address 02:00:aa:00:00:01 type veth peer name far address 02:00:aa:00:00:02", "set one up", "set far up"):
+        ip(step)
+def opened(name):
+    link = xns.ethernet(name)
+    link.setblocking(False)
+    return link
+def hears(there, here):
+    until = time.monotonic() + 5
+    while time.monotonic() < until:
+        with contextlib.suppress(OSError):
+            there.sendto(b"there" + bytes(50), here.station)
+        with contextlib.suppress(OSError):
+            return here.recvfrom(2048)[0][:5] == b"there"
+        time.sleep(0.05)
+pair()
+near, far = opened("one"), opened("far")
+for step in ("set one down", "set one name other", "set other up"):
+    ip(step)
+for step in ("add one type veth peer name two", "set one up"):  # another one has the name by now
+    ip(step)
+heard = [hears(near, far), hears(far, near)]
+for step in ("del other", "del one"):
+    ip(step)
+    with contextlib.suppress(OSError):
+        near.recvfrom(2048)
+far.close()
+pair()
+far = opened("far")
+heard += [hears(near, far), hears(far, near)]
 for link in (near, far):
     link.close()
 print(*heard)
@@ -228,6 +296,10 @@ class ApartTest(unittest.TestCase):
 
     def test_an_interface_that_is_taken_away_and_put_back(self):
         self.assertEqual(self.told(PLUGGED), "True True True True True\n")
+
+    def test_an_interface_that_is_renamed_is_the_same_one(self):
+        """Once it is taken away, one of the name that was given is taken for it."""
+        self.assertEqual(self.told(RENAMED), "True True True True\n")
 
 
 if __name__ == "__main__":
