@@ -281,6 +281,33 @@ with socket.create_server(("127.0.0.1", 0)) as hub, xns.nethub(*hub.getsockname(
 """
 
 
+WATCHED = """import contextlib, select, subprocess, sys, time, xns
+def ip(words):
+    subprocess.run(["ip", "link", *words.split()], check=True)
+def plug():
+    for step in ("add one type veth peer name far", "set one up", "set far up"):
+        ip(step)
+def shown(name):
+    until = time.monotonic() + 25
+    with xns.ethernet("far") as far:
+        while time.monotonic() < until:
+            with contextlib.suppress(OSError):
+                far.sendto(name, b"there!")
+            if select.select([watching.stdout], [], [], 0.05)[0]:
+                if bytes.fromhex(watching.stdout.readline().decode()).startswith(name):
+                    return True
+plug()
+watching = subprocess.Popen([sys.executable, "-m", "xns.net", "watch", "-i", "one", "--hex"], stdout=subprocess.PIPE, bufsize=0)
+heard = [shown(b"first")]
+ip("del one")
+plug()
+heard += [shown(b"second")]
+watching.kill()
+watching.communicate()
+print(*heard)
+"""
+
+
 class ApartTest(unittest.TestCase):
     """What takes the right to a network of its own."""
 
@@ -296,6 +323,9 @@ class ApartTest(unittest.TestCase):
 
     def test_an_interface_that_is_taken_away_and_put_back(self):
         self.assertEqual(self.told(PLUGGED), "True True True True True\n")
+
+    def test_a_watch_at_an_interface_that_is_taken_away_and_put_back(self):
+        self.assertEqual(self.told(WATCHED), "True True\n")
 
     def test_an_interface_that_is_renamed_is_the_same_one(self):
         """Once it is taken away, one of the name that was given is taken for it."""
