@@ -124,6 +124,7 @@ class Ethernet(_Link):
         """The name that the interface has by now. Where it was taken away, the one that has the name that was given is taken for it."""
         name = self._socket.getsockname()[0]
         if not name:
+            self._socket.getsockopt(socket.SOL_SOCKET, socket.SO_ERROR)  # takes the error, for which a poll would never wait
             self._socket.bind((self._interface, FRAME_TYPE))
         return name or self._interface
 

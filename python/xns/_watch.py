@@ -53,6 +53,7 @@ class _Frames(socket.socket):
 
     def recvfrom(self, size: int) -> tuple:
         if not self.getsockname()[0]:
+            self.getsockopt(socket.SOL_SOCKET, socket.SO_ERROR)  # takes the error, for which a poll would never wait
             self._bind()
         return super().recvfrom(size)
 
