@@ -89,7 +89,7 @@ class Ethernet(_Link):
         if not isinstance(interface, str):
             raise TypeError(f"interface is no name: it is of type {type(interface).__name__}")
         self._interface = interface
-        self._socket = socket.socket(socket.AF_PACKET, socket.SOCK_DGRAM, socket.htons(FRAME_TYPE))
+        self._socket = socket.socket(socket.AF_PACKET, socket.SOCK_DGRAM, 0)  # nothing comes before it is bound
         try:
             self._socket.bind((interface, FRAME_TYPE))
         except OSError:

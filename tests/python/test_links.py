@@ -284,6 +284,25 @@ with socket.create_server(("127.0.0.1", 0)) as hub, xns.nethub(*hub.getsockname(
 """
 
 
+EARLY = """import socket, subprocess, xns
+def ip(words):
+    subprocess.run(["ip", "link", *words.split()], check=True)
+for step in ("add one type veth peer name far", "add two type veth peer name away", "set one up", "set two up", "set away up"):
+    ip(step)
+class Late(socket.socket):
+    def bind(self, place):
+        away.sendto(b"there", bytes(6 * [255]))
+        super().bind(place)
+with xns.ethernet("away") as away:
+    socket.socket = Late
+    with xns.ethernet("one") as link:
+        link.setblocking(False)
+        try:
+            print(link.recvfrom(2048))
+        except BlockingIOError:
+            print("nothing")
+"""
+
 WATCHED = """import contextlib, select, subprocess, sys, time, xns
 def ip(words):
     subprocess.run(["ip", "link", *words.split()], check=True)
@@ -326,6 +345,9 @@ class ApartTest(unittest.TestCase):
 
     def test_an_interface_that_is_taken_away_and_put_back(self):
         self.assertEqual(self.told(PLUGGED), " ".join(9 * ["True"]) + "\n")
+
+    def test_a_frame_of_another_interface_before_the_link_is_bound(self):
+        self.assertEqual(self.told(EARLY), "nothing\n")
 
     def test_a_watch_at_an_interface_that_is_taken_away_and_put_back(self):
         self.assertEqual(self.told(WATCHED), "True True\n")
