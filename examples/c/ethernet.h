@@ -58,7 +58,7 @@ static inline void ethernet_open(struct link *link, const char *interface) {
     struct ifreq request;
     bool is_there = interface == NULL || place.sll_ifindex != 0;
     memset(&request, 0, sizeof request);
-    link->file = socket(AF_PACKET, SOCK_DGRAM, htons(ETHERNET_TYPE));
+    link->file = socket(AF_PACKET, SOCK_DGRAM, 0); /* nothing comes before it is bound */
     if (is_there && link->file >= 0 && interface != NULL) {
         strncpy(request.ifr_name, interface, sizeof request.ifr_name - 1);
         is_there = ioctl(link->file, SIOCGIFHWADDR, &request) == 0;

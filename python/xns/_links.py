@@ -89,7 +89,7 @@ class Ethernet(_Link):
         if not isinstance(interface, str):
             raise TypeError(f"interface is no name: it is of type {type(interface).__name__}")
         self._interface = interface
-        self._socket = socket.socket(socket.AF_PACKET, socket.SOCK_DGRAM, socket.htons(FRAME_TYPE))
+        self._socket = socket.socket(socket.AF_PACKET, socket.SOCK_DGRAM, 0)  # nothing comes before it is bound
         try:
             self._socket.bind((interface, FRAME_TYPE))
         except OSError:
@@ -124,6 +124,7 @@ class Ethernet(_Link):
         """The name that the interface has by now. Where it was taken away, the one that has the name that was given is taken for it."""
         name = self._socket.getsockname()[0]
         if not name:
+            self._socket.getsockopt(socket.SOL_SOCKET, socket.SO_ERROR)  # takes the error, for which a poll would never wait
             self._socket.bind((self._interface, FRAME_TYPE))
         return name or self._interface
 

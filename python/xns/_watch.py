@@ -29,21 +29,33 @@ def program() -> Optional[str]:
     return beside if below and os.access(beside, os.X_OK) else shutil.which("xns")
 
 
-def _opened(interface: str) -> socket.socket:
-    frames = socket.socket(socket.AF_PACKET, socket.SOCK_DGRAM, 0)  # nothing comes before it is bound
-    try:
+class _Frames(socket.socket):
+    """The frames of an interface. Where that was taken away, the one that has its name by now is taken for it."""
+
+    def __init__(self, interface: str) -> None:
+        super().__init__(socket.AF_PACKET, socket.SOCK_DGRAM, 0)  # nothing comes before it is bound
+        self._interface = interface
         try:
-            frames.setsockopt(socket.SOL_SOCKET, _FORCE_ROOM, _ROOM)
-        except PermissionError:  # it takes CAP_NET_ADMIN; else the system has a limit
-            frames.setsockopt(socket.SOL_SOCKET, socket.SO_RCVBUF, _ROOM)
-        number = socket.if_nametoindex(interface)
-        frames.setsockopt(_SOL_PACKET, _ADD_MEMBERSHIP, number.to_bytes(4, sys.byteorder) + _PROMISCUOUS.to_bytes(2, sys.byteorder) + bytes(10))
-        frames.bind((interface, _ALL))
-        frames.setblocking(False)
-    except OSError:
-        frames.close()
-        raise
-    return frames
+            try:
+                self.setsockopt(socket.SOL_SOCKET, _FORCE_ROOM, _ROOM)
+            except PermissionError:  # it takes CAP_NET_ADMIN; else the system has a limit
+                self.setsockopt(socket.SOL_SOCKET, socket.SO_RCVBUF, _ROOM)
+            self._bind()
+            self.setblocking(False)
+        except OSError:
+            self.close()
+            raise
+
+    def _bind(self) -> None:
+        number = socket.if_nametoindex(self._interface)
+        self.setsockopt(_SOL_PACKET, _ADD_MEMBERSHIP, number.to_bytes(4, sys.byteorder) + _PROMISCUOUS.to_bytes(2, sys.byteorder) + bytes(10))
+        self.bind((self._interface, _ALL))
+
+    def recvfrom(self, size: int) -> tuple:
+        if not self.getsockname()[0]:
+            self.getsockopt(socket.SOL_SOCKET, socket.SO_ERROR)  # takes the error, for which a poll would never wait
+            self._bind()
+        return super().recvfrom(size)
 
 
 def _copy(frames: socket.socket, lines: BinaryIO, count: Optional[int]) -> bool:
@@ -86,7 +98,7 @@ def _give(frames: socket.socket, words: List[str], count: Optional[int]) -> int:
 def watch(interface: str, command: Optional[str], count: Optional[int]) -> int:
     """Gives the packets of an interface to `xns calls` or `xns dump`, or without a command prints them in hex, until Ctrl-C ends it or so many have come.
     The status."""
-    with _opened(interface) as frames:
+    with _Frames(interface) as frames:
         if command is None:
             _copy(frames, sys.stdout.buffer, count)
             return 0

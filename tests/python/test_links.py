@@ -176,7 +176,7 @@ class HubTest(unittest.TestCase):
         self.assertLess(asyncio.run(longest_rest()), 1)
 
 
-PLUGGED = """import contextlib, subprocess, time, xns
+PLUGGED = """import contextlib, select, subprocess, time, xns
 FIRST, SECOND = "02:00:aa:00:00:01", "02:00:aa:00:00:02"
 def ip(*words):
     subprocess.run(["ip", "link", *words], check=True)
@@ -206,6 +206,9 @@ for asks in (near.recvfrom, lambda size: near.sendto(b"", near.station)):
             ip(*step)
             with contextlib.suppress(OSError):
                 asks(2048)
+        with contextlib.suppress(OSError):
+            near.recvfrom(2048)
+        heard.append(select.select([near], [], [], 0)[0] == [])  # who waits rests
         far = plug()
         far.setblocking(False)
         heard.append(is_heard())
@@ -281,6 +284,52 @@ with socket.create_server(("127.0.0.1", 0)) as hub, xns.nethub(*hub.getsockname(
 """
 
 
+EARLY = """import socket, subprocess, xns
+def ip(words):
+    subprocess.run(["ip", "link", *words.split()], check=True)
+for step in ("add one type veth peer name far", "add two type veth peer name away", "set one up", "set two up", "set away up"):
+    ip(step)
+class Late(socket.socket):
+    def bind(self, place):
+        away.sendto(b"there", bytes(6 * [255]))
+        super().bind(place)
+with xns.ethernet("away") as away:
+    socket.socket = Late
+    with xns.ethernet("one") as link:
+        link.setblocking(False)
+        try:
+            print(link.recvfrom(2048))
+        except BlockingIOError:
+            print("nothing")
+"""
+
+WATCHED = """import contextlib, select, subprocess, sys, time, xns
+def ip(words):
+    subprocess.run(["ip", "link", *words.split()], check=True)
+def plug():
+    for step in ("add one type veth peer name far", "set one up", "set far up"):
+        ip(step)
+def shown(name):
+    until = time.monotonic() + 25
+    with xns.ethernet("far") as far:
+        while time.monotonic() < until:
+            with contextlib.suppress(OSError):
+                far.sendto(name, b"there!")
+            if select.select([watching.stdout], [], [], 0.05)[0]:
+                if bytes.fromhex(watching.stdout.readline().decode()).startswith(name):
+                    return True
+plug()
+watching = subprocess.Popen([sys.executable, "-m", "xns.net", "watch", "-i", "one", "--hex"], stdout=subprocess.PIPE, bufsize=0)
+heard = [shown(b"first")]
+ip("del one")
+plug()
+heard += [shown(b"second")]
+watching.kill()
+watching.communicate()
+print(*heard)
+"""
+
+
 class ApartTest(unittest.TestCase):
     """What takes the right to a network of its own."""
 
@@ -295,7 +344,13 @@ class ApartTest(unittest.TestCase):
         self.assertEqual(self.told(SILENT), "it forgets and is left\nit is gone and is left\n")
 
     def test_an_interface_that_is_taken_away_and_put_back(self):
-        self.assertEqual(self.told(PLUGGED), "True True True True True\n")
+        self.assertEqual(self.told(PLUGGED), " ".join(9 * ["True"]) + "\n")
+
+    def test_a_frame_of_another_interface_before_the_link_is_bound(self):
+        self.assertEqual(self.told(EARLY), "nothing\n")
+
+    def test_a_watch_at_an_interface_that_is_taken_away_and_put_back(self):
+        self.assertEqual(self.told(WATCHED), "True True\n")
 
     def test_an_interface_that_is_renamed_is_the_same_one(self):
         """Once it is taken away, one of the name that was given is taken for it."""

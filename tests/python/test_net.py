@@ -77,7 +77,7 @@ def watched(frames):
         program = pathlib.Path(folder) / "xns"
         program.touch(0o700)
         try:
-            with mock.patch("xns._watch._opened", lambda interface: contextlib.nullcontext(frames)), mock.patch("xns._watch.program", lambda: str(program)):
+            with mock.patch("xns._watch._Frames", lambda interface: contextlib.nullcontext(frames)), mock.patch("xns._watch.program", lambda: str(program)):
                 yield program
         finally:
             for number, handler in handlers.items():
