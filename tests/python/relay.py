@@ -54,15 +54,25 @@ def send_all_kinds(place, own, server):
 
 
 class Counting:
-    """A carrier over a socket that counts how often it is asked for a packet."""
+    """A carrier of four methods, over a socket, that counts how often it is asked for a packet, and what it sends. While it is down nothing comes through, and
+    each call is an error."""
 
     def __init__(self, udp):
-        self._udp, self.asked = udp, 0
-        self.fileno, self.setblocking, self.sendto = udp.fileno, udp.setblocking, udp.sendto
+        self._udp, self.asked, self.sent, self.is_down = udp, 0, 0, False
+        self.fileno, self.setblocking = udp.fileno, udp.setblocking
 
     def recvfrom(self, size):
         self.asked += 1
-        return self._udp.recvfrom(size)
+        packet = self._udp.recvfrom(size)
+        if self.is_down:
+            raise OSError(100, "the network is down")
+        return packet
+
+    def sendto(self, packet, place):
+        self.sent += 1
+        if self.is_down:
+            raise OSError(100, "the network is down")
+        self._udp.sendto(packet, place)
 
 
 class Relay(threading.Thread):

@@ -4,13 +4,8 @@ import errno
 import unittest
 
 import xns
-from relay import LOCAL, Counting, Hub, bound
-
-SERVER, CLIENT = xns.Address(1, bytes.fromhex("0000aa000102"), 5), xns.Address(1, bytes.fromhex("0000aa000304"), 1024)
-
-
-def answers(call):
-    return xns.returns(call.words)
+from relay import LOCAL, Counting, Hub
+from servers import CLIENT, SERVER, OverUdp, answers
 
 
 class Breaking:
@@ -34,12 +29,7 @@ class Hearing(asyncio.DatagramProtocol):
         self.packets.put_nowait(data)
 
 
-class AsyncioTest(unittest.TestCase):
-    def setUp(self):
-        self.there, self.here = bound(), bound()
-        self.addCleanup(self.there.close)
-        self.addCleanup(self.here.close)
-
+class AsyncioTest(OverUdp):
     def test_a_carrier_that_fails_ends_who_waits(self):
         async def play():
             server = asyncio.ensure_future(xns.serve_async(Breaking(self.there), SERVER, [], answers))

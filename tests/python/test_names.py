@@ -1,8 +1,10 @@
-"""What the module refuses, how its errors and its help are named, and which places of packets it knows."""
+"""What the module refuses, how its errors and its help are named, that its names, numbers and texts are the header's, and which places of packets it knows."""
 import asyncio
 import collections
 import os
+import pathlib
 import pydoc
+import re
 import subprocess
 import sys
 import threading
@@ -10,6 +12,7 @@ import unittest
 
 import xns
 
+HEADER = (pathlib.Path(__file__).resolve().parents[2] / "include" / "xns.h").read_text(encoding="utf-8")
 SERVER, CLIENT = xns.Address(1, bytes.fromhex("0000aa000102"), 5), xns.Address(1, bytes.fromhex("0000aa000304"), 1024)
 
 
@@ -149,6 +152,52 @@ class TypesTest(unittest.TestCase):
             self.assertEqual(ended.returncode, 1)
             self.assertIn("LibraryError", ended.stderr.splitlines()[-1])
             self.assertIn(wanted, ended.stderr.splitlines()[-1])
+
+
+class HeaderTest(unittest.TestCase):
+    """What the module says is what include/xns.h says."""
+
+    def numbers(self, name, prefix):
+        body = re.search(r"enum %s \{(.*?)\n\};" % name, HEADER, re.S).group(1)
+        return {found: int(number) for found, number in re.findall(r"^    XNS_%s(\w+) = (\d+)" % prefix, body, re.M)}
+
+    def test_numbers(self):
+        for name, prefix, ours in (
+            ("xns_result", "", xns.Result),
+            ("xns_dropped", "", xns.Dropped),
+            ("xns_type", "TYPE_", xns.PacketType),
+            ("xns_stream", "STREAM_", xns.Stream),
+            ("xns_message_kind", "KIND_", xns.Kind),
+            ("xns_reject", "REJECT_", xns.Reject),
+            ("xns_control", "CONTROL_", xns.Control),
+            ("xns_closed", "CLOSED_", xns.Why),
+            ("xns_reason", "REASON_", xns.NotationReason),
+            ("xns_node_kind", "NODE_", xns._types.NodeKind),
+        ):
+            with self.subTest(name):
+                self.assertEqual({one.name: int(one) for one in ours}, self.numbers(name, prefix))
+        sizes = self.numbers("xns_size", "")
+        for name in ("LONGEST_PACKET", "LONGEST_ITEM", "MOST_WINDOW", "MOST_CALL_WORDS", "MOST_MESSAGE_WORDS"):
+            self.assertEqual(getattr(xns, name), sizes[name])
+
+    def test_calls(self):
+        declared = re.findall(r"^(?!static)[a-z][\w ]*[ *]xns_(\w+)\(", HEADER, re.M)
+        self.assertEqual(sorted(declared), sorted(xns._library.CALLS))
+
+    def test_version(self):
+        self.assertEqual(xns.version(), re.search(r'XNS_VERSION "(.*)"', HEADER).group(1))
+
+    def test_errors(self):
+        self.assertEqual(xns.NoMemoryError.result, xns.Result.NO_MEMORY)
+        self.assertTrue(issubclass(xns.WrongTransactionError, xns.XnsError))
+        body = re.search(r"\*xns_result_text\(.*?\n}", HEADER, re.S).group(0)
+        texts = dict(re.findall(r'case XNS_(\w+): return "(.*)";', body))
+        self.assertEqual({"OK", "NOTHING"} | {one.name for one in xns._errors.TEXTS}, set(texts))
+        self.assertTrue(all(texts[one.name] == text for one, text in xns._errors.TEXTS.items()))
+        body = re.search(r"\*xns_closed_text\(.*?\n}", HEADER, re.S).group(0)
+        self.assertEqual({one.name: text for one, text in xns._errors.CLOSED_TEXTS.items()}, dict(re.findall(r'case XNS_CLOSED_(\w+): return "(.*)";', body)))
+        body = re.search(r"\*xns_reason_text\(.*?\n}", HEADER, re.S).group(0)
+        self.assertEqual({one.name: str(one) for one in xns.NotationReason}, dict(re.findall(r'case XNS_REASON_(\w+): return "(.*)";', body)))
 
 
 if __name__ == "__main__":
