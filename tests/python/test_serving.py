@@ -1,6 +1,5 @@
 """`serve` and `Client` of the module, over UDP on this machine, in one process."""
 import contextlib
-import socket
 import threading
 import time
 import types
