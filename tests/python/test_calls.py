@@ -9,8 +9,7 @@ import unittest
 
 import xns
 from relay import Counting, bound
-
-SERVER, CLIENT = xns.Address(1, bytes.fromhex("0000aa000102"), 5), xns.Address(1, bytes.fromhex("0000aa000304"), 1024)
+from servers import CLIENT, SERVER
 
 
 def late(call):

@@ -101,7 +101,6 @@ class ClientsTest(OverUdp):
                 waits.wait(1.5)
                 self.assertEqual(waits.call(7, 1, 1, [6]).words, [6])
 
-    @unittest.skipUnless(threading.current_thread() is threading.main_thread(), "signals go to another thread")
     def stopped_beside_a_guest(self, stop):
         """A server with room for one connection is stopped: a client whose connection has the number of one before is told so."""
         with self.client() as first:
@@ -133,6 +132,7 @@ class ClientsTest(OverUdp):
         thread.join(10)
         self.assertFalse(thread.is_alive())
 
+    @unittest.skipUnless(threading.current_thread() is threading.main_thread(), "signals go to another thread")
     def test_ctrl_c_in_a_call(self):
         before = signal.signal(signal.SIGALRM, signal.default_int_handler)
         try:

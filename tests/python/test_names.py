@@ -11,9 +11,9 @@ import threading
 import unittest
 
 import xns
+from servers import CLIENT, SERVER
 
 HEADER = (pathlib.Path(__file__).resolve().parents[2] / "include" / "xns.h").read_text(encoding="utf-8")
-SERVER, CLIENT = xns.Address(1, bytes.fromhex("0000aa000102"), 5), xns.Address(1, bytes.fromhex("0000aa000304"), 1024)
 
 
 class Memory:

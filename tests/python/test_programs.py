@@ -14,12 +14,12 @@ import unittest
 
 import xns
 from relay import bound
+from servers import CLIENT, SERVER
 from test_tally import C, Serving, total
 from xns import _types
 
 EXAMPLES = pathlib.Path(__file__).resolve().parents[2] / "examples"
 TALLY = EXAMPLES / "courier" / "tally.courier"
-SERVER, CLIENT = xns.Address(1, bytes.fromhex("0000aa000102"), 5), xns.Address(1, bytes.fromhex("0000aa000304"), 1024)
 OLD_TALLY = b"Tally: PROGRAM 7 VERSION 1 = BEGIN Add: PROCEDURE [amount: CARDINAL] RETURNS [total: LONG CARDINAL] = 1; END."
 SHAPES = b"""Shapes: PROGRAM 4660 VERSION 2 =
 BEGIN

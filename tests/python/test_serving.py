@@ -7,9 +7,9 @@ import unittest
 
 import xns
 from relay import LOCAL, Peer, bound, send_all_kinds
+from servers import CLIENT, SERVER
 from xns._serving import Replies
 
-SERVER, CLIENT = xns.Address(1, bytes.fromhex("0000aa000102"), 5), xns.Address(1, bytes.fromhex("0000aa000304"), 1024)
 PROGRAMS = [(7, 1, 2)]
 QUICK = {"first_wait": 50, "longest_wait": 200, "tries": 5, "patience": 950, "idle": 500}  # asked after half a second, and silent after one more
 

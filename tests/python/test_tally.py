@@ -14,6 +14,7 @@ import unittest
 
 import xns
 from relay import Hub, Peer, Relay, await_echo, bound, send_all_kinds
+from servers import CLIENT, SERVER
 
 TALLY = [sys.executable, str(pathlib.Path(__file__).resolve().parents[2] / "examples" / "python" / "tally.py")]
 PYTHON = [*TALLY, "serve"], [*TALLY, "add"]
@@ -23,7 +24,6 @@ BOTH = [PYTHON, C] if C else [PYTHON]
 VALGRIND = ["valgrind", "-q", "--leak-check=full", "--show-leak-kinds=all", "--error-exitcode=9"]
 CALLS = int(os.environ.get("TALLY_CALLS", "30"))
 CLIENTS = 20
-SERVER, CLIENT = xns.Address(1, bytes.fromhex("0000aa000102"), 5), xns.Address(1, bytes.fromhex("0000aa000304"), 1024)
 
 
 def started(client, port, numbers, **more):
