@@ -3,7 +3,7 @@ import contextlib
 import logging
 import socket
 import threading
-from typing import Any, Callable, Dict, Iterable, Iterator, Optional, Set, Tuple, Union
+from typing import Any, Callable, Dict, Iterable, Optional, Set, Tuple, Union
 
 from ._errors import ArgumentsError, ClosingError, NoCallError, NoConnectionError, NoMemoryError, XnsError
 from ._library import address_of
@@ -58,7 +58,7 @@ class Replies:
             self._host.close(now, call.number)
 
     def _put(self, now: int, call: Call, reply: Reply) -> None:
-        if isinstance(reply, tuple) and any(isinstance(one, Iterator) for one in reply):  # it gives its words once
+        if isinstance(reply, tuple) and len(reply) == 3 and hasattr(reply[1], "__next__"):  # it gives its words once
             reply = _copied(reply)
         try:
             self._host.answer(now, call.number, reply)
@@ -67,9 +67,10 @@ class Replies:
 
     def give_kept(self, now: int) -> None:
         """Gives what is kept, or keeps it on. Is called at each turn: one comes within a second."""
-        kept, self._kept = self._kept, {}
-        for call, reply in kept.values():
-            self.give(now, call, reply)
+        if self._kept:
+            kept, self._kept = self._kept, {}
+            for call, reply in kept.values():
+                self.give(now, call, reply)
 
     def forget(self, number: int) -> None:
         """Lets go what is kept for a connection that is closed: the number may be another one's by now."""
