@@ -4,7 +4,7 @@ use Rattle.std.specs.Prelude.{slice_get, if◌then◌else◌, ◌||◌, ◌&&◌
 use Rattle.std.proofs.lemmas.Bool.{lt-ltb, ltb-true}
 use Rattle.circular_buffer.proofs.Places.{slice_get-some}
 use Rattle.xns_spp.proofs.Deciding.{after_packet, after_bytes}
-use Rattle.xns_spp.proofs.Telling.{resend_first_item}
+use Rattle.xns_spp.proofs.Telling.{first_of, resend_first_item}
 use Rattle.xns_spp.specs.Ends.{is_open}
 use Rattle.xns_spp.specs.Header.{acknowledge_bit, attention_bit, message_end_bit, has_bit, probe_control, wants_reply}
 use Rattle.xns_spp.specs.Packet.{SppPacketModel, spp_packet_of}
@@ -28,14 +28,6 @@ item_asks false false = refl
 
 data_asks : (s : State) (i : ℕ) (x : Item) → wants_reply (data_packet s i x).header ≡ true
 data_asks s i x = ap (λ (b : Bool). b || s.ends.peer_id == 0) (item_asks x.attention x.last)
-
-abbrev first_of : State → Bool → Bool → Bool → Option SppPacketModel
-first_of s ready some left =
-    slice_get
-    (if not ready then system_packet s probe_control ∷ []
-    else if some then packets_from s s.acknowledged
-    else if left then system_packet s probe_control ∷ []
-    else []) 0
 
 -- a tick asks, by whether the end is open, and whether the item may go out
 asks_by : (s : State) (ready some : Bool) → is_open s.ends ≡ ready → nat_lt s.acknowledged (send_limit s) ≡ some

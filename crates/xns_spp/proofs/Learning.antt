@@ -3,6 +3,7 @@ use Rattle.std.proofs.Common.{◌≡◌, ℕ, ◌<◌, Bool, true, false, not, L
 use Rattle.std.specs.Prelude.{Option, Some, None, Result, Ok, Err, if◌then◌else◌, ◌==◌}
 use Rattle.std.proofs.lemmas.Bool.{eqb-true}
 use Rattle.xns_spp.proofs.Deciding.{after_packet, after_bytes}
+use Rattle.xns_spp.proofs.Heard.{not_zero}
 use Rattle.xns_spp.specs.Ends.{IsEnds, is_open}
 use Rattle.xns_spp.specs.Packet.{SppPacketModel, spp_packet_of}
 use Rattle.xns_spp.specs.Receiving.{arrival_fault, after_receive}
@@ -21,9 +22,5 @@ bytes_learn s (Ok p) there = packet_learns s p (arrival_fault s p) there
 pub open_stays : (s : State) (b : List ℕ) → is_open s.ends ≡ true → (after_receive s b).ends ≡ s.ends
 open_stays s b there = bytes_learn s (spp_packet_of b) there
 
-known : (n : ℕ) (b : Bool) → (n == 0) ≡ b → 0 < n → not b ≡ true
-known n true test h = let none : n ≡ 0 = eqb-true n 0 test in absurd (omega arith)
-known n false test h = refl
-
 pub responder_stays : (s : State) (b : List ℕ) → IsEnds s.ends → s.ends.role ≡ Responder → (after_receive s b).ends ≡ s.ends
-responder_stays s b fits is = open_stays s b (known s.ends.peer_id (s.ends.peer_id == 0) refl (fits.peer_known is))
+responder_stays s b fits is = open_stays s b (not_zero s.ends.peer_id (fits.peer_known is))

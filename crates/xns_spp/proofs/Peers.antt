@@ -3,7 +3,7 @@ use Rattle.std.proofs.Common.{◌≡◌, ◌⊎◌, inl, inr, ℕ, Bool, true, f
 use Rattle.std.specs.Prelude.{if◌then◌else◌, ◌==◌, ◌&&◌, ◌||◌}
 use Rattle.std.specs.Str.{bytes_eq}
 use Rattle.std.specs.Cmp.Lexicographic.{bytes_decides}
-use Rattle.std.proofs.lemmas.Bool.{eq-eqb}
+use Rattle.std.proofs.lemmas.Bool.{eq-eqb, and_from, or_left, or_right}
 use Rattle.xns_idp.specs.Packet.{same_place}
 use Rattle.xns_idp.specs.declared.address.Address.{Address}
 use Rattle.xns_spp.proofs.Heard.{not_zero}
@@ -32,22 +32,9 @@ own_named s t p (inr i) = subst (IsNamed s.ends) (sym i.is) (item_named s i.numb
 
 -- ---- a packet of the peer's own is of the connection
 
-and_true : (p q : Bool) → p ≡ true → q ≡ true → (p && q) ≡ true
-and_true true true left right = refl
-and_true true false left right = absurd (cc)
-and_true false q left right = absurd (cc)
-
-or_left : (p q : Bool) → p ≡ true → (p || q) ≡ true
-or_left true q is = refl
-or_left false q is = absurd (cc)
-
-or_right : (p q : Bool) → q ≡ true → (p || q) ≡ true
-or_right true q is = refl
-or_right false q is = is
-
 one_place : (a b : Address) → a ≡ b → same_place a b ≡ true
 one_place a b is =
-    and_true (bytes_eq a.host b.host) (a.socket == b.socket) ((bytes_decides a.host b.host).1 (ap (λ (x : Address). x.host) is)) (eq-eqb a.socket b.socket (ap (λ (x : Address). x.socket) is))
+    and_from (bytes_eq a.host b.host) (a.socket == b.socket) ((bytes_decides a.host b.host).1 (ap (λ (x : Address). x.host) is)) (eq-eqb a.socket b.socket (ap (λ (x : Address). x.socket) is))
 
 -- an end that was made for its peer knows it
 knows_by : (e f : Ends) → IsEnds e → e.role ≡ Responder → (e.peer_id ≡ 0) ⊎ (e.peer_id ≡ f.id) → e.peer_id ≡ f.id
@@ -64,9 +51,9 @@ for_responder : (e f : Ends) (p : SppPacketModel) → IsEnds f → IsLinked e f 
 for_responder e f p fits to back named is =
     let unnamed : e.peer_id ≡ 0 → to_responder f.id p ≡ true = λ none. or_right (p.header.target_id == f.id) (p.header.target_id == 0) (eq-eqb p.header.target_id 0 (named.target_id ∙ none)) in
     let meant : e.peer_id ≡ f.id → to_responder f.id p ≡ true = λ same. or_left (p.header.target_id == f.id) (p.header.target_id == 0) (eq-eqb p.header.target_id f.id (named.target_id ∙ same)) in
-    and_true (to_responder f.id p) (from_peer f p)
+    and_from (to_responder f.id p) (from_peer f p)
     (elim (to.peer_id) as (λ o. to_responder f.id p ≡ true) [ inl none ↦ unnamed none | inr same ↦ meant same ])
-    (and_true (same_place p.source f.peer) (p.header.source_id == f.peer_id)
+    (and_from (same_place p.source f.peer) (p.header.source_id == f.peer_id)
     (one_place p.source f.peer (named.source ∙ sym back.peer))
     (eq-eqb p.header.source_id f.peer_id (named.source_id ∙ sym (knows_by f e fits is back.peer_id))))
 
@@ -76,17 +63,17 @@ not_both e f is (inr r) = absurd (cc)
 
 heard_of : (e f : Ends) (p : SppPacketModel) (b : Bool) → is_open f ≡ b → IsEnds e → IsLinked f e → IsNamed e p → (if b then from_peer f p else from_host f p) ≡ true
 heard_of e f p true ready fits back named =
-    and_true (same_place p.source f.peer) (p.header.source_id == f.peer_id)
+    and_from (same_place p.source f.peer) (p.header.source_id == f.peer_id)
     (one_place p.source f.peer (named.source ∙ sym back.peer))
     (eq-eqb p.header.source_id f.peer_id (named.source_id ∙ sym (known_by f e ready back.peer_id)))
 heard_of e f p false ready fits back named =
-    and_true (bytes_eq p.source.host f.peer.host) (not (p.header.source_id == 0))
+    and_from (bytes_eq p.source.host f.peer.host) (not (p.header.source_id == 0))
     ((bytes_decides p.source.host f.peer.host).1 (ap (λ (x : Address). x.host) (named.source ∙ sym back.peer)))
     (subst (λ (n : ℕ). not (n == 0) ≡ true) (sym named.source_id) (not_zero e.id fits.id_known))
 
 for_initiator : (e f : Ends) (p : SppPacketModel) → IsEnds e → IsLinked e f → IsLinked f e → IsNamed e p → f.role ≡ Initiator → (p.header.target_id == f.id && (if is_open f then from_peer f p else from_host f p)) ≡ true
 for_initiator e f p fits to back named is =
-    and_true (p.header.target_id == f.id) (if is_open f then from_peer f p else from_host f p)
+    and_from (p.header.target_id == f.id) (if is_open f then from_peer f p else from_host f p)
     (eq-eqb p.header.target_id f.id (named.target_id ∙ knows_by e f fits (not_both e f is to.one) to.peer_id))
     (heard_of e f p (is_open f) refl fits back named)
 
@@ -96,4 +83,4 @@ meant_by e f p Initiator e_fits fits to back named is = for_initiator e f p e_fi
 
 pub its_own : (e f : Ends) (p : SppPacketModel) → IsEnds e → IsEnds f → IsLinked e f → IsLinked f e → IsNamed e p → is_ours_at f p ≡ true
 its_own e f p e_fits fits to back named =
-    and_true (same_place p.target f.own) (is_meant f.role f p) (one_place p.target f.own (named.target ∙ to.peer)) (meant_by e f p f.role e_fits fits to back named refl)
+    and_from (same_place p.target f.own) (is_meant f.role f p) (one_place p.target f.own (named.target ∙ to.peer)) (meant_by e f p f.role e_fits fits to back named refl)
