@@ -1,21 +1,24 @@
 -- Fields as single bytes.
-use Rattle.std.proofs.Common.{◌≡◌, ℕ, Bool, true, false, nat_eq, List, [], ◌∷◌, ◌++◌, length, get_or, refl, sym, ap, ◌∙◌, arith}
+use Rattle.std.proofs.Common.{◌≡◌, ℕ, zero, suc, ◌+◌, Bool, true, false, nat_eq, List, [], ◌∷◌, ◌++◌, length, get_or, drop, refl, sym, ap, ◌∙◌, arith}
+use Rattle.std.proofs.Math.Seq.{drop-cons}
+use Rattle.std.proofs.lemmas.List.{drop_all}
 use Rattle.std.specs.Int.{w16, w32, to_be_bytes}
 use Rattle.std.specs.Prelude.{◌&&◌}
 use Rattle.std.specs.Str.{bytes_eq}
 use Rattle.xns_idp.specs.Packet.{address_bytes}
 use Rattle.xns_idp.specs.declared.address.Address.{Address}
 
--- six bytes, one by one
+-- the n bytes from a place on, one by one
+abbrev cells_from : ℕ → ℕ → List ℕ → List ℕ
+cells_from zero i h = []
+cells_from (suc n) i h = get_or h i 0 ∷ cells_from n (suc i) h
+
+all_cells : (n i : ℕ) (h : List ℕ) → length h ≡ i + n → cells_from n i h ≡ drop i h
+all_cells zero i h is = sym (drop_all i h (omega (arith, is)))
+all_cells (suc n) i h is = ap (λ (xs : List ℕ). get_or h i 0 ∷ xs) (all_cells n (suc i) h (omega (arith, is))) ∙ sym (drop-cons h i 0 (omega (arith, is)))
+
 pub six_cells : (h : List ℕ) → length h ≡ 6 → h ≡ get_or h 0 0 ∷ get_or h 1 0 ∷ get_or h 2 0 ∷ get_or h 3 0 ∷ get_or h 4 0 ∷ get_or h 5 0 ∷ []
-six_cells [] e = absurd (omega (arith, e))
-six_cells (a ∷ []) e = absurd (omega (arith, e))
-six_cells (a ∷ b ∷ []) e = absurd (omega (arith, e))
-six_cells (a ∷ b ∷ c ∷ []) e = absurd (omega (arith, e))
-six_cells (a ∷ b ∷ c ∷ d ∷ []) e = absurd (omega (arith, e))
-six_cells (a ∷ b ∷ c ∷ d ∷ f ∷ []) e = absurd (omega (arith, e))
-six_cells (a ∷ b ∷ c ∷ d ∷ f ∷ g ∷ []) e = refl
-six_cells (a ∷ b ∷ c ∷ d ∷ f ∷ g ∷ x ∷ xs) e = absurd (omega (arith, e))
+six_cells h six = sym (all_cells 6 0 h six)
 
 pub address_cells : (a : Address) (n s : List ℕ) → length a.host ≡ 6 → n ≡ to_be_bytes w32 a.network → s ≡ to_be_bytes w16 a.socket
     → get_or n 0 0 ∷ get_or n 1 0 ∷ get_or n 2 0 ∷ get_or n 3 0 ∷ get_or a.host 0 0 ∷ get_or a.host 1 0 ∷ get_or a.host 2 0 ∷ get_or a.host 3 0 ∷ get_or a.host 4 0 ∷ get_or a.host 5 0 ∷ get_or s 0 0 ∷ get_or s 1 0 ∷ [] ≡ address_bytes a
@@ -24,33 +27,16 @@ address_cells a n s six en es =
     ∙ ap (λ (m : List ℕ). to_be_bytes w32 a.network ++ (get_or a.host 0 0 ∷ get_or a.host 1 0 ∷ get_or a.host 2 0 ∷ get_or a.host 3 0 ∷ get_or a.host 4 0 ∷ get_or a.host 5 0 ∷ get_or m 0 0 ∷ get_or m 1 0 ∷ [])) es
     ∙ ap (λ (h : List ℕ). to_be_bytes w32 a.network ++ h ++ to_be_bytes w16 a.socket) (sym (six_cells a.host six))
 
--- twelve bytes, one by one
 abbrev twelve_of : List ℕ → List ℕ
-twelve_of h = get_or h 0 0 ∷ get_or h 1 0 ∷ get_or h 2 0 ∷ get_or h 3 0 ∷ get_or h 4 0 ∷ get_or h 5 0 ∷ get_or h 6 0 ∷ get_or h 7 0 ∷ get_or h 8 0 ∷ get_or h 9 0 ∷ get_or h 10 0 ∷ get_or h 11 0 ∷ []
-
-twelve_cells : (h : List ℕ) → length h ≡ 12 → twelve_of h ≡ h
-twelve_cells [] is = absurd (omega (arith, is))
-twelve_cells (a ∷ []) is = absurd (omega (arith, is))
-twelve_cells (a ∷ b ∷ []) is = absurd (omega (arith, is))
-twelve_cells (a ∷ b ∷ c ∷ []) is = absurd (omega (arith, is))
-twelve_cells (a ∷ b ∷ c ∷ d ∷ []) is = absurd (omega (arith, is))
-twelve_cells (a ∷ b ∷ c ∷ d ∷ e ∷ []) is = absurd (omega (arith, is))
-twelve_cells (a ∷ b ∷ c ∷ d ∷ e ∷ f ∷ []) is = absurd (omega (arith, is))
-twelve_cells (a ∷ b ∷ c ∷ d ∷ e ∷ f ∷ g ∷ []) is = absurd (omega (arith, is))
-twelve_cells (a ∷ b ∷ c ∷ d ∷ e ∷ f ∷ g ∷ h ∷ []) is = absurd (omega (arith, is))
-twelve_cells (a ∷ b ∷ c ∷ d ∷ e ∷ f ∷ g ∷ h ∷ i ∷ []) is = absurd (omega (arith, is))
-twelve_cells (a ∷ b ∷ c ∷ d ∷ e ∷ f ∷ g ∷ h ∷ i ∷ j ∷ []) is = absurd (omega (arith, is))
-twelve_cells (a ∷ b ∷ c ∷ d ∷ e ∷ f ∷ g ∷ h ∷ i ∷ j ∷ k ∷ []) is = absurd (omega (arith, is))
-twelve_cells (a ∷ b ∷ c ∷ d ∷ e ∷ f ∷ g ∷ h ∷ i ∷ j ∷ k ∷ l ∷ []) is = refl
-twelve_cells (a ∷ b ∷ c ∷ d ∷ e ∷ f ∷ g ∷ h ∷ i ∷ j ∷ k ∷ l ∷ x ∷ xs) is = absurd (omega (arith, is))
+twelve_of h = cells_from 12 0 h
 
 -- a header: the length field, the control and the type, and two addresses
 pub header_cells : (n t s front target source : List ℕ) (control kind : ℕ) → n ≡ front → length t ≡ 12 → length s ≡ 12 → t ≡ target → s ≡ source
     → 0 ∷ 0 ∷ get_or n 0 0 ∷ get_or n 1 0 ∷ control ∷ kind ∷ twelve_of t ++ twelve_of s ≡ 0 ∷ 0 ∷ get_or front 0 0 ∷ get_or front 1 0 ∷ control ∷ kind ∷ target ++ source
 header_cells n t s front target source control kind en tl sl et es =
     ap (λ (m : List ℕ). 0 ∷ 0 ∷ get_or m 0 0 ∷ get_or m 1 0 ∷ control ∷ kind ∷ twelve_of t ++ twelve_of s) en
-    ∙ (ap (λ (x : List ℕ). 0 ∷ 0 ∷ get_or front 0 0 ∷ get_or front 1 0 ∷ control ∷ kind ∷ x ++ twelve_of s) (twelve_cells t tl ∙ et)
-    ∙ ap (λ (x : List ℕ). 0 ∷ 0 ∷ get_or front 0 0 ∷ get_or front 1 0 ∷ control ∷ kind ∷ target ++ x) (twelve_cells s sl ∙ es))
+    ∙ (ap (λ (x : List ℕ). 0 ∷ 0 ∷ get_or front 0 0 ∷ get_or front 1 0 ∷ control ∷ kind ∷ x ++ twelve_of s) (all_cells 12 0 t tl ∙ et)
+    ∙ ap (λ (x : List ℕ). 0 ∷ 0 ∷ get_or front 0 0 ∷ get_or front 1 0 ∷ control ∷ kind ∷ target ++ x) (all_cells 12 0 s sl ∙ es))
 
 together : (p q r s t u : Bool) → (((((p && q) && r) && s) && t) && u) ≡ (p && (q && (r && (s && (t && (u && true))))))
 together false q r s t u = refl

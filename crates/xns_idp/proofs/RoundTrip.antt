@@ -1,5 +1,5 @@
 -- Bytes spell the packet that is read in them, and a packet that they spell is read in them.
-use Rattle.std.proofs.Common.{◌≡◌, ℕ, ◌+◌, ◌-◌, ◌*◌, ◌/◌, ◌%◌, ◌^◌, ◌<◌, ◌≤◌, Bool, true, false, not, cond, eqb, ltb, if◌then◌else◌, List, [], ◌∷◌, ◌++◌, length, get_or, take, drop, replicate, Option, Some, None, Result, Ok, Err, ◌⊎◌, inl, inr, refl, sym, ap, subst, ◌∙◌, append_assoc, arith, lit<}
+use Rattle.std.proofs.Common.{◌≡◌, ℕ, ◌+◌, ◌-◌, ◌*◌, ◌/◌, ◌%◌, ◌<◌, ◌≤◌, Bool, true, false, not, cond, eqb, ltb, if◌then◌else◌, List, [], ◌∷◌, ◌++◌, length, get_or, take, drop, replicate, Option, Some, None, Result, Ok, Err, ◌⊎◌, inl, inr, refl, sym, ap, subst, ◌∙◌, append_assoc, arith, lit<}
 use Rattle.std.specs.Prelude.{slice_range, IfOk, IfErr}
 use Rattle.std.specs.Int.{w16, w32, to_be_bytes}
 use Rattle.std.proofs.lemmas.Bool.{ltb-false, le-ltb, eqb-true, eq-eqb, ne_eqb, cases_Bool, not-true}
@@ -13,6 +13,7 @@ use Rattle.xns_idp.specs.declared.packet.Packet.{Packet}
 use Rattle.xns_idp.specs.declared.fault.IdpFault.{IdpFault}
 use Rattle.xns_idp.specs.declared.fault.IdpFault.TheVariants.{Short, LengthSmall, LengthLarge, Cut, BadSum}
 use Rattle.xns_idp.proofs.Cells.{six_cells}
+use Rattle.xns_idp.proofs.Numbers.{word_back, long_back}
 use Rattle.xns_idp.proofs.Slices.{slice-join, slice_two, byte_below, word_below, word_slice, address_slice}
 
 pub record NoFault (b : List ℕ) : Type 0 where
@@ -175,12 +176,6 @@ spelled_cells p garbage rest sum six six' es =
     ∙ ap (λ (h : List ℕ). to_be_bytes w16 sum ++ (n ++ (p.control ∷ p.kind ∷ []) ++ (to_be_bytes w32 p.target.network ++ h ++ to_be_bytes w16 p.target.socket) ++ address_bytes p.source ++ p.body ++ garbage) ++ rest) (six_cells p.target.host six)
     ∙ ap (λ (h : List ℕ). to_be_bytes w16 sum ++ (n ++ (p.control ∷ p.kind ∷ []) ++ address_and p.target [] ++ (to_be_bytes w32 p.source.network ++ h ++ to_be_bytes w16 p.source.socket) ++ p.body ++ garbage) ++ rest) (six_cells p.source.host six')
     ∙ ap (λ (xs : List ℕ). header_and sum (30 + length p.body) p xs) (append_assoc p.body garbage rest)
-
-word_back : (n : ℕ) → n < 65536 → 256 * (n / 256 % 256) + n % 256 ≡ n
-word_back n h = omega arith
-
-long_back : (n : ℕ) → n < 2 ^ 32 → 65536 * (256 * (n / 16777216 % 256) + n / 65536 % 256) + (256 * (n / 256 % 256) + n % 256) ≡ n
-long_back n h = omega arith
 
 address_is : (a b : Address) → a.network ≡ b.network → a.host ≡ b.host → a.socket ≡ b.socket → a ≡ b
 address_is a b n h s =

@@ -1,9 +1,10 @@
 -- Parts of a list from place to place, and the fields that are read there.
-use Rattle.std.proofs.Common.{◌≡◌, ℕ, suc, ◌+◌, ◌-◌, ◌*◌, ◌/◌, ◌%◌, ◌<◌, ◌≤◌, List, [], ◌∷◌, ◌++◌, length, get_or, take, drop, refl, sym, ap, ◌∙◌, arith, add-one}
+use Rattle.std.proofs.Common.{◌≡◌, ℕ, suc, ◌+◌, ◌-◌, ◌<◌, ◌≤◌, List, [], ◌∷◌, ◌++◌, length, get_or, take, drop, refl, sym, ap, ◌∙◌, arith, add-one}
 use Rattle.std.specs.Prelude.{slice_range}
 use Rattle.std.specs.Int.{w16, w32, to_be_bytes}
 use Rattle.std.proofs.Math.Seq.{take-add, drop-cons}
 use Rattle.std.proofs.lemmas.List.{drop-drop}
+use Rattle.xns_idp.proofs.Numbers.{two_bytes, four_bytes}
 use Rattle.xns_idp.specs.Packet.{AreBytes, address_bytes}
 use Rattle.xns_idp.specs.Reading.{word_at, long_at, address_at}
 
@@ -29,21 +30,6 @@ slice_two b i j e h =
     slice-cons b i j (omega (arith, e)) (omega (arith, e)) ∙ ap (λ (xs : List ℕ). get_or b i 0 ∷ xs)
     (slice-cons b (suc i) j (omega (arith, e)) (omega (arith, e)) ∙ ap (λ (xs : List ℕ). get_or b (suc i) 0 ∷ xs) (slice-nil b (suc (suc i)) j (omega (arith, e))))
     ∙ ap (λ (n : ℕ). get_or b i 0 ∷ get_or b n 0 ∷ []) (sym (add-one i))
-
--- numbers as bytes
-two_bytes : (x y : ℕ) → x < 256 → y < 256 → to_be_bytes w16 (256 * x + y) ≡ x ∷ y ∷ []
-two_bytes x y hx hy =
-    let high : (256 * x + y) / 256 % 256 ≡ x = omega arith in
-    let low : (256 * x + y) % 256 ≡ y = omega arith in
-    rw (high, low) refl
-
-four_bytes : (m n : ℕ) → m < 65536 → n < 65536 → to_be_bytes w32 (65536 * m + n) ≡ to_be_bytes w16 m ++ to_be_bytes w16 n
-four_bytes m n hm hn =
-    let a : (65536 * m + n) / 16777216 % 256 ≡ m / 256 % 256 = omega arith in
-    let b : (65536 * m + n) / 65536 % 256 ≡ m % 256 = omega arith in
-    let c : (65536 * m + n) / 256 % 256 ≡ n / 256 % 256 = omega arith in
-    let d : (65536 * m + n) % 256 ≡ n % 256 = omega arith in
-    rw (a, b, c, d) refl
 
 pub byte_below : (b : List ℕ) (i : ℕ) → AreBytes b → i < length b → get_or b i 0 < 256
 byte_below b i fits h = fits i 0 h

@@ -1,5 +1,5 @@
 -- Packets, and the bytes that spell them (XSIS 028112, Internet Datagram Protocol, Packet Format).
-use Rattle.std.specs.Prelude.{◌≡◌, ℕ, ◌+◌, ◌%◌, ◌<◌, ◌≤◌, ◌^◌, All, Bool, ◌&&◌, ◌==◌, if◌then◌else◌, List, [], ◌∷◌, ◌++◌, length, take}
+use Rattle.std.specs.Prelude.{◌≡◌, ℕ, ◌+◌, ◌%◌, ◌<◌, ◌≤◌, ◌^◌, All, Bool, true, ◌&&◌, ◌==◌, if◌then◌else◌, List, [], ◌∷◌, ◌++◌, length, take}
 use Rattle.std.specs.Prelude.{replicate}
 use Rattle.std.specs.Int.{w16, w32, to_be_bytes}
 use Rattle.std.specs.Str.{bytes_eq}
@@ -19,6 +19,10 @@ pub record PacketModel : Type 0 where
 
 abbrev pub packet_model : Packet → PacketModel
 packet_model p = record { summed = p.summed; control = p.control; kind = p.kind; target = p.target; source = p.source; body = p.body.now }
+
+-- a packet of this type from `source` to `target` that is made to be sent: it is summed, and its transport control is 0
+abbrev pub new_packet : ℕ → Address → Address → List ℕ → PacketModel
+new_packet kind source target body = record { summed = true; control = 0; kind = kind; target = target; source = source; body = body }
 
 -- the packet with more data behind its own
 abbrev pub with_data_behind : PacketModel → List ℕ → PacketModel

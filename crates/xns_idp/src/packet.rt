@@ -1,6 +1,7 @@
 //! Packets, and how many bytes they have at most.
 
-ghost use Rattle.xns_idp.specs.Packet.{IsPacket, packet_model};
+ghost use Rattle.std.specs.Prelude.{◌≡◌};
+ghost use Rattle.xns_idp.specs.Packet.{IsPacket, new_packet, packet_model};
 
 use crate::address::Address;
 use crate::known::known_bytes;
@@ -39,7 +40,22 @@ pub struct Packet<'a> {
     pub body: &'a [u8],
 }
 
-impl Packet<'_> {
+impl<'a> Packet<'a> {
+    /// A packet to be sent: it has a checksum, and its transport control is 0.
+    #[inline(always)]
+    pub fn new(kind: u8, source: Address, target: Address, body: &'a [u8]) -> Packet<'a>
+        ensures { packet_model result ≡ new_packet kind source target body.now }
+    {
+        Packet {
+            summed: true,
+            control: 0,
+            kind,
+            target,
+            source,
+            body,
+        }
+    }
+
     /// Does nothing; says to a proof that the numbers of a packet are within their types' bounds.
     pub fn known(&self)
         ensures { IsPacket (packet_model self.now) }

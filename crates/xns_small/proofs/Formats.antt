@@ -6,19 +6,18 @@ use Rattle.xns_small.specs.Reading.{answer_model, unless_short}
 use Rattle.xns_small.specs.declared.fault.SmallFault.{SmallFault}
 use Rattle.xns_small.specs.declared.fault.SmallFault.TheVariants.{Short}
 
--- a format whose fields take `least` bytes: a reader finds the fields, unless there are fewer bytes; a value that fits
--- is spelled by at least so many bytes, and has the fields of its spelling; so many bytes or more spell their fields
-pub record IsFormat {M : Type 0} (Fits : M → Type 0) (spelling : M → List ℕ) (reads : List ℕ → Result M SmallFault) (least : ℕ) (fields : List ℕ → M) : Type 0 where
-  pub reading : (bytes : List ℕ) → reads bytes ≡ unless_short least bytes (fields bytes)
+-- a format whose fields take `least` bytes: a value that fits is spelled by at least so many bytes, and has the fields of its
+-- spelling; so many bytes or more spell their fields
+pub record IsFormat {M : Type 0} (Fits : M → Type 0) (spelling : M → List ℕ) (least : ℕ) (fields : List ℕ → M) : Type 0 where
   pub long : (v : M) → Fits v → least ≤ length (spelling v)
   pub back : (v : M) → Fits v → fields (spelling v) ≡ v
   pub front : (bytes : List ℕ) → ((i : ℕ) → get_or bytes i 0 < 256) → least ≤ length bytes → bytes ≡ spelling (fields bytes)
 
 -- what is spelled is read
-pub spelled_is_read : {M : Type 0} {Fits : M → Type 0} {spelling : M → List ℕ} {reads : List ℕ → Result M SmallFault} {least : ℕ} {fields : List ℕ → M}
-    → IsFormat Fits spelling reads least fields → (v : M) → Fits v → reads (spelling v) ≡ Ok v
-spelled_is_read {M} {Fits} {spelling} {reads} {least} {fields} format v fits =
-    format.reading (spelling v) ∙ rw (le-ltb (length (spelling v)) least (format.long v fits), format.back v fits) refl
+pub spelled_is_read : {M : Type 0} {Fits : M → Type 0} {spelling : M → List ℕ} {least : ℕ} {fields : List ℕ → M}
+    → IsFormat Fits spelling least fields → (v : M) → Fits v → unless_short least (spelling v) (fields (spelling v)) ≡ Ok v
+spelled_is_read {M} {Fits} {spelling} {least} {fields} format v fits =
+    rw (le-ltb (length (spelling v)) least (format.long v fits), format.back v fits) refl
 
 -- where the fields are read, there are bytes for them
 long_enough : {M : Type 0} (least : ℕ) (bytes : List ℕ) (fields v : M) → unless_short least bytes fields ≡ Ok v → (least ≤ length bytes) × (fields ≡ v)
@@ -29,9 +28,10 @@ long_enough {M} least bytes fields v read = by_test (nat_lt (length bytes) least
     by_test false long h = (ltb-false (length bytes) least long, cc)
 
 -- what is read is spelled
-pub read_is_spelled : {V M : Type 0} {Fits : M → Type 0} {spelling : M → List ℕ} {reads : List ℕ → Result M SmallFault} {least : ℕ} {fields : List ℕ → M}
-    → IsFormat Fits spelling reads least fields → (model : V → M) (bytes : List ℕ) (r : Result V SmallFault) → ((i : ℕ) → get_or bytes i 0 < 256) → answer_model model r ≡ reads bytes
+pub read_is_spelled : {V M : Type 0} {Fits : M → Type 0} {spelling : M → List ℕ} {least : ℕ} {fields : List ℕ → M}
+    → IsFormat Fits spelling least fields → (model : V → M) (bytes : List ℕ) (r : Result V SmallFault) → ((i : ℕ) → get_or bytes i 0 < 256)
+    → answer_model model r ≡ unless_short least bytes (fields bytes)
     → IfOk r (λ v. bytes ≡ spelling (model v))
-read_is_spelled {V} {M} {Fits} {spelling} {reads} {least} {fields} format model bytes (Ok v) fits e =
-    let read = long_enough least bytes (fields bytes) (model v) (sym (e ∙ format.reading bytes)) in format.front bytes fits read.0 ∙ ap spelling read.1
+read_is_spelled {V} {M} {Fits} {spelling} {least} {fields} format model bytes (Ok v) fits e =
+    let read = long_enough least bytes (fields bytes) (model v) (sym e) in format.front bytes fits read.0 ∙ ap spelling read.1
 read_is_spelled format model bytes (Err f) fits e = tt

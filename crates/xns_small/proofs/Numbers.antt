@@ -1,14 +1,8 @@
 -- Numbers of two and four bytes, and the bytes of a number.
-use Rattle.std.proofs.Common.{◌≡◌, ℕ, zero, suc, ◌+◌, ◌*◌, ◌/◌, ◌%◌, ◌^◌, ◌<◌, ◌≤◌, List, [], ◌∷◌, ◌++◌, length, drop, get_or, refl, sym, ap, arith}
+use Rattle.std.proofs.Common.{◌≡◌, ℕ, zero, suc, ◌+◌, ◌*◌, ◌/◌, ◌%◌, ◌<◌, ◌≤◌, List, [], ◌∷◌, ◌++◌, length, drop, get_or, refl, sym, ap, arith}
 use native.Mathlib.Numerals.{unary_clauses}
 use Rattle.std.specs.Int.{w16, w32, to_be_bytes}
 use Rattle.xns_idp.specs.Reading.{word_at, long_at}
-
-pub word_back : (n : ℕ) → n < 2 ^ 16 → 256 * (n / 256 % 256) + n % 256 ≡ n
-word_back n h = omega arith
-
-pub long_back : (n : ℕ) → n < 2 ^ 32 → 65536 * (256 * (n / 16777216 % 256) + n / 65536 % 256) + (256 * (n / 256 % 256) + n % 256) ≡ n
-long_back n h = omega arith
 
 pub two_bytes : (n a b : ℕ) → a < 256 → b < 256 → n ≡ 256 * a + b → to_be_bytes w16 n ≡ a ∷ b ∷ []
 two_bytes n a b ha hb e =

@@ -18,14 +18,7 @@ pub(crate) fn sent_packet(
     requires { length body.now ≤ most_data }
     ensures { IfOk result (λ bytes. bytes.items ≡ sent_packet_of kind source target body.now) }
 {
-    let packet = Packet {
-        summed: true,
-        control: 0,
-        kind,
-        target,
-        source,
-        body,
-    };
+    let packet = Packet::new(kind, source, target, body);
     let mut bytes = Vec::new(alloc);
     encode(alloc, &packet, &mut bytes)?;
     Ok(bytes)

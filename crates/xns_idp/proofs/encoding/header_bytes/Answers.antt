@@ -1,5 +1,4 @@
 use Rattle.std.proofs.Common.{arith}
-use Rattle.std.specs.Int.{w16, to_be_bytes}
 use Rattle.xns_idp.specs.Packet.{address_bytes}
 use Rattle.xns_idp.proofs.Cells.{header_cells}
 use Rattle.xns_idp.proofs.encoding.header_bytes.Goals as goal

@@ -1,4 +1,4 @@
-use Rattle.std.proofs.Common.{◌≡◌, ◌%◌, ◌<◌, List, ℕ, length, take, drop, refl, ◌∙◌, arith}
+use Rattle.std.proofs.Common.{◌≡◌, ◌%◌, ◌<◌, length, take, drop, refl, ◌∙◌, arith}
 use Rattle.xns_idp.specs.Packet.{packet_model}
 use Rattle.xns_idp.proofs.Writing.{no_byte_or_one, pieces_of, placed}
 use Rattle.xns_idp.proofs.encoding_into.encode_into.Goals as goal
