@@ -1,6 +1,6 @@
 -- What a tick asks, what goes out changes, and what an end learns of where a packet comes from.
-use Rattle.std.proofs.Common.{◌≡◌, ◌⊎◌, inl, inr, ℕ, ◌+◌, ◌<◌, Bool, true, false, not, nat_lt, List, [], ◌∷◌, length, max, Option, Some, None, Result, Ok, Err, refl, ◌∙◌, ap}
-use Rattle.std.specs.Prelude.{slice_get, if◌then◌else◌, ◌||◌, ◌&&◌, ◌==◌}
+use Rattle.std.proofs.Common.{◌≡◌, ◌⊎◌, inl, inr, ℕ, ◌+◌, ◌<◌, Bool, true, false, nat_lt, List, length, max, Option, Some, None, Result, Ok, Err, refl, ◌∙◌, ap}
+use Rattle.std.specs.Prelude.{if◌then◌else◌, ◌||◌, ◌&&◌, ◌==◌}
 use Rattle.std.proofs.lemmas.Bool.{lt-ltb, ltb-true}
 use Rattle.circular_buffer.proofs.Places.{slice_get-some}
 use Rattle.xns_spp.proofs.Deciding.{after_packet, after_bytes}
@@ -10,7 +10,7 @@ use Rattle.xns_spp.specs.Header.{acknowledge_bit, attention_bit, message_end_bit
 use Rattle.xns_spp.specs.Packet.{SppPacketModel, spp_packet_of}
 use Rattle.xns_spp.specs.Peers.{Asks, Learns}
 use Rattle.xns_spp.specs.Receiving.{arrival_fault, after_receive}
-use Rattle.xns_spp.specs.Sending.{data_packet, system_packet, packets_from, after_flush, after_tick}
+use Rattle.xns_spp.specs.Sending.{data_packet, system_packet, after_flush, after_tick}
 use Rattle.xns_spp.specs.State.{State, send_limit}
 use Rattle.xns_spp.specs.Telling.{after_resend}
 use Rattle.xns_spp.specs.declared.dropped.Dropped.{Dropped}

@@ -1,7 +1,6 @@
 -- What an end learns of its peer.
-use Rattle.std.proofs.Common.{◌≡◌, ℕ, ◌<◌, Bool, true, false, not, List, refl, ap, arith}
-use Rattle.std.specs.Prelude.{Option, Some, None, Result, Ok, Err, if◌then◌else◌, ◌==◌}
-use Rattle.std.proofs.lemmas.Bool.{eqb-true}
+use Rattle.std.proofs.Common.{◌≡◌, ℕ, Bool, true, List, refl, ap}
+use Rattle.std.specs.Prelude.{Option, Some, None, Result, Ok, Err, if◌then◌else◌}
 use Rattle.xns_spp.proofs.Deciding.{after_packet, after_bytes}
 use Rattle.xns_spp.proofs.Heard.{not_zero}
 use Rattle.xns_spp.specs.Ends.{IsEnds, is_open}

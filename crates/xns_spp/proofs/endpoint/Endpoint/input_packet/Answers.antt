@@ -1,15 +1,12 @@
-use Rattle.std.proofs.Common.{ℕ, List, Option, refl, ◌∙◌, sym, ap, subst}
+use Rattle.std.proofs.Common.{ℕ, List, refl, ◌∙◌, sym, subst}
 use Rattle.std.specs.Prelude.{◌≡◌, Ok}
-use Rattle.xns_spp.specs.Arrival.{Follows}
-use Rattle.xns_spp.specs.Held.{Held, StandsFor}
+use Rattle.xns_spp.specs.Held.{StandsFor}
 use Rattle.xns_spp.specs.Inside.{held_by}
 use Rattle.xns_spp.specs.Packet.{spp_packet_of}
 use Rattle.xns_spp.specs.Receiving.{StoresBytes}
-use Rattle.xns_spp.specs.Slots.{stored, putting}
 use Rattle.xns_spp.specs.State.{State}
-use Rattle.xns_spp.specs.declared.item.Item.{Item}
 use Rattle.xns_spp.proofs.Steps.{on_err}
-use Rattle.xns_spp.proofs.Receives.{decided_by, decided_as, drops, receives, inputs, input_drops, stores_bytes}
+use Rattle.xns_spp.proofs.Receives.{decided_as, drops, receives, inputs, input_drops, stores_bytes}
 use Rattle.xns_spp.proofs.endpoint.Endpoint.input_packet.Goals as goal
 
 pub returns-in-Err-clause-stands : goal.returns-in-Err-clause-stands
@@ -35,11 +32,6 @@ returns-clause-answer c = λ s b stands read.
 
 pub returns-clause-stands : goal.returns-clause-stands
 returns-clause-stands c = λ s b stands read.
-    receives c.args.self.now c.advance.new.self s b c.in-Ok.arrival stands
-    ((c.in-Ok.ensures.value ∙ decided_as (held_by c.self.inside) b c.args.packet.now read) ∙ ap (λ (v : Held). decided_by v b) c.self.view_is)
-    (subst (λ (v : Held). Follows v.ends v.numbers c.in-Ok.arrival) c.self.view_is c.in-Ok.ensures.follows)
-    c.in-Ok.ensures.fits
-    c.advance.ensures.ends c.advance.ensures.numbers c.advance.ensures.unacknowledged
-    (c.advance.ensures.slots
-    ∙ (ap (λ (o : Option (ℕ × Item)). putting c.args.self.now.slots c.args.self.now.numbers.handed o) c.in_ok-item.ensures.ok
-    ∙ ap (λ (v : Held). putting c.args.self.now.slots c.args.self.now.numbers.handed (stored v.numbers.taken c.in-Ok.arrival.verdict c.in-Ok.arrival.packet)) c.self.view_is))
+    receives (held_by c.self.inside) c.args.self.now c.advance.new.self s b c.in-Ok.arrival c.in_ok-item.item c.self.view_is stands
+    (c.in-Ok.ensures.value ∙ decided_as (held_by c.self.inside) b c.args.packet.now read)
+    c.in-Ok.ensures.follows c.in-Ok.ensures.fits c.in_ok-item.ensures.ok c.advance.ensures.ends c.advance.ensures.numbers c.advance.ensures.unacknowledged c.advance.ensures.slots
