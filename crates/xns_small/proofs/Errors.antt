@@ -9,7 +9,6 @@ use Rattle.xns_small.proofs.Numbers.{word_spelled}
 
 pub error_format : IsFormat IsErrorReport error_spelling 4 (λ bytes. record { number = word_at bytes 0; parameter = word_at bytes 2; quoted = drop 4 bytes })
 error_format = record {
-  long = λ v fits. omega arith;
-  back = λ v fits. rw (word_back v.number fits.number, word_back v.parameter fits.parameter) refl;
+  back = λ v fits. (omega arith, rw (word_back v.number fits.number, word_back v.parameter fits.parameter) refl);
   front = λ bytes fits le. word_spelled 0 bytes fits (omega (arith, le)) ∙ ap (λ (xs : List ℕ). to_be_bytes w16 (word_at bytes 0) ++ xs) (word_spelled 2 bytes fits le);
 }

@@ -9,7 +9,6 @@ use Rattle.xns_small.proofs.Numbers.{word_spelled, long_spelled}
 
 pub exchange_format : IsFormat IsExchange exchange_spelling 6 (λ bytes. record { id = long_at bytes 0; client = word_at bytes 4; body = drop 6 bytes })
 exchange_format = record {
-  long = λ v fits. omega arith;
-  back = λ v fits. rw (long_back v.id fits.id, word_back v.client fits.client) refl;
+  back = λ v fits. (omega arith, rw (long_back v.id fits.id, word_back v.client fits.client) refl);
   front = λ bytes fits le. long_spelled 0 bytes fits (omega (arith, le)) ∙ ap (λ (xs : List ℕ). to_be_bytes w32 (long_at bytes 0) ++ xs) (word_spelled 4 bytes fits le);
 }

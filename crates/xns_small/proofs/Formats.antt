@@ -9,15 +9,14 @@ use Rattle.xns_small.specs.declared.fault.SmallFault.TheVariants.{Short}
 -- a format whose fields take `least` bytes: a value that fits is spelled by at least so many bytes, and has the fields of its
 -- spelling; so many bytes or more spell their fields
 pub record IsFormat {M : Type 0} (Fits : M → Type 0) (spelling : M → List ℕ) (least : ℕ) (fields : List ℕ → M) : Type 0 where
-  pub long : (v : M) → Fits v → least ≤ length (spelling v)
-  pub back : (v : M) → Fits v → fields (spelling v) ≡ v
+  pub back : (v : M) → Fits v → (least ≤ length (spelling v)) × (fields (spelling v) ≡ v)
   pub front : (bytes : List ℕ) → ((i : ℕ) → get_or bytes i 0 < 256) → least ≤ length bytes → bytes ≡ spelling (fields bytes)
 
 -- what is spelled is read
 pub spelled_is_read : {M : Type 0} {Fits : M → Type 0} {spelling : M → List ℕ} {least : ℕ} {fields : List ℕ → M}
     → IsFormat Fits spelling least fields → (v : M) → Fits v → unless_short least (spelling v) (fields (spelling v)) ≡ Ok v
 spelled_is_read {M} {Fits} {spelling} {least} {fields} format v fits =
-    rw (le-ltb (length (spelling v)) least (format.long v fits), format.back v fits) refl
+    rw (le-ltb (length (spelling v)) least (format.back v fits).0, (format.back v fits).1) refl
 
 -- where the fields are read, there are bytes for them
 long_enough : {M : Type 0} (least : ℕ) (bytes : List ℕ) (fields v : M) → unless_short least bytes fields ≡ Ok v → (least ≤ length bytes) × (fields ≡ v)
