@@ -16,7 +16,7 @@ use Rattle.xns_host.specs.declared.host.Host.{Host}
 use Rattle.xns_host.specs.declared.outgoing.Outgoing.{Outgoing}
 use Rattle.xns_c.specs.Events.{EventIsGiven}
 use Rattle.xns_c.specs.Given.{IsPut}
-use Rattle.xns_c.specs.Hosts.{FetchesEvent, FetchesPacket, GivesPacket, HostTurns, WakesHost, left_of, time_or_never}
+use Rattle.xns_c.specs.Hosts.{DoesWithOne, FetchesEvent, FetchesPacket, GivesPacket, HostTurns, WakesHost, left_of, time_or_never}
 use Rattle.xns_c.specs.Results.{ok, no_memory, no_slot, short_buffer}
 use Rattle.xns_c.specs.declared.event.XnsEvent.{XnsEvent}
 use Rattle.xns_c.specs.declared.kept_host.KeptHost.{KeptHost}
@@ -98,6 +98,22 @@ turned k n host now number deed reason answer result same packet told turn none 
   none = none;
   refused = refused;
   packet = packet;
+}
+
+-- what a host did with the connection that a function names, where this event is kept afterwards
+pub done_with_one : (Deed : Result (Unit {0}) HostFault → Host → Host → Type 0) (k n : KeptHost) (host : Host) (kept : Option Event) (number result : ℕ) (answer : Result (Unit {0}) HostFault)
+    → n ≡ record k { host = host; event = kept } → result ≡ host_told answer → Deed answer k.host host
+    → (has_guest (slice_get k.host.guests.items number) ≡ false → answer ≡ Err (NoConnection number))
+    → ((g : Guest) → slice_get k.host.guests.items number ≡ Some (Some g) → answer ≡ Ok tt)
+    → DoesWithOne Deed kept k n number result
+done_with_one Deed k n host kept number result answer is told done none some = record {
+  answer = answer;
+  told = told;
+  done = subst (λ (m : KeptHost). Deed answer k.host m.host) (sym is) done;
+  none = none;
+  some = some;
+  packet = ap (λ (m : KeptHost). m.packet) is;
+  event = ap (λ (m : KeptHost). m.event) is;
 }
 
 -- a time that the host told, or never

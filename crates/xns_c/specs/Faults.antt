@@ -56,19 +56,13 @@ closed_number (Refused r) = 5
 
 -- the number of what the peer said that was refused, or 0
 abbrev pub refused_number : Why → ℕ
-refused_number Asked = ok
-refused_number ByPeer = ok
-refused_number Silent = ok
-refused_number (NotServed number) = ok
 refused_number (Refused r) = feed_refusal_number r
+refused_number _ = ok
 
 -- the number of the Error packet that closed a connection, or 0
 abbrev pub error_heard : Why → ℕ
-error_heard Asked = 0
-error_heard ByPeer = 0
-error_heard Silent = 0
 error_heard (NotServed number) = number
-error_heard (Refused r) = 0
+error_heard _ = 0
 
 -- ---- what a host was asked
 

@@ -90,15 +90,20 @@ pub record Closes (k n : KeptHost) (now number result : ℕ) : Type 0 where
   pub some : (g : Guest) → guest_at k number ≡ Some (Some g) → result ≡ ok
   pub event : n.event ≡ kept_closing k.event number result
 
--- the connection is gone, and its event that is kept; or there was none, and the answer is told. A packet that is kept stays
-pub record AbandonsOne (k n : KeptHost) (number result : ℕ) : Type 0 where
+-- the host did this with the connection, after which this event is kept; or there was none, and the answer is told. A packet that is kept
+-- stays
+pub record DoesWithOne (Deed : Result (Unit {0}) HostFault → Host → Host → Type 0) (kept : Option Event) (k n : KeptHost) (number result : ℕ) : Type 0 where
   pub answer : Result (Unit {0}) HostFault
   pub told : result ≡ host_told answer
-  pub gone : Abandons number answer k.host n.host
+  pub done : Deed answer k.host n.host
   pub none : has_guest (guest_at k number) ≡ false → answer ≡ Err (NoConnection number)
   pub some : (g : Guest) → guest_at k number ≡ Some (Some g) → answer ≡ Ok tt
   pub packet : n.packet ≡ k.packet
-  pub event : n.event ≡ kept_after k.event number result
+  pub event : n.event ≡ kept
+
+-- the connection is gone, and its event that is kept
+abbrev pub AbandonsOne : KeptHost → KeptHost → ℕ → ℕ → Type 0
+AbandonsOne k n number result = DoesWithOne (Abandons number) (kept_after k.event number result) k n number result
 
 -- an event that is kept has the tag that its connection was given
 abbrev pub retagged : Option Event → ℕ → ℕ → Option Event
@@ -108,15 +113,9 @@ retagged (Some e) number tag = Some (if event_number e == number then with_tag t
 abbrev pub kept_tagging : Option Event → ℕ → ℕ → ℕ → Option Event
 kept_tagging event number tag result = if result == ok then retagged event number tag else event
 
--- the connection has that tag from now on, and so has its event that is kept; or there was none, and the answer is told
-pub record TagsOne (k n : KeptHost) (number tag result : ℕ) : Type 0 where
-  pub answer : Result (Unit {0}) HostFault
-  pub told : result ≡ host_told answer
-  pub tags : Tags number tag answer k.host n.host
-  pub none : has_guest (guest_at k number) ≡ false → answer ≡ Err (NoConnection number)
-  pub some : (g : Guest) → guest_at k number ≡ Some (Some g) → answer ≡ Ok tt
-  pub packet : n.packet ≡ k.packet
-  pub event : n.event ≡ kept_tagging k.event number tag result
+-- the connection has that tag from now on, and so has its event that is kept
+abbrev pub TagsOne : KeptHost → KeptHost → ℕ → ℕ → ℕ → Type 0
+TagsOne k n number tag result = DoesWithOne (Tags number tag) (kept_tagging k.event number tag result) k n number result
 
 -- ---- other functions
 

@@ -42,14 +42,7 @@ pub fn put_packet(
     requires room { made_even (30 + length body.now) ≤ length buffer.old }
     ensures { IsPut (sent_packet kind source target body.now) buffer.old buffer.new result }
 {
-    let packet = Packet {
-        summed: true,
-        control: 0,
-        kind,
-        target,
-        source,
-        body,
-    };
+    let packet = Packet::new(kind, source, target, body);
     encode_into(&packet, buffer)
 }
 

@@ -12,8 +12,7 @@ use Rattle.xns_c.proofs.kept_host.KeptHost.connect.Goals as goal
 pub returns-in-Ok-clause-connects : goal.returns-in-Ok-clause-connects
 returns-in-Ok-clause-connects c =
     let is : c.connect.result ≡ Ok c.in-Ok.found = c.in-Ok.is in
-    let same : ends_fault c.args.self.now c.args.socket c.address.result ≡ ends_fault c.args.self.now c.args.socket (address_of_struct c.args.peer.now)
-    = ap (λ (to : Address). ends_fault c.args.self.now c.args.socket to) c.address.ensures in
+    let same = ap (λ (to : Address). ends_fault c.args.self.now c.args.socket to) c.address.ensures in
     record {
       wrong = λ f at. let bad = c.connect.ensures.wrong f (same ∙ at) in absurd (cc);
       full = λ right none. let bad = c.connect.ensures.full (same ∙ right) none in absurd (cc);
@@ -31,8 +30,7 @@ returns-in-Ok-clause-connects c =
 pub returns-in-Err-clause-connects : goal.returns-in-Err-clause-connects
 returns-in-Err-clause-connects c =
     let is : c.connect.result ≡ Err c.in-Err.fault = c.in-Err.is in
-    let same : ends_fault c.args.self.now c.args.socket c.address.result ≡ ends_fault c.args.self.now c.args.socket (address_of_struct c.args.peer.now)
-    = ap (λ (to : Address). ends_fault c.args.self.now c.args.socket to) c.address.ensures in
+    let same = ap (λ (to : Address). ends_fault c.args.self.now c.args.socket to) c.address.ensures in
     record {
       wrong = λ f at.
           let e = c.connect.ensures.wrong f (same ∙ at) in
