@@ -81,11 +81,6 @@ boolean_wrong (zero ∷ ws) before after number value h high told = absurd (omeg
 boolean_wrong (suc zero ∷ ws) before after number value h high told = absurd (omega (arith, high))
 boolean_wrong (suc (suc n) ∷ ws) before after number value h high told = told
 
-pub bytes_count : (bytes : List ℕ) → length (bytes_spelling bytes) ≡ length bytes / 2 + length bytes % 2
-bytes_count [] = refl
-bytes_count (b ∷ []) = refl
-bytes_count (b ∷ c ∷ bytes) = let h = bytes_count bytes in omega (arith, h)
-
 pub text_begun : (words : List ℕ) (count more : ℕ) → length words ≡ 1 + more → take 1 (slice_set words 0 count) ≡ count ∷ []
 text_begun [] count more h = absurd (omega (arith, h))
 text_begun (w ∷ ws) count more h = refl

@@ -7,6 +7,7 @@ use Rattle.courier_types.specs.Source.{bytes_of}
 use Rattle.courier_types.specs.Value.{ValueModel}
 use Rattle.courier_types.specs.declared.read_fault.ReadFault.{ReadFault}
 use Rattle.courier_types.specs.declared.read_fault.Reason.TheVariants.{Truncated}
+use Rattle.courier_types.proofs.Taken.{bytes_read, bytes_short}
 use Rattle.xns_c.proofs.Spelled.{set_last}
 
 -- an even number of bytes
@@ -60,41 +61,21 @@ odd_put words bytes [] last n place enough same none put count more is =
 
 -- where a text's words are all there
 
+twice : (ws : List ℕ) → length (bytes_of ws) ≡ 2 * length ws
+twice [] = refl
+twice (w ∷ ws) = let more = twice ws in omega (arith, more)
+
+-- so many bytes, where the words are that many
+many_bytes : (n : ℕ) (ws : List ℕ) → n / 2 + n % 2 ≤ length ws → length (take n (bytes_of (take (n / 2 + n % 2) ws))) ≡ n
+many_bytes n ws le =
+    let words : length (take (n / 2 + n % 2) ws) ≡ n / 2 + n % 2 = length-take-le (n / 2 + n % 2) ws le in
+    length-take-le n (bytes_of (take (n / 2 + n % 2) ws)) (omega (arith, words, twice (take (n / 2 + n % 2) ws)))
+
 -- the bytes that so many words spell, where they are all there
-abbrev BytesAt : ℕ → ℕ → List ℕ → Type 0
-BytesAt n k ws = (bytes : List ℕ) × (front_bytes n ws ≡ Ok (bytes, drop k ws)) × (length bytes ≡ n) × (k ≤ length ws)
-
--- either the bytes are all there, or the words end too soon
-abbrev BytesOrCut : ℕ → ℕ → List ℕ → Type 0
-BytesOrCut n k ws = BytesAt n k ws ⊎ ((length ws < k) × (front_bytes n ws ≡ Err (0, Truncated)))
-
-two_more : (n k w : ℕ) (ws : List ℕ) → BytesOrCut n k ws → BytesOrCut (suc (suc n)) (suc k) (w ∷ ws)
-unfolding front_bytes
-two_more n k w ws (inl there) = inl (w / 256 ∷ w % 256 ∷ there.0, ap (λ r. r >>= λ rest. Ok (w / 256 ∷ w % 256 ∷ rest.0, rest.1)) there.1, ap (λ (m : ℕ). suc (suc m)) there.2, omega (arith, there.3))
-two_more n k w ws (inr cut) = inr (omega (arith, cut.0), ap (λ r. r >>= λ rest. Ok (w / 256 ∷ w % 256 ∷ rest.0, rest.1)) cut.1)
-
-bytes_or_cut : (n k : ℕ) (ws : List ℕ) → k ≡ n / 2 + n % 2 → BytesOrCut n k ws
-unfolding front_bytes
-bytes_or_cut zero zero ws e = inl ([], refl, refl, omega arith)
-bytes_or_cut zero (suc k) ws e = absurd (omega (arith, e))
-bytes_or_cut (suc n) zero ws e = absurd (omega (arith, e))
-bytes_or_cut (suc zero) (suc k) [] e = inr (omega arith, refl)
-bytes_or_cut (suc zero) (suc zero) (w ∷ ws) e = inl (w / 256 ∷ [], refl, refl, omega arith)
-bytes_or_cut (suc zero) (suc (suc k)) (w ∷ ws) e = absurd (omega (arith, e))
-bytes_or_cut (suc (suc n)) (suc k) [] e = inr (omega arith, refl)
-bytes_or_cut (suc (suc n)) (suc k) (w ∷ ws) e = two_more n k w ws (bytes_or_cut n k ws (omega (arith, e)))
-
-bytes_there : (n k : ℕ) (ws : List ℕ) → k ≡ n / 2 + n % 2 → k ≤ length ws → BytesAt n k ws
-bytes_there n k ws e le = all (bytes_or_cut n k ws e) where
-  all : BytesOrCut n k ws → BytesAt n k ws
-  all (inl there) = there
-  all (inr cut) = absurd (omega (arith, le, cut.0))
-
-bytes_cut : (n : ℕ) (ws : List ℕ) → length ws < n / 2 + n % 2 → front_bytes n ws ≡ Err (0, Truncated)
-bytes_cut n ws few = none (bytes_or_cut n (n / 2 + n % 2) ws refl) where
-  none : BytesOrCut n (n / 2 + n % 2) ws → front_bytes n ws ≡ Err (0, Truncated)
-  none (inl there) = absurd (omega (arith, few, there.3))
-  none (inr cut) = cut.1
+bytes_there : (n : ℕ) (ws : List ℕ) → n / 2 + n % 2 ≤ length ws → (bytes : List ℕ) × (front_bytes n ws ≡ Ok (bytes, drop (n / 2 + n % 2) ws)) × (length bytes ≡ n)
+bytes_there n ws le =
+    let bytes : List ℕ = take n (bytes_of (take (n / 2 + n % 2) ws)) in
+    (bytes, bytes_read n (n / 2 + n % 2) ws bytes (drop (n / 2 + n % 2) ws) refl le refl refl, many_bytes n ws le)
 
 same_ok : {A E : Type 0} (r : Result A E) (x y : A) → r ≡ Ok x → r ≡ Ok y → x ≡ y
 same_ok r x y d e = cc
@@ -125,7 +106,7 @@ pub text_told : (found words : List ℕ) (count : ℕ) → found ≡ words → 1
 text_told [] words count same one first enough bytes taken e = absurd (omega (arith, one))
 text_told (w ∷ ws) words count same one first enough bytes taken e =
     let room : count / 2 + count % 2 ≤ length ws = subst (λ (l : List ℕ). count / 2 + count % 2 ≤ length l) (all_others ws) enough in
-    let r = bytes_there count (count / 2 + count % 2) ws refl room in
+    let r = bytes_there count ws room in
     let known : (ValueModel.text r.0, 1 + (count / 2 + count % 2)) ≡ (ValueModel.text bytes, taken) =
     same_ok (value_of ShapeModel.text (w ∷ ws)) (ValueModel.text r.0, 1 + (count / 2 + count % 2)) (ValueModel.text bytes, taken) (text_value w ws r.0 count first room r.1) (ap (value_of ShapeModel.text) same ∙ e) in
     let is : r.0 ≡ bytes = same_text r.0 bytes (ap (λ (p : ValueModel × ℕ). p.0) known) in (
@@ -139,7 +120,7 @@ pub text_sound : (found words : List ℕ) (count : ℕ) → found ≡ words → 
 text_sound [] words count same one first enough fault e = absurd (omega (arith, one))
 text_sound (w ∷ ws) words count same one first enough fault e =
     let room : count / 2 + count % 2 ≤ length ws = subst (λ (l : List ℕ). count / 2 + count % 2 ≤ length l) (all_others ws) enough in
-    let r = bytes_there count (count / 2 + count % 2) ws refl room in
+    let r = bytes_there count ws room in
     no_fault (value_of ShapeModel.text (w ∷ ws)) (ValueModel.text r.0, 1 + (count / 2 + count % 2)) fault (text_value w ws r.0 count first room r.1) (ap (value_of ShapeModel.text) same ∙ e)
 
 -- a text whose words end too soon
@@ -150,7 +131,7 @@ text_cut [] words count same one first few x e = absurd (omega (arith, one))
 text_cut (w ∷ ws) words count same one first few x e =
     let fewer : length ws < count / 2 + count % 2 = subst (λ (l : List ℕ). length l < count / 2 + count % 2) (all_others ws) few in
     no_fault (value_of ShapeModel.text (w ∷ ws)) x (record { place = length (w ∷ ws) - 0; reason = Truncated }) (ap (value_of ShapeModel.text) same ∙ e)
-    (ap (λ (n : ℕ). placed (w ∷ ws) (over ValueModel.text (front_bytes n ws))) (sym first) ∙ ap (λ r. placed (w ∷ ws) (over ValueModel.text r)) (bytes_cut count ws fewer))
+    (ap (λ (n : ℕ). placed (w ∷ ws) (over ValueModel.text (front_bytes n ws))) (sym first) ∙ ap (λ r. placed (w ∷ ws) (over ValueModel.text r)) (bytes_short count ws fewer))
 
 pub text_none : (found words : List ℕ) → found ≡ words → length found < 1 → (x : ValueModel × ℕ) → value_of ShapeModel.text words ≡ Ok x → ⊥
 unfolding value_of reading front_text

@@ -142,7 +142,7 @@ pub extern "C" fn xns_write_count(
 ///
 /// `TOO_LONG` for more than 65,535 bytes, which are not looked at.
 #[unsafe(no_mangle)]
-#[tactic(auto, using(crate::proofs::Spelled::bytes_count))]
+#[tactic(auto, using(courier_types::proofs::Counted::bytes_count))]
 pub extern "C" fn xns_write_text(buffer: &mut [u16], cursor: &mut XnsCursor, bytes: &[u8]) -> u32
     ensures written { cursor.old.fault ≡ ok → length bytes.now < 2 ^ 16
         → WritesWords (value_spelling (ValueModel.text bytes.now)) cursor.old cursor.new buffer.old buffer.new result }

@@ -1,12 +1,13 @@
 -- What is read of an Echo is what is spelled.
-use Rattle.std.proofs.Common.{◌≡◌, ℕ, ◌+◌, ◌*◌, ◌<◌, Bool, true, false, eqb, ltb, List, [], ◌∷◌, ◌++◌, length, get_or, Result, Ok, Err, IfOk, refl, sym, ap, subst, inl, inr, arith}
+use Rattle.std.proofs.Common.{◌≡◌, ℕ, ◌+◌, ◌*◌, ◌<◌, Bool, true, false, eqb, ltb, List, [], ◌∷◌, ◌++◌, length, get_or, Result, Ok, Err, IfOk, refl, sym, ap, ◌∙◌, subst, inl, inr, arith}
 use Rattle.std.proofs.lemmas.Bool.{eqb-true, cases_Bool, le-ltb}
 use Rattle.xns_small.specs.Echo.{EchoModel, SpellsEcho, echo_model, echo_of, echo_spelling}
 use Rattle.xns_small.specs.Reading.{answer_model}
 use Rattle.xns_small.specs.declared.echo.Echo.{Echo}
 use Rattle.xns_small.specs.declared.fault.SmallFault.{SmallFault}
 use Rattle.xns_small.specs.declared.fault.SmallFault.TheVariants.{EchoOperation}
-use Rattle.xns_small.proofs.Numbers.{two_bytes}
+use Rattle.std.specs.Int.{w16, to_be_bytes}
+use Rattle.xns_idp.proofs.Numbers.{two_bytes}
 
 -- what is spelled of an operation and bytes is read
 again : (reply : Bool) (body : List ℕ) → echo_of (echo_spelling (record { reply = reply; body = body })) ≡ Ok (record { reply = reply; body = body })
@@ -40,12 +41,12 @@ echo_spelled (a ∷ b ∷ rest) v fits e =
       | inl one ↦
           let number = eqb-true (256 * a + b) 1 one in
           spells_as (a ∷ b ∷ rest) (record { reply = false; body = rest }) v
-          (ap (λ (xs : List ℕ). xs ++ rest) (sym (two_bytes 1 a b (fits 0) (fits 1) (sym number)))) (rw (whole, one) at e)
+          (ap (λ (xs : List ℕ). xs ++ rest) (sym (ap (to_be_bytes w16) (sym number) ∙ two_bytes a b (fits 0) (fits 1)))) (rw (whole, one) at e)
       | inr other ↦ elim (cases_Bool (eqb (256 * a + b) 2)) [
         | inl two ↦
             let number = eqb-true (256 * a + b) 2 two in
             spells_as (a ∷ b ∷ rest) (record { reply = true; body = rest }) v
-            (ap (λ (xs : List ℕ). xs ++ rest) (sym (two_bytes 2 a b (fits 0) (fits 1) (sym number)))) (rw (whole, other, two) at e)
+            (ap (λ (xs : List ℕ). xs ++ rest) (sym (ap (to_be_bytes w16) (sym number) ∙ two_bytes a b (fits 0) (fits 1)))) (rw (whole, other, two) at e)
         | inr neither ↦ absurd (no_fault (EchoOperation (256 * a + b)) v (rw (whole, other, neither) at e))
       ]
     ]

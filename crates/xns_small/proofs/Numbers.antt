@@ -1,37 +1,28 @@
--- Numbers of two and four bytes, and the bytes of a number.
-use Rattle.std.proofs.Common.{◌≡◌, ℕ, zero, suc, ◌+◌, ◌*◌, ◌/◌, ◌%◌, ◌<◌, ◌≤◌, List, [], ◌∷◌, ◌++◌, length, drop, get_or, refl, sym, ap, arith}
-use native.Mathlib.Numerals.{unary_clauses}
+-- The numbers of two and four bytes in a place, spelled, and what follows them.
+use Rattle.std.proofs.Common.{◌≡◌, ℕ, ◌+◌, ◌-◌, ◌<◌, ◌≤◌, List, ◌++◌, length, drop, take, get_or, sym, ap, ◌∙◌, arith}
+use Rattle.std.specs.Prelude.{slice_range}
 use Rattle.std.specs.Int.{w16, w32, to_be_bytes}
+use Rattle.std.proofs.lemmas.List.{take-append-drop, drop-drop}
+use Rattle.std.proofs.lemmas.List.Elements.{All-from_get_or}
+use Rattle.xns_idp.proofs.Slices.{word_slice, long_slice}
+use Rattle.xns_idp.specs.Packet.{AreBytes}
 use Rattle.xns_idp.specs.Reading.{word_at, long_at}
 
-pub two_bytes : (n a b : ℕ) → a < 256 → b < 256 → n ≡ 256 * a + b → to_be_bytes w16 n ≡ a ∷ b ∷ []
-two_bytes n a b ha hb e =
-    let high : n / 256 % 256 ≡ a = omega arith in
-    let low : n % 256 ≡ b = omega arith in
-    rw (high, low) refl
+are_bytes : (bytes : List ℕ) → ((i : ℕ) → get_or bytes i 0 < 256) → AreBytes bytes
+are_bytes bytes fits = All-from_get_or (λ x. x < 256) bytes 0 (λ i _. fits i)
 
-pub four_bytes : (n a b c d : ℕ) → a < 256 → b < 256 → c < 256 → d < 256 → n ≡ 65536 * (256 * a + b) + (256 * c + d) → to_be_bytes w32 n ≡ a ∷ b ∷ c ∷ d ∷ []
-four_bytes n a b c d ha hb hc hd e =
-    let first : n / 16777216 % 256 ≡ a = omega arith in
-    let second : n / 65536 % 256 ≡ b = omega arith in
-    let third : n / 256 % 256 ≡ c = omega arith in
-    let fourth : n % 256 ≡ d = omega arith in
-    rw (first, second, third, fourth) refl
+-- k bytes in a place, and what follows them
+part_and_rest : (n k : ℕ) (bytes : List ℕ) → drop n bytes ≡ slice_range bytes n (n + k) ++ drop (n + k) bytes
+part_and_rest n k bytes =
+    let count : k ≡ n + k - n = omega arith in
+    sym (take-append-drop k (drop n bytes))
+    ∙ (ap (λ (xs : List ℕ). take k (drop n bytes) ++ xs) (drop-drop k n bytes)
+    ∙ ap (λ (m : ℕ). take m (drop n bytes) ++ drop (n + k) bytes) count)
 
--- the number in a place, spelled, and what follows it
 pub word_spelled : (n : ℕ) (bytes : List ℕ) → ((i : ℕ) → get_or bytes i 0 < 256) → n + 2 ≤ length bytes → drop n bytes ≡ to_be_bytes w16 (word_at bytes n) ++ drop (n + 2) bytes
-word_spelled n [] fits le = absurd (omega (arith, le))
-word_spelled zero (a ∷ []) fits le = absurd (omega (arith, le))
-word_spelled zero (a ∷ b ∷ rest) fits le = ap (λ (xs : List ℕ). xs ++ rest) (sym (two_bytes (256 * a + b) a b (fits 0) (fits 1) refl))
-word_spelled (suc n) (a ∷ rest) fits le =
-    let h = word_spelled n rest (λ i. fits (suc i)) (omega (arith, le)) in simp unary_clauses (simp unary_clauses at h)
+word_spelled n bytes fits le =
+    part_and_rest n 2 bytes ∙ ap (λ (xs : List ℕ). xs ++ drop (n + 2) bytes) (sym (word_slice bytes n (n + 2) (are_bytes bytes fits) (omega arith) le))
 
 pub long_spelled : (n : ℕ) (bytes : List ℕ) → ((i : ℕ) → get_or bytes i 0 < 256) → n + 4 ≤ length bytes → drop n bytes ≡ to_be_bytes w32 (long_at bytes n) ++ drop (n + 4) bytes
-long_spelled n [] fits le = absurd (omega (arith, le))
-long_spelled zero (a ∷ []) fits le = absurd (omega (arith, le))
-long_spelled zero (a ∷ b ∷ []) fits le = absurd (omega (arith, le))
-long_spelled zero (a ∷ b ∷ c ∷ []) fits le = absurd (omega (arith, le))
-long_spelled zero (a ∷ b ∷ c ∷ d ∷ rest) fits le =
-    ap (λ (xs : List ℕ). xs ++ rest) (sym (four_bytes (65536 * (256 * a + b) + (256 * c + d)) a b c d (fits 0) (fits 1) (fits 2) (fits 3) refl))
-long_spelled (suc n) (a ∷ rest) fits le =
-    let h = long_spelled n rest (λ i. fits (suc i)) (omega (arith, le)) in simp unary_clauses (simp unary_clauses at h)
+long_spelled n bytes fits le =
+    part_and_rest n 4 bytes ∙ ap (λ (xs : List ℕ). xs ++ drop (n + 4) bytes) (sym (long_slice bytes n (n + 4) (are_bytes bytes fits) (omega arith) le))
