@@ -26,10 +26,12 @@ unfolding lined_up
 lined_size most zero = length-none most
 lined_size most (suc n) = length-set (lined_up most n).tickets n (Some (lined_up most n).next) ∙ lined_size most n
 
-last_same : (line : Line) (n : ℕ) → n < length line.tickets → has_turn (with_last line n) n ≡ true
+-- a number that is put last has a turn
+pub last_same : (line : Line) (n : ℕ) → n < length line.tickets → has_turn (with_last line n) n ≡ true
 last_same line n less = ap is_some (get_or-set_same line.tickets n (Some line.next) None less)
 
-last_other : (line : Line) (n k : ℕ) → k ≢ n → has_turn (with_last line n) k ≡ has_turn line k
+-- another number has a turn as it had
+pub last_other : (line : Line) (n k : ℕ) → k ≢ n → has_turn (with_last line n) k ≡ has_turn line k
 last_other line n k other = ap is_some (get_or-set_other line.tickets n k (Some line.next) None other)
 
 one_more : (line : Line) (n k : ℕ) → n < length line.tickets → k < suc n → (k < n → has_turn line k ≡ true) → (k ≡ n) ⊎ (k ≢ n)

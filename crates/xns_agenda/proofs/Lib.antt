@@ -1,8 +1,8 @@
-mod Agendas
+pub mod Agendas
 mod Ambiguities
 mod Asking
 mod Beside
-mod Free
+pub mod Free
 mod Later
 mod Measures
 mod Mending

@@ -1,6 +1,7 @@
 -- While something waits for the peer, at most one packet goes out again for what it says.
-use Rattle.std.proofs.Common.{◌≡◌, ◌⊎◌, inl, inr, ap, refl, ℕ, ◌+◌, ◌≤◌, Bool, true, false, Option, Some, None, arith}
-use Rattle.std.specs.Prelude.{◌&&◌, not}
+use Rattle.std.proofs.Common.{◌≡◌, ◌⊎◌, inl, inr, ap, refl, ℕ, ◌+◌, ◌≤◌, true, false, Option, Some, None, arith}
+use Rattle.std.specs.Prelude.{not}
+use Rattle.std.proofs.lemmas.Bool.{and_parts, not-true}
 use Rattle.xns_agenda.specs.Measuring.{begun_timing, first_wait, is_late, is_vain}
 use Rattle.xns_agenda.specs.Replying.{is_third}
 use Rattle.xns_agenda.specs.Waiting.{Unheard, here, steps, acts, hears, resends, replaces, Waiting, act_at, after_act, after_by, after_heard, after_step, after_word, no_more, overdue_by, third_by, waiting_on}
@@ -64,23 +65,12 @@ resent_spent v u (AgainAt t) out now late = refl
 resent_spent v u (AskAt t) out now late = absurd (cc)
 resent_spent v u (ForgetAt t) out now late = absurd (cc)
 
-pub first_of : (a b : Bool) → (a && b) ≡ true → a ≡ true
-first_of true b both = refl
-first_of false b both = absurd (cc)
-
-pub second_of : (a b : Bool) → (a && b) ≡ true → b ≡ true
-second_of true b both = both
-second_of false b both = absurd (cc)
-
-not_both : (b : Bool) → not b ≡ true → b ≡ true → ⊥
-not_both true fresh vain = absurd (cc)
-not_both false fresh vain = absurd (cc)
-
 third_fresh : (v : Waiting) (d : Due) (reply : Option ℕ) → third_by v d reply ≡ true → Spent v → ⊥
 third_fresh v Never reply third spent = absurd (cc)
 third_fresh v (AgainAt t) None third spent = absurd (cc)
 third_fresh v (AgainAt t) (Some allocation) third spent =
-    not_both (is_vain v.timing) (first_of (not (is_vain v.timing)) (is_third v.replies allocation) third) spent
+    let fresh : is_vain v.timing ≡ false = not-true (is_vain v.timing) (and_parts (not (is_vain v.timing)) (is_third v.replies allocation) third).0 in
+    absurd (cc)
 third_fresh v (AskAt t) reply third spent = absurd (cc)
 third_fresh v (ForgetAt t) reply third spent = absurd (cc)
 

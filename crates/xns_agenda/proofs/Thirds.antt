@@ -1,6 +1,7 @@
 -- A reply is the third that says the same only behind two others.
 use Rattle.std.proofs.Common.{◌≡◌, ap, refl, ℕ, ◌+◌, ◌≤◌, Bool, true, false, Option, Some, None, arith}
 use Rattle.std.specs.Prelude.{◌==◌, not}
+use Rattle.std.proofs.lemmas.Bool.{and_parts, eqb-true}
 use Rattle.xns_agenda.specs.Measuring.{is_vain}
 use Rattle.xns_agenda.specs.Replying.{counted, is_third}
 use Rattle.xns_agenda.specs.Waiting.{Lacks, here, steps, acts, hears, replies, Waiting, act_at, after_act, after_by, after_heard, after_step, after_word, idling, is_third_reply, no_more, third_by, waiting_on}
@@ -9,7 +10,6 @@ use Rattle.xns_agenda.specs.declared.act.Act.TheVariants.{Nothing, Again, Ask, G
 use Rattle.xns_agenda.specs.declared.due.Due.{Due}
 use Rattle.xns_agenda.specs.declared.due.Due.TheVariants.{Never, AgainAt, AskAt, ForgetAt}
 use Rattle.xns_agenda.specs.declared.replies.Replies.{Replies}
-use Rattle.xns_agenda.proofs.Repeats.{first_of, second_of}
 
 -- ---- how many are counted
 
@@ -70,14 +70,13 @@ counts w none (replies {n = n} {v = v} before out allocation again now) =
     let most = counts w none before in
     omega (arith, more, most)
 
-two_are : (n : ℕ) → (n == 2) ≡ true → 2 ≤ n
-two_are n two = grind arith
-
 third_has_two : (v : Waiting) (d : Due) (reply : Option ℕ) → third_by v d reply ≡ true → 2 ≤ v.replies.count
 third_has_two v Never reply third = absurd (cc)
 third_has_two v (AgainAt t) None third = absurd (cc)
 third_has_two v (AgainAt t) (Some allocation) third =
-    two_are v.replies.count (first_of (v.replies.count == 2) (v.replies.allocation == allocation) (second_of (not (is_vain v.timing)) (is_third v.replies allocation) third))
+    let third_now = (and_parts (not (is_vain v.timing)) (is_third v.replies allocation) third).1 in
+    let two = eqb-true v.replies.count 2 (and_parts (v.replies.count == 2) (v.replies.allocation == allocation) third_now).0 in
+    omega (arith, two)
 third_has_two v (AskAt t) reply third = absurd (cc)
 third_has_two v (ForgetAt t) reply third = absurd (cc)
 

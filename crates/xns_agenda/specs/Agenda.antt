@@ -4,6 +4,7 @@ use Rattle.xns_agenda.specs.Times.{HasEarliest, IsBy, IsEarliest}
 use Rattle.xns_agenda.specs.Turns.{HasNoTurn, Line, empty_line, has_turn, lined_up, with_turn}
 use Rattle.xns_agenda.specs.declared.facts.Facts.{Facts}
 use Rattle.xns_agenda.specs.declared.facts.TheConstants.Facts.{NONE}
+use Rattle.xns_agenda.specs.declared.places.Places.{Places}
 use Rattle.xns_agenda.specs.declared.way.Way.{Way}
 use Rattle.xns_agenda.specs.declared.way.Way.TheVariants.{Lingers, Stranger, Nobody}
 
@@ -18,6 +19,18 @@ pub record Plan : Type 0 where
   pub strangers : List (Option ℕ)
   pub free : Line
   pub short : Option ℕ
+
+-- the plan that these timers, turns, times by which one gives way, and free numbers make
+abbrev pub plan_of : (dues : List (Option ℕ)) (packets events : Line) → Places → (free : Line) (short : Option ℕ) → Plan
+plan_of dues packets events places free short = record {
+  dues = dues;
+  packets = packets;
+  events = events;
+  closed = places.closed;
+  strangers = places.strangers;
+  free = free;
+  short = short;
+}
 
 -- a plan is for so many numbers
 pub record IsFor (a : Plan) (most : ℕ) : Type 0 where

@@ -33,29 +33,13 @@ pub struct Agenda {
 
 impl Model for Agenda {
     ghost use Rattle.std.specs.Prelude.{length};
-    ghost use Rattle.xns_agenda.specs.Agenda.{Plan, IsFor};
+    ghost use Rattle.xns_agenda.specs.Agenda.{Plan, IsFor, plan_of};
 
     ghost Value = { Plan };
 
-    ghost view = { λ a. record {
-      dues = a.dues;
-      packets = a.packets;
-      events = a.events;
-      closed = a.places.closed;
-      strangers = a.places.strangers;
-      free = a.free;
-      short = a.short;
-    } };
+    ghost view = { λ a. plan_of a.dues a.packets a.events a.places a.free a.short };
 
-    ghost invariant = { λ a. IsFor (record {
-      dues = a.dues;
-      packets = a.packets;
-      events = a.events;
-      closed = a.places.closed;
-      strangers = a.places.strangers;
-      free = a.free;
-      short = a.short;
-    }) (length a.dues) };
+    ghost invariant = { λ a. IsFor (plan_of a.dues a.packets a.events a.places a.free a.short) (length a.dues) };
 }
 
 /// The numbers below `most`, each free, the lowest first.
