@@ -10,7 +10,7 @@ use Rattle.std.specs.declared.alloc.AllocError.{AllocError}
 use Rattle.courier_sessions.specs.declared.feed_refusal.FeedRefusal.{FeedRefusal}
 use Rattle.xns_spp.specs.Growth.{Begins}
 use Rattle.xns_spp.specs.Held.{Held, StandsFor}
-use Rattle.xns_spp.specs.Sending.{after_send, send_answer, take_answer, waiting_count}
+use Rattle.xns_spp.specs.Sending.{send_answer, take_answer, waiting_count}
 use Rattle.xns_spp.specs.State.{State}
 use Rattle.xns_spp.specs.declared.item.Item.{Item}
 use Rattle.xns_connection.specs.Closed.{AGoodCloseLosesNothing}
@@ -20,6 +20,7 @@ use Rattle.xns_connection.specs.Deeds.{heard, shut}
 use Rattle.xns_connection.specs.Giving.{Giving, GivesAs, giving, next_unless}
 use Rattle.xns_connection.specs.Moving.{Moves, ConversationScene, closed_up, converses, drained_out, drains_only, with_end_out, may_end, may_reply, noting, replied, settled_by, taken_many}
 use Rattle.xns_connection.specs.Step.{GivesNext, MovesOwed, Step, TheDeadAreSilent}
+use Rattle.xns_connection.specs.declared.closing.Closing.{Closing}
 use Rattle.xns_connection.specs.declared.connection.Connection.{Connection}
 use Rattle.xns_connection.specs.declared.conversation.Conversation.{Conversation}
 use Rattle.xns_connection.specs.declared.owed.Owed.{Owed}
@@ -62,19 +63,15 @@ dead_gives now r old new dead g =
 
 -- ---- the side is as it was
 
+put_side : (b : Bool) (x : ConversationScene) (c : Closing) (s : State) → (if b then record x { closing = c; state = s } else x).side ≡ x.side
+put_side true x c s = refl
+put_side false x c s = refl
+
 ended_side : (x : ConversationScene) → (with_end_out x).side ≡ x.side
-ended_side x = by (may_end x && is_ok (send_answer x.state (closing_item end_stream))) where
-  by : (b : Bool)
-      → (if b then record x { closing = record x.closing { end_sent = true }; state = after_send x.state (closing_item end_stream) } else x).side ≡ x.side
-  by true = refl
-  by false = refl
+ended_side x = put_side (may_end x && is_ok (send_answer x.state (closing_item end_stream))) x _ _
 
 replied_side : (x : ConversationScene) → (replied x).side ≡ x.side
-replied_side x = by (may_reply x && is_ok (send_answer x.state (closing_item end_reply_stream))) where
-  by : (b : Bool)
-      → (if b then record x { closing = record x.closing { reply_sent = true }; state = after_send x.state (closing_item end_reply_stream) } else x).side ≡ x.side
-  by true = refl
-  by false = refl
+replied_side x = put_side (may_reply x && is_ok (send_answer x.state (closing_item end_reply_stream))) x _ _
 
 noting_side : (o : Option Item) (x : ConversationScene) → (noting o x).side ≡ x.side
 noting_side None x = refl

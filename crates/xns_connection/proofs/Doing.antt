@@ -1,7 +1,7 @@
 -- What is done at a connection, in what its scene says of a story.
 use Rattle.std.proofs.Common.{◌≡◌, ◌∙◌, ap, sym, refl, subst, ℕ, ◌≤◌, ◌+◌, List, [], ◌∷◌, ◌++◌, length-append, take, drop, length, Bool, true, false, Option, Some, None, arith}
 use Rattle.std.specs.Prelude.{◌&&◌, ◌||◌, if◌then◌else◌}
-use Rattle.std.specs.Option.{is_some}
+use Rattle.std.specs.Option.{is_some, option_map}
 use Rattle.courier_messages.specs.RawCalls.{RawCall}
 use Rattle.courier_messages.specs.declared.message.Message.{Message}
 use Rattle.courier_sessions.specs.Answering as answering
@@ -10,10 +10,6 @@ use Rattle.courier_sessions.specs.Talk as talk
 use Rattle.courier_sessions.specs.Talk.{Talk, call_refusal}
 use Rattle.courier_sessions.specs.Talks.{HasDone}
 use Rattle.courier_sessions.specs.declared.answer.Answer.{Answer}
-use Rattle.courier_sessions.specs.declared.answer_refusal.AnswerRefusal.{AnswerRefusal}
-use Rattle.courier_sessions.specs.declared.answer_refusal.AnswerRefusal.TheVariants as unanswered
-use Rattle.courier_sessions.specs.declared.call_refusal.CallRefusal.{CallRefusal}
-use Rattle.courier_sessions.specs.declared.call_refusal.CallRefusal.TheVariants as uncalled
 use Rattle.courier_sessions.specs.declared.program.Program.{Program}
 use Rattle.courier_sessions.specs.declared.unlisted.Unlisted.{Unlisted}
 use Rattle.xns_spp.specs.Held.{StandsFor}
@@ -25,7 +21,7 @@ use Rattle.xns_spp.specs.declared.item.Item.{Item}
 use Rattle.xns_connection.specs.Closing.{drains, closing_items, Knows}
 use Rattle.xns_connection.specs.Deeds.{Deed, nothing, asked, made, gave, took, heard, answered_for, done, handed_by, side_answered, side_called, side_taken, told_by, wanted_by, with_answer, with_taken}
 use Rattle.xns_connection.specs.Moving.{ConversationScene, conversation_scene}
-use Rattle.xns_connection.specs.Refusing.{answer_fault, call_fault, side_answer_fault, side_call_fault}
+use Rattle.xns_connection.specs.Refusing.{answer_fault, refused_answer, refused_call, side_answer_fault, side_call_fault}
 use Rattle.xns_connection.specs.Step.{May}
 use Rattle.xns_connection.specs.Story.{Story, SideHas, CallerHas, ServerHas, asked_of, is_called, is_stopped, listed_call, out_of, waiting_message, with_handed}
 use Rattle.xns_connection.specs.Telling.{Tells}
@@ -74,12 +70,10 @@ says_other x h m side s has fed given out still =
 
 -- ---- a call
 
-no_fault : (o : Option CallRefusal) → call_fault o ≡ None → o ≡ None
-no_fault None e = refl
-no_fault (Some uncalled.Stopped) e = absurd (cc)
-no_fault (Some uncalled.Busy) e = absurd (cc)
-no_fault (Some uncalled.TooLong) e = absurd (cc)
-no_fault (Some uncalled.NoMemory) e = absurd (cc)
+-- where the program is told of no refusal there is none
+no_refusal : {R : Type 0} (told : R → Refusal) (o : Option R) → option_map told o ≡ None → o ≡ None
+no_refusal told None e = refl
+no_refusal told (Some r) e = absurd (cc)
 
 may_call : (a b : Bool) (o : Option Refusal) → (if a || b then Some faults.Closing else o) ≡ None → (a ≡ false) × (b ≡ false) × (o ≡ None)
 may_call true b o e = absurd (cc)
@@ -90,16 +84,10 @@ called : Underneath → (side : Side) (h : Story) (call : RawCall) → is_stoppe
     → SideHas (record h { made = h.made ++ call ∷ [] }) (side_called side call)
 called laws (Calls t) h call free may has =
     going (record h { made = h.made ++ call ∷ [] }) (talk.called t call)
-    (laws.makes h.made h.fed h.given h.handed t call (gone h t has free) (no_fault (call_refusal t call) may)) has.table
+    (laws.makes h.made h.fed h.given h.handed t call (gone h t has free) (no_refusal refused_call (call_refusal t call) may)) has.table
 called laws (Answers a) h call free may has = absurd (cc)
 
 -- ---- an answer
-
-no_reason : (o : Option AnswerRefusal) → answer_fault o ≡ None → o ≡ None
-no_reason None e = refl
-no_reason (Some unanswered.NoCall) e = absurd (cc)
-no_reason (Some unanswered.TooLong) e = absurd (cc)
-no_reason (Some unanswered.NoMemory) e = absurd (cc)
 
 may_answer : (a : Bool) (o : Option Refusal) → (if a then Some faults.Closing else o) ≡ None → (a ≡ false) × (o ≡ None)
 may_answer true o e = absurd (cc)
@@ -115,7 +103,7 @@ given_to : Underneath → (a : Answering) (o : Option ℕ) (h : Story) (kind : A
     → Gives (Answers (answered_for o a kind words)) h (with_answer o kind words h)
 given_to laws a None h kind words is may has = absurd (cc)
 given_to laws a (Some k) h kind words is may has =
-    let none = no_reason (answer_refusal (Some k) kind words) may in
+    let none = no_refusal refused_answer (answer_refusal (Some k) kind words) may in
     let right : answer_refusal a.asked kind words ≡ None = ap (λ (o : Option ℕ). answer_refusal o kind words) is ∙ none in
     record { has = answers laws.gives h a (answering.with_answer_out a (answer_message kind k words)) kind k words is right refl has; fed = refl; given = refl }
 
@@ -135,7 +123,8 @@ taken_from law t (Some m) h is has =
     let done = law h.made h.fed h.given h.handed (record t { failed = false; phase = has.phase }) m has.done is in
     record { has = record { phase = has.phase; done = done; going = has.going; table = has.table }; fed = refl; given = refl }
 
-is_listed_call : (programs : List Program) (o : Option Message) (m : Message) → listed_call programs o ≡ Some m
+-- the call that is handed waits, and is listed
+pub is_listed_call : (programs : List Program) (o : Option Message) (m : Message) → listed_call programs o ≡ Some m
     → (o ≡ Some m) × (why_unlisted programs m ≡ None)
 is_listed_call programs None m e = absurd (cc)
 is_listed_call programs (Some k) m e = by (why_unlisted programs k) refl e where
@@ -158,7 +147,7 @@ taken outcome call (Calls t) h has = taken_from outcome t t.outcome h refl has
 taken outcome call (Answers a) h has = call_from call a (listed_call a.programs a.call) h refl has
 
 -- where handing any call leaves something as it was, handing none does too
-handed_keeps : {X : Type 0} (f : Answering → X) (a : Answering) (o : Option Message) → ((m : Message) → f (after_call a m) ≡ f a) → f (handed_by o a) ≡ f a
+pub handed_keeps : {X : Type 0} (f : Answering → X) (a : Answering) (o : Option Message) → ((m : Message) → f (after_call a m) ≡ f a) → f (handed_by o a) ≡ f a
 handed_keeps f a None same = refl
 handed_keeps f a (Some m) same = same m
 
@@ -223,20 +212,12 @@ done_drains took x = same_reads x.side (side_taken x.side) x.closing (taken_stop
 done_drains (heard bytes) x = refl
 
 pub done_sent : (deed : Deed) (x : ConversationScene) → (done deed x).closing.end_sent ≡ x.closing.end_sent
-done_sent nothing x = refl
 done_sent asked x = refl
-done_sent (made call) x = refl
-done_sent (gave kind words) x = refl
-done_sent took x = refl
-done_sent (heard bytes) x = refl
+done_sent other x = refl
 
 pub done_wanted : (deed : Deed) (x : ConversationScene) → (done deed x).closing.wanted ≡ wanted_by deed x.closing.wanted
-done_wanted nothing x = refl
 done_wanted asked x = refl
-done_wanted (made call) x = refl
-done_wanted (gave kind words) x = refl
-done_wanted took x = refl
-done_wanted (heard bytes) x = refl
+done_wanted other x = refl
 
 answer_state : (o : Option ℕ) (kind : Answer) (words : List ℕ) (h : Story) → (with_answer o kind words h).state ≡ h.state
 answer_state None kind words h = refl
@@ -261,16 +242,12 @@ told_state (heard bytes) t h = refl
 -- as many items wait to be read, or more
 pub done_waits : Underneath → (deed : Deed) (t : Conversation) (s : State) → StandsFor t.endpoint s
     → waiting_count s ≤ waiting_count (done deed (conversation_scene t s)).state
-done_waits laws nothing t s stands = omega arith
-done_waits laws asked t s stands = omega arith
-done_waits laws (made call) t s stands = omega arith
-done_waits laws (gave kind words) t s stands = omega arith
-done_waits laws took t s stands = omega arith
 done_waits laws (heard bytes) t s stands =
     let g = (laws.grows.receive s bytes).taken in
     let size : length s.taken + length g.0 ≡ length (after_receive s bytes).taken = sym (length-append s.taken g.0) ∙ ap length g.1 in
     let same = (laws.stays.receive s bytes).handed in
     omega (arith, size, same)
+done_waits laws other t s stands = omega arith
 
 pub took_says : CallerHands → ServerHands → (t : Conversation) (h : Story) → Tells t h → Says (done took (conversation_scene t h.state)) (told_by took t.side h)
 took_says outcome call t h tells =

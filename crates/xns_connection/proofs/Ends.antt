@@ -1,9 +1,8 @@
 -- A connection keeps its end, which at most learns its peer.
-use Rattle.std.proofs.Common.{◌≡◌, ◌∙◌, ap, arith, refl, sym, subst, ℕ, zero, suc, ◌<◌, Bool, true, false, List, [], ◌∷◌, Option, Some, None, Result, Ok, Err, IfOk, OnErr}
-use Rattle.std.specs.Prelude.{◌+◌, ◌&&◌, ◌==◌, max, nat_lt, not, if◌then◌else◌, is_ok}
+use Rattle.std.proofs.Common.{◌≡◌, ◌∙◌, ap, refl, sym, subst, ℕ, zero, suc, Bool, true, false, List, [], ◌∷◌, Option, Some, None, Result, Ok, Err, IfOk, OnErr}
+use Rattle.std.specs.Prelude.{◌+◌, ◌&&◌, max, nat_lt, if◌then◌else◌, is_ok}
 use Rattle.std.specs.Option.{is_some}
 use Rattle.std.specs.declared.alloc.AllocError.{AllocError}
-use Rattle.std.proofs.lemmas.Bool.{eqb-true}
 use Rattle.std.proofs.Math.Logic.{∥∥₁_elim}
 use Rattle.std.proofs.Props.{props}
 use Rattle.courier_sessions.specs.Pumping.{caller_side, server_side}
@@ -26,6 +25,7 @@ use Rattle.xns_spp.specs.declared.item.Item.{Item}
 use Rattle.xns_spp.specs.declared.role.Role.{Role}
 use Rattle.xns_spp.specs.declared.role.Role.TheVariants.{Initiator, Responder}
 use Rattle.xns_spp.specs.declared.send_fault.SendFault.{SendFault}
+use Rattle.xns_spp.proofs.Heard.{not_zero}
 use Rattle.xns_connection.specs.Closing.{closing_item, drains, end_reply_stream, end_stream}
 use Rattle.xns_connection.specs.Connecting.{is_dead}
 use Rattle.xns_connection.specs.Deeds.{Deed, Parts, acted, acted_by, asked, done, gave, heard, made, nothing, shut, took, unserved}
@@ -185,17 +185,13 @@ has_ends c e has = ends_of c has.state has.stands ∙ has.ends
 
 -- ---- what is kept
 
-known_by : (n : ℕ) (b : Bool) → (n == 0) ≡ b → 0 < n → not b ≡ true
-known_by n true test some = let is : n ≡ 0 = eqb-true n 0 test in absurd (omega (arith, is, some))
-known_by n false test some = refl
-
 -- the end of a connection that a peer opened knows the peer, and so stays as it is
 same_opener : (a b : Ends) (role : Role) → a.role ≡ role → IsEnds a → IsSameEnd a b → opener_by b.role b ≡ opener_by a.role a
 same_opener a b Initiator is fits end =
     let still : b.role ≡ a.role = ap (λ (e : Ends). e.role) end.same in
     ap (λ (r : Role). opener_by r b) (still ∙ is) ∙ sym (ap (λ (r : Role). opener_by r a) is)
 same_opener a b Responder is fits end =
-    ap (λ (e : Ends). opener_by e.role e) (end.known (known_by a.peer_id (a.peer_id == 0) refl (fits.peer_known is)))
+    ap (λ (e : Ends). opener_by e.role e) (end.known (not_zero a.peer_id (fits.peer_known is)))
 
 -- of a connection that its peer opened the end tells who opened it: its peer
 pub named_opener : (c : Connection) (o : Option (Address × ℕ)) → c.conversation.endpoint.ends.role ≡ Responder
@@ -204,7 +200,7 @@ named_opener c o responds named = ∥∥₁_elim c.stands (Prim.hlevel props) (�
     let e : Ends = x.0.ends in
     let same : c.conversation.endpoint.ends ≡ e = ends_of c x.0 x.1 in
     let is : e.role ≡ Responder = sym (ap (λ (f : Ends). f.role) same) ∙ responds in
-    let known : is_open e ≡ true = known_by e.peer_id (e.peer_id == 0) refl (x.1.fits.ends.peer_known is) in
+    let known : is_open e ≡ true = not_zero e.peer_id (x.1.fits.ends.peer_known is) in
     named x.0 x.1 ∙ ap (λ (b : Bool). if b then Some (e.peer, e.peer_id) else None) known ∙ sym (ap (λ (r : Role). opener_by r e) is)
     ∙ sym (ap (λ (f : Ends). opener_by f.role f) same))
 

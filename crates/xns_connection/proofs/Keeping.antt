@@ -3,7 +3,7 @@ use Rattle.std.proofs.Common.{◌≡◌, ◌≢◌, ◌∙◌, ap, sym, refl, su
 use Rattle.std.specs.Prelude.{◌&&◌, ◌==◌, ◌-◌, nat_lt, is_ok}
 use Rattle.std.proofs.Math.Logic.{∥∥₁_elim}
 use Rattle.std.proofs.Props.{props}
-use Rattle.std.proofs.lemmas.Bool.{lt-ltb}
+use Rattle.std.proofs.lemmas.Bool.{lt-ltb, or_right}
 use Rattle.courier_sessions.specs.declared.feed_refusal.FeedRefusal.{FeedRefusal}
 use Rattle.courier_sessions.specs.declared.feed_refusal.FeedRefusal.TheVariants.{NoMemory}
 use Rattle.xns_spp.specs.Acceptance.{send_fault_at}
@@ -113,10 +113,6 @@ goes_from h m s same g = record {
   answers = g.answers;
   even = g.even;
 }
-
-or_more : (a b : Bool) → b ≡ true → (a || b) ≡ true
-or_more true b e = refl
-or_more false b e = e
 
 module _ (below : Below) (under : Underneath) (law : ItemsAreAcceptedOrChangeNothing) (now : ℕ) (deed : Deed) (old new : Connection)
     (step : Step now deed old new) where
@@ -262,7 +258,7 @@ module _ (below : Below) (under : Underneath) (law : ItemsAreAcceptedOrChangeNot
       let more = done_waits under deed t s stands in
       let same = same_waiting v (last s stands).state there m.at.stands ∙ ap waiting_count (shut_state old.closed new.closed m.to) in
       let fewer : waiting_count m.to.state < waiting_count (first s).state = omega (arith, less, more, same) in
-      ap (λ o. o.word) m.owes ∙ or_more (owed_by deed old.owed old.wait s now).word (nat_lt (waiting_count m.to.state) (waiting_count (first s).state)) (lt-ltb (waiting_count m.to.state) (waiting_count (first s).state) fewer)
+      ap (λ o. o.word) m.owes ∙ or_right (owed_by deed old.owed old.wait s now).word (nat_lt (waiting_count m.to.state) (waiting_count (first s).state)) (lt-ltb (waiting_count m.to.state) (waiting_count (first s).state) fewer)
 
   wanted : (s : State) → StandsFor t.endpoint s → new.conversation.closing.wanted ≡ wanted_by deed old.conversation.closing.wanted
   wanted s stands =

@@ -3,7 +3,7 @@ mod Belonging
 mod Closes
 mod Coming
 mod Dead
-mod Doing
+pub mod Doing
 mod Dues
 mod Ends
 mod Fills
@@ -14,7 +14,7 @@ mod Single
 mod Handed
 mod Handing
 mod Keeping
-mod Leading
+pub mod Leading
 mod Listing
 mod Lives
 mod Moments

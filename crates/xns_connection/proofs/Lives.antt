@@ -1,18 +1,17 @@
 -- A connection has a story at every moment, and what two programs come to whose connections are peers.
 use Rattle.std.proofs.Common.{◌≡◌, ◌∙◌, ap, sym, refl, subst, ℕ, ◌+◌, ◌≤◌, List, [], ◌∷◌, ◌++◌, length, length-append, Option, Some, None, arith}
-use Rattle.std.specs.Prelude.{slice_get, if◌then◌else◌}
+use Rattle.std.specs.Prelude.{slice_get}
 use Rattle.std.specs.List.{filter}
-use Rattle.std.specs.Option.{is_some, option_to_list}
+use Rattle.std.specs.Option.{option_to_list}
 use Rattle.std.proofs.lemmas.List.Elements.{filter-append}
 use Rattle.courier_messages.specs.Laws.{OneItemMore, AConversationOnlyGrows}
 use Rattle.courier_messages.specs.RawCalls.{RawCall}
 use Rattle.courier_messages.specs.declared.message.Message.{Message}
-use Rattle.courier_sessions.specs.Answering.{Answering, transaction_in, why_unlisted, reject_message, answer_message}
+use Rattle.courier_sessions.specs.Answering.{Answering, transaction_in, reject_message, answer_message}
 use Rattle.courier_sessions.specs.Answerings.{is_answerable}
 use Rattle.courier_sessions.specs.Talk.{Talk}
 use Rattle.courier_sessions.specs.Talks.{made_messages}
 use Rattle.courier_sessions.specs.declared.program.Program.{Program}
-use Rattle.courier_sessions.specs.declared.unlisted.Unlisted.{Unlisted}
 use Rattle.xns_spp.specs.Fronts.{begins_length}
 use Rattle.xns_spp.specs.Growth.{Begins}
 use Rattle.xns_spp.specs.Receiving.{after_receive}
@@ -20,11 +19,12 @@ use Rattle.xns_spp.specs.State.{State}
 use Rattle.xns_connection.specs.Acting.{Acts, idling, calling, handing, answering, IsTold}
 use Rattle.xns_connection.specs.Agreeing.{ArePeers, Agree}
 use Rattle.xns_connection.specs.Living.{Deeds, no_deeds, Lives, opens, goes, hears, calls, takes, gives, Reaches, stays, runs, receives, IsLived, ProgramsAgree, to_listed}
-use Rattle.xns_connection.specs.Story.{Story, SideHas, ServerHas, AreRejected, ProgramDoesNothing, new_story, asked_of, listed_call, waiting_message, with_handed}
+use Rattle.xns_connection.specs.Story.{Story, SideHas, ServerHas, AreRejected, ProgramDoesNothing, new_story, asked_of, waiting_message, with_handed}
 use Rattle.xns_connection.specs.Telling.{Tells}
 use Rattle.xns_connection.specs.declared.conversation.Conversation.{Conversation}
 use Rattle.xns_connection.specs.declared.side.Side.{Side}
 use Rattle.xns_connection.specs.declared.side.Side.TheVariants.{Calls, Answers}
+use Rattle.xns_connection.proofs.Doing.{is_listed_call}
 use Rattle.xns_connection.proofs.Peers.{CallsAgree, AnswersAgree, agree, one_at_most}
 use Rattle.xns_connection.proofs.Listing.{is_listed_where, no_calls, filter_takes, unanswered_behind, more_answers, one_given, nothing_given}
 use Rattle.xns_connection.proofs.Rejecting.{count_of, all_answered}
@@ -123,14 +123,6 @@ called_base call b = record {
   gave = λ ps e. let g = b.gave ps e in (record { handed = g.0.handed; few = g.0.few; most = g.0.most }, g.1);
 }
 
--- the call that is handed waits, and is listed
-waiting : (programs : List Program) (o : Option Message) (m : Message) → listed_call programs o ≡ Some m → (o ≡ Some m) × (why_unlisted programs m ≡ None)
-waiting programs None m e = absurd (cc)
-waiting programs (Some n) m e = by (why_unlisted programs n) refl e where
-  by : (w : Option Unlisted) → why_unlisted programs n ≡ w → (if is_some w then None else Some n) ≡ Some m → (Some n ≡ Some m) × (why_unlisted programs m ≡ None)
-  by None is f = (f, ap (why_unlisted programs) (let same : m ≡ n = cc in same) ∙ is)
-  by (Some u) is f = absurd (cc)
-
 taken_base : {programs : Option (List Program)} {start : State} {l : Deeds} {h : Story} (side : Side) (m : Message) → SideHas h side → waiting_message side ≡ Some m → IsBase programs start l h → IsBase programs start (record l { handed = l.handed ++ m ∷ [] }) (with_handed side h m)
 taken_base (Calls t) m has is b = record {
   path = b.path;
@@ -140,7 +132,7 @@ taken_base (Calls t) m has is b = record {
   gave = λ ps e. let none = has.table in let some = b.table ∙ e in absurd (cc);
 }
 taken_base {h = h} (Answers a) m has is b =
-    let w = waiting a.programs a.call m is in
+    let w = is_listed_call a.programs a.call m is in
     let even = all_answered m has.done w.0 in
     let one = length-append h.taken (m ∷ []) in
     let added : filter (is_answerable a.programs) (h.taken ++ m ∷ []) ≡ filter (is_answerable a.programs) h.taken ++ m ∷ [] =

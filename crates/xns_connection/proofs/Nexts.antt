@@ -21,6 +21,12 @@ giving_at {t} {o} {x} g =
     ap (λ (ps : List (List ℕ)). let y : Giving = record { state = x.state; packets = ps; owed = o } in y) g.packets
     ∙ ap (λ (w : Owed). let y : Giving = record { state = x.state; packets = x.packets; owed = w } in y) g.owed
 
+-- no packet goes out again
+pub none_older : (t0 t : Conversation) (o0 o : Owed) {q : Option (List ℕ)} → q ≡ None
+    → ((s : State) → StandsFor t0.endpoint s → GivesAs (older (giving t0 o0 s)) q t o)
+    → (s : State) → StandsFor t0.endpoint s → GivesAs (older (giving t0 o0 s)) None t o
+none_older t0 t o0 o is first s stands = let g = first s stands in (sym is ∙ g.0, g.1)
+
 -- no packet goes out again, and then this one goes out for the first time
 pub next_at : (r : Result (Option (List ℕ)) AllocError) (t0 t u : Conversation) (o0 o v : Owed)
     → ((s : State) → StandsFor t0.endpoint s → GivesAs (older (giving t0 o0 s)) None t o)

@@ -4,7 +4,7 @@ use Rattle.std.specs.Prelude.{slice_get, if◌then◌else◌}
 use Rattle.std.specs.List.{filter}
 use Rattle.std.specs.Option.{option_to_list}
 use Rattle.std.proofs.lemmas.List.Elements.{filter-append}
-use Rattle.courier_messages.specs.Called.{all_calls, called_ending}
+use Rattle.courier_messages.specs.Called.{all_calls}
 use Rattle.courier_messages.specs.Conversation.{Phase, opening, fresh, inside, conversation, ending}
 use Rattle.courier_messages.specs.Laws.{IsFaultless, OneItemMore, AConversationOnlyGrows, MessageItemsCanBeSent}
 use Rattle.courier_messages.specs.Phases.{run, ◌then◌}

@@ -1,6 +1,8 @@
 -- What the closing exchange puts out, and what all of it does to what a scene says of a story.
 use Rattle.std.proofs.Common.{◌≡◌, ◌∙◌, ap, sym, refl, subst, ℕ, zero, suc, List, [], ◌∷◌, ◌++◌, append-nil, append_assoc, take, Bool, true, false, Option, Some, None, Result, Ok, Err}
 use Rattle.std.specs.Prelude.{◌&&◌, ◌||◌, if◌then◌else◌, is_ok, not}
+use Rattle.std.proofs.Math.Bool.{or-false, or-true}
+use Rattle.std.proofs.lemmas.Bool.{and_parts, false≢true, or_right}
 use Rattle.courier_sessions.specs.Answering.{has_items}
 use Rattle.courier_sessions.specs.Pumping.{Side as PumpSide, caller_side, feeding, feeds, moving}
 use Rattle.courier_sessions.specs.Talk.{Talk}
@@ -125,17 +127,13 @@ drains_self false true c = refl
 drains_self false false true = refl
 drains_self false false false = refl
 
-or_none : (b : Bool) → (b || false) ≡ b
-or_none true = refl
-or_none false = refl
-
 -- behind End what comes is looked at for the closing exchange alone where the side is called
 end_drains : (x : ConversationScene) → MayEnd x
     → drains x.side (record x.closing { end_sent = true }) ≡ (drains x.side x.closing || (true && is_called x.side))
 end_drains x why =
     let r = reads_on x.side x.closing why.free in
     ap (λ (b : Bool). b || (is_called x.side || (x.closing.reply_sent || x.closing.deaf))) r.going
-    ∙ ap (λ (b : Bool). is_called x.side || (b || x.closing.deaf)) r.reply ∙ ap (λ (b : Bool). is_called x.side || b) r.heard ∙ or_none (is_called x.side)
+    ∙ ap (λ (b : Bool). is_called x.side || (b || x.closing.deaf)) r.reply ∙ ap (λ (b : Bool). is_called x.side || b) r.heard ∙ or-false (is_called x.side)
     ∙ sym (ap (λ (b : Bool). b || is_called x.side) why.free)
 
 -- whether what comes is looked at for the closing exchange alone: as before, or End is put out at a side that is called
@@ -217,10 +215,7 @@ replies_by : ItemsAreAcceptedOrChangeNothing → (x : ConversationScene) (m o : 
     → PutsReply x (if m && o then record x { closing = record x.closing { reply_sent = true }; state = after_send x.state (closing_item end_reply_stream) } else x)
 replies_by law x true true may ok = record {
   closes = reply_follows law x may ok;
-  said = λ again.
-      let y : ConversationScene = record x { closing = record x.closing { reply_sent = true }; state = after_send x.state (closing_item end_reply_stream) } in
-      let no = unsent y.closing.reply_wanted y.closing.reply_sent (drains y.side y.closing && not (has_items (out_of y.side))) again in
-      absurd (cc);
+  said = λ again. absurd (false≢true (and_parts x.closing.reply_wanted false again).1);
 }
 replies_by law x true false may ok = record { closes = closes_not x; said = λ again. ok }
 replies_by law x false o may ok = record { closes = closes_not x; said = λ again. absurd (cc) }
@@ -323,11 +318,5 @@ closed_drained x drain =
     reply_drains b (may_reply b) (is_ok (send_answer b.state (closing_item end_reply_stream))) refl
     ∙ out_drained a (drains a.side a.closing) (ended_drained x (may_end x && is_ok (send_answer x.state (closing_item end_stream))) drain)
 
-last_true : (a b c : Bool) → (a || (b || (c || true))) ≡ true
-last_true true b c = refl
-last_true false true c = refl
-last_true false false true = refl
-last_true false false false = refl
-
 pub deaf_drained : (x : ConversationScene) → drains (deafened x).side (deafened x).closing ≡ true
-deaf_drained x = last_true (is_stopped x.side) (x.closing.end_sent && is_called x.side) x.closing.reply_sent
+deaf_drained x = or_right (is_stopped x.side) _ (or_right (x.closing.end_sent && is_called x.side) _ (or-true x.closing.reply_sent))

@@ -48,10 +48,6 @@ none_drains t s none stands = by (drains t.side t.closing) where
 
 -- ---- what is not said
 
-and_no : (a b : Bool) → b ≡ false → (a && b) ≡ false
-and_no true b e = e
-and_no false b e = refl
-
 unless : (b : Bool) (u : Conversation) (x y : ConversationScene) → b ≡ false → IsAt u x → IsAt u (if b then y else x)
 unless true u x y e at = absurd (cc)
 unless false u x y e at = at
@@ -59,13 +55,14 @@ unless false u x y e at = at
 same_at : (t u : Conversation) (s : State) → u ≡ t → StandsFor t.endpoint s → IsAt u (conversation_scene t s)
 same_at t u s same stands = subst (λ (w : Conversation). IsAt w (conversation_scene t s)) (sym same) (at_first t s stands)
 
-pub not_ended : (t u : Conversation) (s : State) → u ≡ t → is_ok (send_answer s (closing_item end_stream)) ≡ false → StandsFor t.endpoint s
-    → IsAt u (with_end_out (conversation_scene t s))
-not_ended t u s same full stands = unless _ u _ _ (and_no (may_end (conversation_scene t s)) _ full) (same_at t u s same stands)
+pub not_ended : (t u : Conversation) (s : State) → u ≡ t → (may_end (conversation_scene t s) && is_ok (send_answer s (closing_item end_stream))) ≡ false
+    → StandsFor t.endpoint s → IsAt u (with_end_out (conversation_scene t s))
+not_ended t u s same none stands = unless _ u _ _ none (same_at t u s same stands)
 
-pub not_replied : (t u : Conversation) (s : State) → u ≡ t → is_ok (send_answer s (closing_item end_reply_stream)) ≡ false
-    → StandsFor t.endpoint s → IsAt u (replied (conversation_scene t s))
-not_replied t u s same full stands = unless _ u _ _ (and_no (may_reply (conversation_scene t s)) _ full) (same_at t u s same stands)
+pub not_replied : (t u : Conversation) (s : State) → u ≡ t
+    → (may_reply (conversation_scene t s) && is_ok (send_answer s (closing_item end_reply_stream))) ≡ false → StandsFor t.endpoint s
+    → IsAt u (replied (conversation_scene t s))
+not_replied t u s same none stands = unless _ u _ _ none (same_at t u s same stands)
 
 -- ---- all that can move
 

@@ -20,12 +20,13 @@ use Rattle.xns_connection.specs.Connecting.{FitsClosed, again_for, goes_again, i
 use Rattle.xns_connection.specs.Moving.{HasHistory, IsAt, ConversationScene, MovesAll, is_calm, conversation_scene}
 use Rattle.xns_connection.specs.Replying.{reply_by}
 use Rattle.xns_connection.specs.Step.{May, MovesOwed, Step, WaitsBy, is_calm_then, parts_of}
-use Rattle.xns_connection.specs.Deeds.{Deed, Parts, acted, acted_by, given_up, heard, Moved, ClosesThen, GoesOnBy, closed_moved, done, given_up_by, is_starved, owed_by, owed_moved, shut, took, wait_after_deed, wait_moved}
+use Rattle.xns_connection.specs.Deeds.{Deed, KeepsRest, Parts, acted, acted_by, given_up, heard, Moved, ClosesThen, GoesOnBy, closed_moved, done, given_up_by, is_starved, owed_by, owed_moved, shut, took, wait_after_deed, wait_moved}
 use Rattle.xns_connection.specs.Telling.{is_over, progress, waits}
 use Rattle.xns_connection.specs.declared.connection.Connection.{Connection}
 use Rattle.xns_connection.specs.declared.conversation.Conversation.{Conversation}
 use Rattle.xns_connection.specs.declared.owed.Owed.{Owed}
 use Rattle.xns_connection.specs.declared.why.Why.{Why}
+use Rattle.xns_connection.proofs.Dues.{fits_same}
 use Rattle.xns_connection.proofs.Scenes.{deaf_at, scene_at}
 
 -- a connection that was closed stays so
@@ -98,10 +99,10 @@ goes_on_by now old mid new r o n was closed w v settles packets next owes = reco
 -- ---- what is always so
 
 -- what is known of the parts of a connection
-record Known (t : Conversation) (w : Waiting) (closed : Option Why) : Type 0 where
-  timed : closed ≡ None → (s : State) → StandsFor t.endpoint s → tick_answer s ≢ [] → is_again w.due ≡ true
-  fits : FitsClosed closed t w
-  stands : HasHistory t.endpoint
+pub record Known (t : Conversation) (w : Waiting) (closed : Option Why) : Type 0 where
+  pub timed : closed ≡ None → (s : State) → StandsFor t.endpoint s → tick_answer s ≢ [] → is_again w.due ≡ true
+  pub fits : FitsClosed closed t w
+  pub stands : HasHistory t.endpoint
 
 known_one : (t : Conversation) (w : Waiting) (closed : Option Why) (a b : Known t w closed) → a ≡ b
 known_one t w closed a b = one a b where
@@ -120,7 +121,7 @@ with_known p k = record {
   stands = k.stands;
 }
 
-abbrev known_of : (c : Connection) → Known c.conversation c.wait c.closed
+abbrev pub known_of : (c : Connection) → Known c.conversation c.wait c.closed
 known_of c = record { timed = c.timed; fits = c.fits; stands = c.stands }
 
 -- a connection is its parts
@@ -139,6 +140,14 @@ same_history e f same has = subst HasHistory (sym same) has
 pub same_timed : (closed : Option Why) (w : Waiting) (e f : Held) → e ≡ f → (closed ≡ None → (s : State) → StandsFor f s → tick_answer s ≢ [] → is_again w.due ≡ true)
     → closed ≡ None → (s : State) → StandsFor e s → tick_answer s ≢ [] → is_again w.due ≡ true
 same_timed closed w e f same timed none s stands some = timed none s (subst (λ (h : Held). StandsFor h s) same stands) some
+
+-- what is known of a connection is known where the rest of its conversation is as it was
+pub still_known : {t u : Conversation} {w : Waiting} {closed : Option Why} → KeepsRest t u → Known t w closed → Known u w closed
+still_known {t} {u} {w} {closed} rest k = record {
+  timed = same_timed closed w u.endpoint t.endpoint rest.endpoint k.timed;
+  fits = fits_same closed t u w k.fits rest.drains;
+  stands = same_history u.endpoint t.endpoint rest.endpoint k.stands;
+}
 
 -- something was done at a connection, but that bytes came, and then what could move moved
 pub step_by : (now : ℕ) (deed : Deed) (old new : Connection) (mid : Conversation) → mid.endpoint ≡ old.conversation.endpoint
@@ -248,14 +257,6 @@ acts_by p a w o now is after owes stay =
 pub calm_then : (c : Connection) (t : Conversation) (s : State) → c.owed.moving ≡ false → conversation_scene t s ≡ done took (conversation_scene c.conversation s)
     → is_calm (conversation_scene t s) ≡ true → is_calm_then c s ≡ true
 calm_then c t s idle same calm = ap (λ (b : Bool). not b && is_calm (done took (conversation_scene c.conversation s))) idle ∙ ap is_calm (sym same) ∙ calm
-
-pub first_no : (a b : Bool) → a ≡ false → (a && b) ≡ false
-first_no true b e = absurd (cc)
-first_no false b e = refl
-
-pub second_no : (a b : Bool) → b ≡ false → (a && b) ≡ false
-second_no true b e = e
-second_no false b e = refl
 
 -- ---- a packet
 

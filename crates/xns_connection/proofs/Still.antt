@@ -5,6 +5,7 @@ use Rattle.std.specs.Option.{is_some}
 use Rattle.courier_messages.specs.declared.message.Message.{Message}
 use Rattle.courier_sessions.specs.Answering.{has_items}
 use Rattle.courier_sessions.specs.Pumping.{Side as PumpSide, feeds, moving, caller_side, server_side, one_step}
+use Rattle.courier_sessions.proofs.Done.{none_there}
 use Rattle.xns_spp.specs.Held.{StandsFor}
 use Rattle.xns_spp.specs.Laws.{TheNextItemIsHandedUp}
 use Rattle.xns_spp.specs.Sending.{take_answer, waiting_count}
@@ -16,10 +17,6 @@ use Rattle.xns_connection.specs.declared.conversation.Conversation.{Conversation
 use Rattle.xns_connection.specs.declared.side.Side.{Side}
 use Rattle.xns_connection.specs.declared.side.Side.TheVariants.{Calls, Answers}
 use Rattle.xns_connection.proofs.Leading.{stays}
-
-no_item : (o : Option Item) → is_some o ≡ false → o ≡ None
-no_item None none = refl
-no_item (Some x) none = absurd (cc)
 
 pub no_items : (xs : List Item) → has_items xs ≡ false → xs ≡ []
 no_items [] none = refl
@@ -33,7 +30,7 @@ no_step : {S : Type 0} (side : PumpSide S) → TheNextItemIsHandedUp → (t : S)
     → one_step side (t, s) ≡ None
 no_step side next t s out few =
     let none : is_some (take_answer s) ≡ false = sym (next.waits s) ∙ ap (λ (n : ℕ). nat_lt 0 n) few in
-    ap (λ (xs : List Item). moving side t s xs) out ∙ ap (λ (o : Option Item). feeds side t s o) (no_item (take_answer s) none)
+    ap (λ (xs : List Item). moving side t s xs) out ∙ ap (λ (o : Option Item). feeds side t s o) (none_there (take_answer s) none)
 
 is_moved : TheNextItemIsHandedUp → (side : Side) (s : State) → has_items (out_of side) ≡ false → waiting_count s ≡ 0 → IsMoved side s
 is_moved next (Calls t) s out few = no_step caller_side next t s (no_items t.out out) few

@@ -1,7 +1,8 @@
 -- What steps do to what a connection has done.
 use Rattle.std.proofs.Common.{◌≡◌, ◌∙◌, ap, sym, refl, subst, ℕ, ◌≤◌, List, [], ◌∷◌, ◌++◌, append-nil, take, drop, map, ◌-◌, length, Bool, true, false, Option, Some, None, Result, Ok, Err, IfErr, OnOk, arith}
 use Rattle.std.specs.Prelude.{not, ◌&&◌, ◌||◌, ◌==◌, if◌then◌else◌}
-use Rattle.std.proofs.lemmas.Bool.{eqb-true}
+use Rattle.std.proofs.Math.Bool.{or-false, or-true}
+use Rattle.std.proofs.lemmas.Bool.{eqb-true, or_parts}
 use Rattle.std.proofs.lemmas.List.{drop-append-le, take-append-le}
 use Rattle.std.proofs.lemmas.List.Folds.{list_any-append}
 use Rattle.courier_sessions.specs.declared.program.Program.{Program}
@@ -93,20 +94,12 @@ record IsNoted (e f : Closing) (a b : Bool) : Type 0 where
   pub wanted : f.reply_wanted ≡ (e.reply_wanted || (a || b))
   pub heard : f.reply_heard ≡ (e.reply_heard || b)
 
-or_true : (a : Bool) → true ≡ (a || true)
-or_true true = refl
-or_true false = refl
-
-or_false : (a : Bool) → a ≡ (a || false)
-or_false true = refl
-or_false false = refl
-
 -- one stream is not both
 is_noted : (e : Closing) (a b : Bool) → (a ≡ true → b ≡ false) → IsNoted e (if a then record e { reply_wanted = true } else if b then record e { reply_wanted = true; reply_heard = true } else e) a b
 is_noted e true true one = let z = one refl in absurd (cc)
-is_noted e true false one = record { wanted = or_true e.reply_wanted; heard = or_false e.reply_heard }
-is_noted e false true one = record { wanted = or_true e.reply_wanted; heard = or_true e.reply_heard }
-is_noted e false false one = record { wanted = or_false e.reply_wanted; heard = or_false e.reply_heard }
+is_noted e true false one = record { wanted = sym (or-true e.reply_wanted); heard = sym (or-false e.reply_heard) }
+is_noted e false true one = record { wanted = sym (or-true e.reply_wanted); heard = sym (or-true e.reply_heard) }
+is_noted e false false one = record { wanted = sym (or-false e.reply_wanted); heard = sym (or-false e.reply_heard) }
 
 not_both : (n : ℕ) → (n == end_stream) ≡ true → (n == end_reply_stream) ≡ false
 not_both n is = ap (λ (k : ℕ). k == end_reply_stream) (eqb-true n end_stream is)
@@ -117,8 +110,8 @@ knows_more e items x k =
     let b : Bool = x.stream == end_reply_stream in
     let n = is_noted e a b (not_both x.stream) in
     record {
-      wanted = n.wanted ∙ ap (λ (c : Bool). c || (a || b)) k.wanted ∙ ap (λ (c : Bool). asks_end items || c) (or_false (a || b)) ∙ sym (list_any-append _ items (x ∷ []));
-      heard = n.heard ∙ ap (λ (c : Bool). c || b) k.heard ∙ ap (λ (c : Bool). replies_end items || c) (or_false b) ∙ sym (list_any-append _ items (x ∷ []));
+      wanted = n.wanted ∙ ap (λ (c : Bool). c || (a || b)) k.wanted ∙ ap (λ (c : Bool). asks_end items || c) (sym (or-false (a || b))) ∙ sym (list_any-append _ items (x ∷ []));
+      heard = n.heard ∙ ap (λ (c : Bool). c || b) k.heard ∙ ap (λ (c : Bool). replies_end items || c) (sym (or-false b)) ∙ sym (list_any-append _ items (x ∷ []));
     }
 
 pub knows_taken : TheNextItemIsHandedUp → (s : State) (o : Option Item) (e f : Closing) → take_answer s ≡ o → NotesNext o e f → (fed : List Item) → Begins fed (take s.handed s.taken) → Knows e (drop (length fed) (take s.handed s.taken))
@@ -175,16 +168,12 @@ reads_on side e d = by (is_stopped side) (e.end_sent && is_called side) e.reply_
   by false false false true p q r s z = absurd (cc)
   by false false false false p q r s z = record { going = p; end = q; reply = r; heard = s }
 
-rest_free : (a b : Bool) → (a || b) ≡ false → b ≡ false
-rest_free true b z = absurd (cc)
-rest_free false b z = z
-
 -- what was read is read on by another side that has not stopped
 pub reads_by : (side other : Side) (e : Closing) → is_called other ≡ is_called side → drains side e ≡ false → is_stopped other ≡ false → drains other e ≡ false
 reads_by side other e called d still =
     let rest : Bool = (e.end_sent && is_called side) || (e.reply_sent || e.deaf) in
     ap (λ (b : Bool). b || ((e.end_sent && is_called other) || (e.reply_sent || e.deaf))) still
-    ∙ ap (λ (b : Bool). (e.end_sent && b) || (e.reply_sent || e.deaf)) called ∙ rest_free (is_stopped side) rest d
+    ∙ ap (λ (b : Bool). (e.end_sent && b) || (e.reply_sent || e.deaf)) called ∙ (or_parts (is_stopped side) rest d).1
 
 pub unsaid : (a b : Bool) → put_if a end_stream ++ put_if b end_reply_stream ≡ [] → (a ≡ false) × (b ≡ false)
 unsaid true b z = absurd (cc)

@@ -16,7 +16,7 @@ use Rattle.xns_spp.specs.Held.{StandsFor}
 use Rattle.xns_spp.specs.Receiving.{after_receive}
 use Rattle.xns_spp.specs.Sending.{waiting_count}
 use Rattle.xns_spp.specs.State.{State}
-use Rattle.xns_connection.specs.Closing.{wants_word}
+use Rattle.xns_connection.specs.Closing.{drains, wants_word}
 use Rattle.xns_connection.specs.Connecting.{owed_after, owed_heard, wait_heard, why_after, why_given_up}
 use Rattle.xns_connection.specs.Moving.{ConversationScene, IsAt, MovesAll, deafened, conversation_scene}
 use Rattle.xns_connection.specs.Story.{Story, asked_of, listed_call, waiting_message, with_handed}
@@ -67,6 +67,12 @@ side_taken (Answers a) = Answers (handed_by (listed_call a.programs a.call) a)
 
 -- ---- what a deed does to a conversation
 
+-- what the program does leaves the rest of a conversation as it was: its end, the packets that wait, and whether what comes is read
+pub record KeepsRest (old new : Conversation) : Type 0 where
+  pub endpoint : new.endpoint ≡ old.endpoint
+  pub packets : new.packets ≡ old.packets
+  pub drains : drains new.side new.closing ≡ drains old.side old.closing
+
 abbrev pub done : Deed → ConversationScene → ConversationScene
 done nothing x = x
 done asked x = record x { closing = record x.closing { wanted = true } }
@@ -94,30 +100,18 @@ told_by took side h = with_taken (waiting_message side) side h
 told_by (heard bytes) side h = record h { state = after_receive h.state bytes }
 
 abbrev pub wanted_by : Deed → Bool → Bool
-wanted_by nothing w = w
 wanted_by asked w = true
-wanted_by (made call) w = w
-wanted_by (gave kind words) w = w
-wanted_by took w = w
-wanted_by (heard bytes) w = w
+wanted_by deed w = w
 
 -- ---- what is owed and waited for when it is done, before anything moves
 
 abbrev pub owed_by : Deed → Owed → Waiting → State → (now : ℕ) → Owed
-owed_by nothing o w s now = o
-owed_by asked o w s now = o
-owed_by (made call) o w s now = o
-owed_by (gave kind words) o w s now = o
-owed_by took o w s now = o
 owed_by (heard bytes) o w s now = owed_heard o w s bytes now
+owed_by deed o w s now = o
 
 abbrev pub wait_after_deed : Deed → Waiting → State → (now : ℕ) → Waiting
-wait_after_deed nothing w s now = w
-wait_after_deed asked w s now = w
-wait_after_deed (made call) w s now = w
-wait_after_deed (gave kind words) w s now = w
-wait_after_deed took w s now = w
 wait_after_deed (heard bytes) w s now = wait_heard w s bytes now
+wait_after_deed deed w s now = w
 
 -- ---- what comes of moving
 

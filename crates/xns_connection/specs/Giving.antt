@@ -1,6 +1,7 @@
 -- Which packet a conversation gives next, and what it owes then.
-use Rattle.std.specs.Prelude.{◌≡◌, ℕ, Bool, true, false, ◌&&◌, ◌||◌, List, [], ◌∷◌, Option, Some, None}
-use Rattle.std.specs.Option.{is_none}
+use Rattle.std.specs.Prelude.{◌≡◌, ◌⊎◌, ℕ, Bool, true, false, ◌&&◌, ◌||◌, List, [], ◌∷◌, Option, Some, None, Result, IfOk, OnErr}
+use Rattle.std.specs.Option.{is_none, is_some}
+use Rattle.std.specs.declared.alloc.AllocError.{AllocError}
 use Rattle.xns_spp.specs.Held.{StandsFor}
 use Rattle.xns_spp.specs.Sending.{after_flush, flush_answer}
 use Rattle.xns_spp.specs.State.{State}
@@ -61,6 +62,14 @@ newer_of (p ∷ ps) x =
 
 abbrev pub newer : Giving → Option (List ℕ) × Giving
 newer x = newer_of (flush_answer x.state) (flushed x)
+
+-- a packet goes out for the first time, or the word that is owed; or memory was refused where there was one of these, and it is as it was, or the
+-- packets were made of all that goes out for the first time
+pub record GivesNewer (result : Result (Option (List ℕ)) AllocError) (old new : Conversation) (owed owed_new : Owed) : Type 0 where
+  pub side : (new.side ≡ old.side) × (new.closing ≡ old.closing)
+  pub at : IfOk result (λ p. (s : State) → StandsFor old.endpoint s → GivesAs (newer (giving old owed s)) p new owed_new)
+  pub short : OnErr result ((s : State) → StandsFor old.endpoint s → IsGiving new owed_new (giving old owed s) ⊎ IsGiving new owed_new (flushed (giving old owed s)))
+  pub memory : OnErr result ((s : State) → StandsFor old.endpoint s → is_some (newer (giving old owed s)).0 ≡ true)
 
 abbrev pub else_newer : Option (List ℕ) → Giving → Option (List ℕ) × Giving
 else_newer None x = newer x

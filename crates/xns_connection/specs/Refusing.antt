@@ -1,5 +1,6 @@
 -- Why a connection makes no call, and gives no answer.
 use Rattle.std.specs.Prelude.{◌≡◌, ℕ, List, Option, Some, None, Result, Ok, Err}
+use Rattle.std.specs.Option.{option_map}
 use Rattle.courier_messages.specs.RawCalls.{RawCall}
 use Rattle.courier_sessions.specs.Answering as answering
 use Rattle.courier_sessions.specs.Talk as talk
@@ -13,38 +14,29 @@ use Rattle.xns_connection.specs.declared.refusal.Refusal.TheVariants.{Busy, Peer
 use Rattle.xns_connection.specs.declared.side.Side.{Side}
 use Rattle.xns_connection.specs.declared.side.Side.TheVariants as sides
 
--- what is told of a call
-abbrev pub call_result : Result (Unit {0}) CallRefusal → Result (Unit {0}) Refusal
-call_result (Ok u) = Ok u
-call_result (Err uncalled.Stopped) = Err Closing
-call_result (Err uncalled.Busy) = Err Busy
-call_result (Err uncalled.TooLong) = Err TooLong
-call_result (Err uncalled.NoMemory) = Err NoMemory
+-- what the program is told where a session refuses a call
+abbrev pub refused_call : CallRefusal → Refusal
+refused_call uncalled.Stopped = Closing
+refused_call uncalled.Busy = Busy
+refused_call uncalled.TooLong = TooLong
+refused_call uncalled.NoMemory = NoMemory
 
 abbrev pub call_fault : Option CallRefusal → Option Refusal
-call_fault None = None
-call_fault (Some uncalled.Stopped) = Some Closing
-call_fault (Some uncalled.Busy) = Some Busy
-call_fault (Some uncalled.TooLong) = Some TooLong
-call_fault (Some uncalled.NoMemory) = Some NoMemory
+call_fault refusal = option_map refused_call refusal
 
 -- why a side makes no call
 abbrev pub side_call_fault : Side → RawCall → Option Refusal
 side_call_fault (sides.Calls t) c = call_fault (talk.call_refusal t c)
 side_call_fault (sides.Answers a) c = Some PeerCalls
 
--- what is told of an answer
-abbrev pub answer_result : Result (Unit {0}) AnswerRefusal → Result (Unit {0}) Refusal
-answer_result (Ok u) = Ok u
-answer_result (Err unanswered.NoCall) = Err NoCall
-answer_result (Err unanswered.TooLong) = Err TooLong
-answer_result (Err unanswered.NoMemory) = Err NoMemory
+-- what the program is told where a session refuses an answer
+abbrev pub refused_answer : AnswerRefusal → Refusal
+refused_answer unanswered.NoCall = NoCall
+refused_answer unanswered.TooLong = TooLong
+refused_answer unanswered.NoMemory = NoMemory
 
 abbrev pub answer_fault : Option AnswerRefusal → Option Refusal
-answer_fault None = None
-answer_fault (Some unanswered.NoCall) = Some NoCall
-answer_fault (Some unanswered.TooLong) = Some TooLong
-answer_fault (Some unanswered.NoMemory) = Some NoMemory
+answer_fault refusal = option_map refused_answer refusal
 
 -- why a side gives no answer
 abbrev pub side_answer_fault : Side → Answer → List ℕ → Option Refusal

@@ -8,7 +8,7 @@ use Rattle.xns_spp.specs.State.{State}
 use Rattle.xns_connection.specs.Closed.{ClosesBy}
 use Rattle.xns_connection.specs.Closing.{drains, wants_word}
 use Rattle.xns_connection.specs.Connecting.{is_dead}
-use Rattle.xns_connection.specs.Deeds.{Deed, Moved, Parts, acted, done, nothing, asked, made, gave, side_taken, took, heard, owed_by, told_by, unserved, wait_after_deed, wait_moved, wanted_by}
+use Rattle.xns_connection.specs.Deeds.{Deed, Moved, Parts, acted, done, nothing, made, gave, side_taken, took, heard, owed_by, told_by, unserved, wait_after_deed, wait_moved, wanted_by}
 use Rattle.std.specs.Option.{is_some}
 use Rattle.std.specs.declared.alloc.AllocError.{AllocError}
 use Rattle.xns_connection.specs.Giving.{Giving, GivesAs, IsGiving, MayStopAt, giving, next_of, next_unless}
@@ -40,23 +40,16 @@ pub record IsMade (pace : Pace) (now : ℕ) (again : Bool) (c : Connection) : Ty
 
 -- ---- a step
 
--- the program may do it: it may make the call, or give the answer
+-- the program may do it: it may make the call, or give the answer; anything else it may always do
 abbrev pub May : Conversation → Deed → Type 0
-May t nothing = Unit {0}
-May t asked = Unit {0}
 May t (made call) = call_fault_of t call ≡ None
 May t (gave kind words) = answer_fault_of t kind words ≡ None
-May t took = Unit {0}
-May t (heard bytes) = Unit {0}
+May t deed = Unit {0}
 
 -- the waits make steps of this moment; where bytes come, a word of the peer may come first
 abbrev pub WaitsBy : Deed → (now : ℕ) → (old new : Waiting) → Type 0
-WaitsBy nothing now w v = StepsAt now w v
-WaitsBy asked now w v = StepsAt now w v
-WaitsBy (made call) now w v = StepsAt now w v
-WaitsBy (gave kind words) now w v = StepsAt now w v
-WaitsBy took now w v = StepsAt now w v
 WaitsBy (heard bytes) now w v = HearsAt now w v
+WaitsBy deed now w v = StepsAt now w v
 
 -- at this time this was done, and then what could move moved
 pub record Step (now : ℕ) (deed : Deed) (old new : Connection) : Type 0 where

@@ -15,7 +15,7 @@ ghost use Rattle.xns_connection.specs.Connecting.{FitsClosed, is_again, is_dead,
 ghost use Rattle.xns_connection.specs.Moving.{HasHistory};
 ghost use Rattle.xns_connection.specs.Reasons.{call_fault_of, answer_fault_of};
 ghost use Rattle.xns_connection.specs.Refusing.{Answers};
-ghost use Rattle.xns_connection.specs.Deeds.{acted, asked, gave, heard, made, nothing, unserved};
+ghost use Rattle.xns_connection.specs.Deeds.{GoesOnBy, acted, asked, gave, heard, made, unserved};
 ghost use Rattle.xns_connection.specs.Story.{waiting_message, has_message};
 ghost use Rattle.xns_connection.specs.Telling.{Goes};
 ghost use Rattle.xns_agenda.specs.Waiting.{IsDueAfter, StepsAt, act_at, last_time};
@@ -58,9 +58,11 @@ impl Connection {
     ghost use Rattle.xns_connection.specs.Ends.{peer_that_opened};
     ghost use Rattle.xns_connection.specs.Step.{GivesNext, Hands, MovesOwed, Step, is_ours_by, parts_of};
 
-    /// Moves items until none can move.
+    /// Moves items until none can move; then records the close reason, if any, and what the connection owes, and takes the step into its wait.
     fn go_on(&mut self, alloc: Global, now: u64)
-        ensures step { Step now nothing self.old self.new }
+        ensures moved { GoesOnBy now self.old.conversation self.new.conversation self.old.owed self.new.owed self.old.closed self.new.closed
+            self.old.wait self.new.wait }
+        ensures told { self.new.told ≡ self.old.told }
     {
         settled(
             &mut self.conversation,
@@ -193,14 +195,7 @@ impl Connection {
         ensures unchanged { OnErr result (self.new ≡ self.old) }
     {
         self.conversation.call(alloc, call)?;
-        settled(
-            &mut self.conversation,
-            alloc,
-            &mut self.owed,
-            &mut self.closed,
-            &mut self.wait,
-            now,
-        );
+        self.go_on(alloc, now);
         Ok(())
     }
 
@@ -219,14 +214,7 @@ impl Connection {
         ensures unchanged { OnErr result (self.new ≡ self.old) }
     {
         self.conversation.answer(alloc, kind, words)?;
-        settled(
-            &mut self.conversation,
-            alloc,
-            &mut self.owed,
-            &mut self.closed,
-            &mut self.wait,
-            now,
-        );
+        self.go_on(alloc, now);
         Ok(())
     }
 
@@ -235,14 +223,7 @@ impl Connection {
         ensures step { Step now asked self.old self.new }
     {
         self.conversation.close();
-        settled(
-            &mut self.conversation,
-            alloc,
-            &mut self.owed,
-            &mut self.closed,
-            &mut self.wait,
-            now,
-        );
+        self.go_on(alloc, now);
     }
 
     /// Takes the message that waits for the program: an answer, or a call. `None`: no message waits.
@@ -255,14 +236,7 @@ impl Connection {
         if !self.owed.moving && self.conversation.is_calm() {
             return Some(message);
         }
-        settled(
-            &mut self.conversation,
-            alloc,
-            &mut self.owed,
-            &mut self.closed,
-            &mut self.wait,
-            now,
-        );
+        self.go_on(alloc, now);
         Some(message)
     }
 

@@ -10,7 +10,7 @@ ghost use Rattle.xns_spp.specs.State.{State};
 ghost use Rattle.xns_connection.specs.Calls.{raw_of_call};
 ghost use Rattle.xns_connection.specs.Closing.{closing_item, after_end_words, drains, wants_word};
 ghost use Rattle.xns_connection.specs.Moving.{IsAt, Moves, ConversationScene, MovesAll, closed_up, drained_out, with_end_out, is_calm, replied, conversation_scene, taken_many, taken_one};
-ghost use Rattle.xns_connection.specs.Deeds.{side_answered, side_called, side_taken};
+ghost use Rattle.xns_connection.specs.Deeds.{KeepsRest, side_answered, side_called, side_taken};
 ghost use Rattle.xns_connection.specs.Refusing.{Answers};
 ghost use Rattle.xns_connection.specs.declared.closing.TheConstants.Closing.{NONE};
 ghost use Rattle.xns_connection.specs.Story.{waiting_message};
@@ -173,10 +173,7 @@ impl Conversation {
         ensures packets { self.new.packets ≡ self.old.packets }
         ensures at { (s : State) → StandsFor self.old.endpoint s → IsAt self.new (replied (conversation_scene self.old s)) }
     {
-        if !self.owes_reply() {
-            return;
-        }
-        if self.put(alloc, END_REPLY) {
+        if self.owes_reply() && self.put(alloc, END_REPLY) {
             self.closing.reply_sent = true;
         }
     }
@@ -186,10 +183,7 @@ impl Conversation {
         ensures packets { self.new.packets ≡ self.old.packets }
         ensures at { (s : State) → StandsFor self.old.endpoint s → IsAt self.new (with_end_out (conversation_scene self.old s)) }
     {
-        if !self.owes_end() {
-            return;
-        }
-        if self.put(alloc, END) {
+        if self.owes_end() && self.put(alloc, END) {
             self.closing.end_sent = true;
         }
     }
@@ -327,9 +321,7 @@ impl Conversation {
     pub fn call(&mut self, alloc: Global, call: &Call<'_>) -> Result<(), Refusal>
         ensures answer { Answers (call_fault_of self.old (raw_of_call call.now)) result }
         ensures is { result ≡ Ok tt → self.new ≡ record self.old { side = side_called self.old.side (raw_of_call call.now) } }
-        ensures drains { drains self.new.side self.new.closing ≡ drains self.old.side self.old.closing }
-        ensures endpoint { self.new.endpoint ≡ self.old.endpoint }
-        ensures packets { self.new.packets ≡ self.old.packets }
+        ensures rest { KeepsRest self.old self.new }
         ensures unchanged { OnErr result (self.new ≡ self.old) }
     {
         if self.drains() {
@@ -346,9 +338,7 @@ impl Conversation {
     pub fn answer(&mut self, alloc: Global, answer: Answer, words: &[u16]) -> Result<(), Refusal>
         ensures answer { Answers (answer_fault_of self.old answer words.now) result }
         ensures is { result ≡ Ok tt → self.new ≡ record self.old { side = side_answered self.old.side answer words.now } }
-        ensures drains { drains self.new.side self.new.closing ≡ drains self.old.side self.old.closing }
-        ensures endpoint { self.new.endpoint ≡ self.old.endpoint }
-        ensures packets { self.new.packets ≡ self.old.packets }
+        ensures rest { KeepsRest self.old self.new }
         ensures unchanged { OnErr result (self.new ≡ self.old) }
     {
         if self.drains() {
@@ -361,9 +351,7 @@ impl Conversation {
     pub fn take_message(&mut self) -> Option<PiecedMessage>
         ensures message { result ≡ waiting_message self.old.side }
         ensures is { self.new ≡ record self.old { side = side_taken self.old.side } }
-        ensures drains { drains self.new.side self.new.closing ≡ drains self.old.side self.old.closing }
-        ensures endpoint { self.new.endpoint ≡ self.old.endpoint }
-        ensures packets { self.new.packets ≡ self.old.packets }
+        ensures rest { KeepsRest self.old self.new }
         ensures none { result ≡ None → self.new ≡ self.old }
     {
         self.side.take_message()

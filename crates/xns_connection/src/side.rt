@@ -1,6 +1,7 @@
 //! A side of a conversation: the one that calls or the one that is called.
 
 ghost use Rattle.std.specs.Prelude.{◌≡◌, ◌≤◌, true, false, OnOk, OnErr, None, Ok};
+ghost use Rattle.std.specs.Result.{result_map_both};
 ghost use Rattle.courier_sessions.specs.Answering.{has_items};
 ghost use Rattle.xns_spp.specs.Held.{StandsFor};
 ghost use Rattle.xns_spp.specs.Sending.{waiting_count};
@@ -10,7 +11,7 @@ ghost use Rattle.xns_connection.specs.Story.{IsListed, IsUnlisted, is_called, is
 ghost use Rattle.xns_connection.specs.Story.{has_message, waiting_message, wants_answer};
 ghost use Rattle.xns_connection.specs.Moving.{Converses, Pumps, Rejects};
 ghost use Rattle.xns_connection.specs.Deeds.{side_answered, side_called, side_taken};
-ghost use Rattle.xns_connection.specs.Refusing.{Answers, side_call_fault, side_answer_fault, call_result, answer_result};
+ghost use Rattle.xns_connection.specs.Refusing.{Answers, side_call_fault, side_answer_fault, refused_call, refused_answer};
 
 use crate::call::Call;
 use crate::refusal::Refusal;
@@ -32,7 +33,7 @@ pub enum Side {
 
 /// What the program is told where a session made a call or refused it.
 fn call_result(made: Result<(), CallRefusal>) -> Result<(), Refusal>
-    ensures { result ≡ call_result made }
+    ensures { result ≡ result_map_both (λ u. u) refused_call made }
 {
     match made {
         Ok(()) => Ok(()),
@@ -45,7 +46,7 @@ fn call_result(made: Result<(), CallRefusal>) -> Result<(), Refusal>
 
 /// What the program is told where a session took an answer or refused it.
 fn answer_result(given: Result<(), AnswerRefusal>) -> Result<(), Refusal>
-    ensures { result ≡ answer_result given }
+    ensures { result ≡ result_map_both (λ u. u) refused_answer given }
 {
     match given {
         Ok(()) => Ok(()),

@@ -1,12 +1,12 @@
 //! Which packet of a conversation goes out next.
 
-ghost use Rattle.std.specs.Prelude.{◌≡◌, ◌⊎◌, ◌||◌, ◌<◌, [], ◌++◌, length, false, true, IfOk, IfSome, OnOk, OnErr, Some, None, Ok};
+ghost use Rattle.std.specs.Prelude.{◌≡◌, ◌||◌, ◌<◌, [], ◌++◌, length, false, true, IfOk, IfSome, OnOk, OnErr, Some, None, Ok};
 ghost use Rattle.xns_spp.specs.Held.{StandsFor};
 ghost use Rattle.xns_spp.specs.Sending.{after_flush, flush_answer};
 ghost use Rattle.std.specs.Option.{is_some, option_to_list};
 ghost use Rattle.xns_spp.specs.State.{State};
-ghost use Rattle.xns_spp.specs.Telling.{after_resend, resend_answer};
-ghost use Rattle.xns_connection.specs.Giving.{Giving, GivesAs, IsGiving, MayStopAt, flushed, giving, has_packets, newer, next_of, older};
+ghost use Rattle.xns_spp.specs.Telling.{after_resend, resend_answer, single_answer};
+ghost use Rattle.xns_connection.specs.Giving.{Giving, GivesAs, GivesNewer, IsGiving, MayStopAt, giving, has_packets, newer, next_of, older};
 
 use crate::conversation::Conversation;
 use crate::owed::Owed;
@@ -105,6 +105,7 @@ impl Conversation {
         ensures side { (self.new.side ≡ self.old.side) × (self.new.closing ≡ self.old.closing) }
         ensures at { IfOk result (λ o. IfSome o (λ p. (s : State) → StandsFor self.old.endpoint s
             → GivesAs (newer (giving self.old owed.old s)) (Some p) self.new owed.new)) }
+        ensures answer { IfOk result (λ o. (s : State) → StandsFor self.old.endpoint s → o ≡ single_answer s) }
         ensures none { result ≡ Ok None → (self.new ≡ self.old) × (owed.new ≡ owed.old) }
         ensures unchanged { OnErr result ((self.new ≡ self.old) × (owed.new ≡ owed.old)) }
         ensures memory { OnErr result ((s : State) → StandsFor self.old.endpoint s → is_some (newer (giving self.old owed.old s)).0 ≡ true) }
@@ -124,11 +125,7 @@ impl Conversation {
         owed: &mut Owed,
     ) -> Result<Option<Bytes>, AllocError>
         requires { self.old.packets.items ≡ [] }
-        ensures side { (self.new.side ≡ self.old.side) × (self.new.closing ≡ self.old.closing) }
-        ensures at { IfOk result (λ p. (s : State) → StandsFor self.old.endpoint s → GivesAs (newer (giving self.old owed.old s)) p self.new owed.new) }
-        ensures short { OnErr result ((s : State) → StandsFor self.old.endpoint s → IsGiving self.new owed.new (giving self.old owed.old s)
-            ⊎ IsGiving self.new owed.new (flushed (giving self.old owed.old s))) }
-        ensures memory { OnErr result ((s : State) → StandsFor self.old.endpoint s → is_some (newer (giving self.old owed.old s)).0 ≡ true) }
+        ensures { GivesNewer result self.old self.new owed.old owed.new }
     {
         self.flush(alloc)?;
         if let Some(packet) = self.fetch() {
@@ -142,11 +139,7 @@ impl Conversation {
     /// The next packet that goes out for the first time; where there is none, the packet without an item that the peer is owed.
     fn newer_packet(&mut self, alloc: Global, owed: &mut Owed) -> Result<Option<Bytes>, AllocError>
         requires { self.old.packets.items ≡ [] }
-        ensures side { (self.new.side ≡ self.old.side) × (self.new.closing ≡ self.old.closing) }
-        ensures at { IfOk result (λ p. (s : State) → StandsFor self.old.endpoint s → GivesAs (newer (giving self.old owed.old s)) p self.new owed.new) }
-        ensures short { OnErr result ((s : State) → StandsFor self.old.endpoint s → IsGiving self.new owed.new (giving self.old owed.old s)
-            ⊎ IsGiving self.new owed.new (flushed (giving self.old owed.old s))) }
-        ensures memory { OnErr result ((s : State) → StandsFor self.old.endpoint s → is_some (newer (giving self.old owed.old s)).0 ≡ true) }
+        ensures { GivesNewer result self.old self.new owed.old owed.new }
     {
         if let Some(packet) = self.single_packet(alloc, owed)? {
             return Ok(Some(packet));

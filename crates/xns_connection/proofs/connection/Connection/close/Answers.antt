@@ -1,25 +1,24 @@
 use Rattle.std.proofs.Common.{ap, refl}
 use Rattle.xns_connection.specs.Closing.{drains}
-use Rattle.xns_connection.specs.Deeds.{asked}
+use Rattle.xns_connection.specs.Deeds.{KeepsRest, asked}
 use Rattle.xns_connection.specs.Moving.{conversation_scene}
 use Rattle.xns_connection.specs.declared.conversation.Conversation.{Conversation}
-use Rattle.xns_connection.proofs.Dues.{fits_same}
-use Rattle.xns_connection.proofs.Steps.{same_history, step_by}
+use Rattle.xns_connection.proofs.Steps.{known_of, step_by, still_known}
 use Rattle.xns_connection.proofs.connection.Connection.close.Goals as goal
 
-pub settled-requires-clause-fits : goal.settled-requires-clause-fits
-settled-requires-clause-fits c =
-    fits_same _ _ _ _ c.args.self.now.fits (ap (λ (t : Conversation). drains t.side t.closing) c.close.ensures.rest)
-
-pub settled-requires-clause-stands : goal.settled-requires-clause-stands
-settled-requires-clause-stands c = same_history _ _ (ap (λ (t : Conversation). t.endpoint) c.close.ensures.rest) c.args.self.now.stands
-
-pub invariant_of-self-clause-stands : goal.invariant_of-self-clause-stands
-invariant_of-self-clause-stands c = c.settled.ensures.stands
+pub invariant_of-self : goal.invariant_of-self
+invariant_of-self c =
+    let rest : KeepsRest c.args.self.now.conversation c.close.new.self = record {
+      endpoint = ap (λ (t : Conversation). t.endpoint) c.close.ensures.rest;
+      packets = ap (λ (t : Conversation). t.packets) c.close.ensures.rest;
+      drains = ap (λ (t : Conversation). drains t.side t.closing) c.close.ensures.rest;
+    } in
+    let k = still_known rest (known_of c.args.self.now) in
+    record { timed = k.timed; fits = k.fits; stands = k.stands }
 
 pub returns : goal.returns
 returns c = record {
   step = step_by c.args.now asked c.args.self.now _ c.close.new.self (ap (λ (t : Conversation). t.endpoint) c.close.ensures.rest)
-      (λ s. ap (λ (t : Conversation). conversation_scene t s) c.close.ensures.rest) (λ s. refl) (λ s. refl) c.settled.ensures.moved tt (λ k. k)
-      (ap (λ (t : Conversation). t.packets) c.close.ensures.rest) refl;
+      (λ s. ap (λ (t : Conversation). conversation_scene t s) c.close.ensures.rest) (λ s. refl) (λ s. refl) c.go_on.ensures.moved tt (λ k. k)
+      (ap (λ (t : Conversation). t.packets) c.close.ensures.rest) c.go_on.ensures.told;
 }

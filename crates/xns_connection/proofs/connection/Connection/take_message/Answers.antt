@@ -2,14 +2,13 @@ use Rattle.std.proofs.Common.{refl, subst}
 use Rattle.xns_spp.specs.Held.{Held, StandsFor}
 use Rattle.std.proofs.Common.{◌≡◌, ◌∙◌, ap, sym, false, None, rules}
 use Rattle.std.specs.Prelude.{not}
+use Rattle.std.proofs.lemmas.Bool.{and_left, and_right}
 use Rattle.xns_connection.specs.Deeds.{took}
 use Rattle.xns_connection.specs.Moving.{is_calm, conversation_scene}
 use Rattle.xns_connection.specs.Step.{calmly, moving_on, none_waits, parts_of}
 use Rattle.xns_connection.specs.declared.conversation.Conversation.{Conversation}
-use Rattle.xns_connection.proofs.Steps.{calm_then, first_no, same_connection, second_no, step_by}
+use Rattle.xns_connection.proofs.Steps.{calm_then, known_of, same_connection, step_by, still_known}
 use Rattle.xns_connection.proofs.connection.Connection.take_message.Goals.{else-not-self-via-then-not-self+else-is_calm, else-not-self-via-else-not-self}
-use Rattle.xns_connection.proofs.Steps.{same_history, same_timed}
-use Rattle.xns_connection.proofs.Dues.{fits_same}
 use Rattle.xns_connection.proofs.connection.Connection.take_message.Goals as goal
 
 pub returns-in_err-message-clause-step : goal.returns-in_err-message-clause-step
@@ -23,7 +22,7 @@ returns-then-is_calm-clause-step c =
     let idle : c.args.self.now.owed.moving ≡ false = search rules in
     calmly (λ z. absurd (cc))
     (λ s stands.
-    let value = c.is_calm.ensures.value s (subst (λ (e : Held). StandsFor e s) (sym k.endpoint) stands) in
+    let value = c.is_calm.ensures.value s (subst (λ (e : Held). StandsFor e s) (sym k.rest.endpoint) stands) in
     calm_then c.args.self.now c.take_message.new.self s idle (ap (λ (t : Conversation). conversation_scene t s) k.is) (sym value ∙ c.if-is_calm.true))
     (ap (λ (t : Conversation). record (parts_of c.args.self.now) { conversation = t }) k.is)
 
@@ -34,27 +33,13 @@ returns-clause-step c =
     (λ s stands.
     let same = ap (λ (t : Conversation). conversation_scene t s) k.is in
     elim c.else-not-self.branch [
-      | else-not-self-via-then-not-self+else-is_calm w ↦ second_no (not c.args.self.now.owed.moving) _ (ap is_calm (sym same) ∙ (sym (w.is_calm.ensures.value s (subst (λ (e : Held). StandsFor e s) (sym k.endpoint) stands)) ∙ w.if-is_calm.false))
-      | else-not-self-via-else-not-self w ↦ first_no (not c.args.self.now.owed.moving) _ (cc)
+      | else-not-self-via-then-not-self+else-is_calm w ↦ and_right (not c.args.self.now.owed.moving) _ (ap is_calm (sym same) ∙ (sym (w.is_calm.ensures.value s (subst (λ (e : Held). StandsFor e s) (sym k.rest.endpoint) stands)) ∙ w.if-is_calm.false))
+      | else-not-self-via-else-not-self w ↦ and_left (not c.args.self.now.owed.moving) _ (cc)
     ])
-    (step_by c.args.now took c.args.self.now _ c.take_message.new.self k.endpoint (λ s. ap (λ (t : Conversation). conversation_scene t s) k.is) (λ s. refl) (λ s. refl)
-    c.settled.ensures.moved tt (λ steps. steps) k.packets refl)
-
-pub invariant_of-self-then-is_calm-clause-stands : goal.invariant_of-self-then-is_calm-clause-stands
-invariant_of-self-then-is_calm-clause-stands c = same_history _ _ c.in_ok-message.ensures.endpoint c.args.self.now.stands
-
-pub invariant_of-self-2-clause-stands : goal.invariant_of-self-2-clause-stands
-invariant_of-self-2-clause-stands c = c.settled.ensures.stands
-
-pub settled-requires-clause-fits : goal.settled-requires-clause-fits
-settled-requires-clause-fits c = fits_same _ _ _ _ c.args.self.now.fits c.in_ok-message.ensures.drains
-
-pub settled-requires-clause-stands : goal.settled-requires-clause-stands
-settled-requires-clause-stands c = same_history _ _ c.in_ok-message.ensures.endpoint c.args.self.now.stands
+    (step_by c.args.now took c.args.self.now _ c.take_message.new.self k.rest.endpoint (λ s. ap (λ (t : Conversation). conversation_scene t s) k.is) (λ s. refl) (λ s. refl)
+    c.go_on.ensures.moved tt (λ steps. steps) k.rest.packets c.go_on.ensures.told)
 
 pub invariant_of-self : goal.invariant_of-self
-invariant_of-self c = record {
-  timed = same_timed _ c.args.self.now.wait _ _ c.take_message.ensures.endpoint c.args.self.now.timed;
-  fits = fits_same _ _ _ _ c.args.self.now.fits c.take_message.ensures.drains;
-  stands = same_history _ _ c.take_message.ensures.endpoint c.args.self.now.stands;
-}
+invariant_of-self c =
+    let k = still_known c.take_message.ensures.rest (known_of c.args.self.now) in
+    record { timed = k.timed; fits = k.fits; stands = k.stands }

@@ -1,18 +1,12 @@
-use Rattle.std.proofs.Common.{◌≡◌, ◌∙◌, sym, subst, rules, true, ℕ, List, Option, Err, OnErr, Result}
-use Rattle.std.specs.Option.{is_some}
-use Rattle.std.specs.declared.alloc.AllocError.{AllocError}
-use Rattle.xns_spp.specs.Held.{StandsFor}
-use Rattle.xns_spp.specs.State.{State}
-use Rattle.xns_connection.specs.Giving.{giving, newer}
+use Rattle.std.proofs.Common.{◌∙◌, sym}
+use Rattle.xns_connection.specs.Giving.{giving}
+use Rattle.xns_spp.proofs.Steps.{on_err}
 use Rattle.xns_connection.proofs.Single.{single_gives, single_wanted}
 use Rattle.xns_connection.proofs.conversation.Conversation.single_packet.Goals as goal
 
 pub returns-in_err-packet-clause-memory : goal.returns-in_err-packet-clause-memory
-returns-in_err-packet-clause-memory c =
-    let is : c.from_residual.result ≡ Err c.in_err-packet.field-0.0 = search rules in
-    subst (λ (r : Result (Option (List ℕ)) AllocError). OnErr r ((s : State) → StandsFor c.args.self.now.endpoint s
-    → is_some (newer (giving c.args.self.now c.args.owed.now s)).0 ≡ true)) (sym is)
-    (λ s stands. single_wanted (giving c.args.self.now c.args.owed.now s) (c.in_err-packet.ensures.memory s stands))
+returns-in_err-packet-clause-memory c = on_err c.from_residual.result _ (λ s stands.
+    single_wanted (giving c.args.self.now c.args.owed.now s) (c.in_err-packet.ensures.memory s stands))
 
 pub returns-clause-at : goal.returns-clause-at
 returns-clause-at c = λ s stands.
