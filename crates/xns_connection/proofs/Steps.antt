@@ -99,10 +99,10 @@ goes_on_by now old mid new r o n was closed w v settles packets next owes = reco
 -- ---- what is always so
 
 -- what is known of the parts of a connection
-pub record Known (t : Conversation) (w : Waiting) (closed : Option Why) : Type 0 where
-  pub timed : closed ≡ None → (s : State) → StandsFor t.endpoint s → tick_answer s ≢ [] → is_again w.due ≡ true
-  pub fits : FitsClosed closed t w
-  pub stands : HasHistory t.endpoint
+record Known (t : Conversation) (w : Waiting) (closed : Option Why) : Type 0 where
+  timed : closed ≡ None → (s : State) → StandsFor t.endpoint s → tick_answer s ≢ [] → is_again w.due ≡ true
+  fits : FitsClosed closed t w
+  stands : HasHistory t.endpoint
 
 known_one : (t : Conversation) (w : Waiting) (closed : Option Why) (a b : Known t w closed) → a ≡ b
 known_one t w closed a b = one a b where
@@ -121,7 +121,7 @@ with_known p k = record {
   stands = k.stands;
 }
 
-abbrev pub known_of : (c : Connection) → Known c.conversation c.wait c.closed
+abbrev known_of : (c : Connection) → Known c.conversation c.wait c.closed
 known_of c = record { timed = c.timed; fits = c.fits; stands = c.stands }
 
 -- a connection is its parts
@@ -141,13 +141,19 @@ pub same_timed : (closed : Option Why) (w : Waiting) (e f : Held) → e ≡ f �
     → closed ≡ None → (s : State) → StandsFor e s → tick_answer s ≢ [] → is_again w.due ≡ true
 same_timed closed w e f same timed none s stands some = timed none s (subst (λ (h : Held). StandsFor h s) same stands) some
 
--- what is known of a connection is known where the rest of its conversation is as it was
-pub still_known : {t u : Conversation} {w : Waiting} {closed : Option Why} → KeepsRest t u → Known t w closed → Known u w closed
-still_known {t} {u} {w} {closed} rest k = record {
-  timed = same_timed closed w u.endpoint t.endpoint rest.endpoint k.timed;
-  fits = fits_same closed t u w k.fits rest.drains;
-  stands = same_history u.endpoint t.endpoint rest.endpoint k.stands;
-}
+-- what is always so is so where the rest of a conversation is as it was
+pub still_timed : (t u : Conversation) (w : Waiting) (closed : Option Why) → KeepsRest t u
+    → (closed ≡ None → (s : State) → StandsFor t.endpoint s → tick_answer s ≢ [] → is_again w.due ≡ true)
+    → closed ≡ None → (s : State) → StandsFor u.endpoint s → tick_answer s ≢ [] → is_again w.due ≡ true
+still_timed t u w closed rest = same_timed closed w u.endpoint t.endpoint rest.endpoint
+
+pub still_fits : (t u : Conversation) (w : Waiting) (closed : Option Why) → KeepsRest t u → FitsClosed closed t w → FitsClosed closed u w
+still_fits t u w closed rest fits = fits_same closed t u w fits rest.drains
+
+pub still_stands : (t u : Conversation) → KeepsRest t u → HasHistory t.endpoint → HasHistory u.endpoint
+still_stands t u rest has = same_history u.endpoint t.endpoint rest.endpoint has
+
+pub ruleset rest_kept = (still_timed, still_fits, still_stands)
 
 -- something was done at a connection, but that bytes came, and then what could move moved
 pub step_by : (now : ℕ) (deed : Deed) (old new : Connection) (mid : Conversation) → mid.endpoint ≡ old.conversation.endpoint

@@ -188,7 +188,7 @@ impl Connection {
 
     /// Puts out a call. An `Err`, which changes nothing, is `Closing` where the connection closes or is closed; `PeerCalls` where the peer
     /// opened it; `Busy` where a call waits for its answer, or the answer was not fetched; `TooLong` over 65,530 words; or `NoMemory`.
-    #[tactic(auto, using(crate::proofs::Moments::no_step))]
+    #[tactic(auto, using(crate::proofs::Steps::rest_kept))]
     pub fn call(&mut self, alloc: Global, now: u64, call: &Call<'_>) -> Result<(), Refusal>
         ensures refused { Answers (call_fault_of self.old.conversation (raw_of_call call.now)) result }
         ensures step { OnOk result (Step now (made (raw_of_call call.now)) self.old self.new) }
@@ -201,7 +201,7 @@ impl Connection {
 
     /// Answers the call that was handed. An `Err`, which changes nothing, is `Closing` where the connection closes or is closed; `NoCall`
     /// where none was handed that is not answered; `TooLong` over 131,072 bytes; or `NoMemory`.
-    #[tactic(auto, using(crate::proofs::Moments::no_step))]
+    #[tactic(auto, using(crate::proofs::Steps::rest_kept))]
     pub fn answer(
         &mut self,
         alloc: Global,
@@ -219,6 +219,7 @@ impl Connection {
     }
 
     /// Closes once all that it has to say is said.
+    #[tactic(auto, using(crate::proofs::Steps::rest_kept))]
     pub fn close(&mut self, alloc: Global, now: u64)
         ensures step { Step now asked self.old self.new }
     {
@@ -227,7 +228,7 @@ impl Connection {
     }
 
     /// Takes the message that waits for the program: an answer, or a call. `None`: no message waits.
-    #[tactic(auto, using(crate::proofs::Moments::no_step))]
+    #[tactic(auto, using(crate::proofs::Steps::rest_kept))]
     pub fn take_message(&mut self, alloc: Global, now: u64) -> Option<PiecedMessage>
         ensures message { result ≡ waiting_message self.old.conversation.side }
         ensures step { Hands now self.old self.new }

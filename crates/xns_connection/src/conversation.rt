@@ -261,7 +261,8 @@ impl Conversation {
 
     /// Notes that the program wants to close the connection.
     pub fn close(&mut self)
-        ensures rest { self.new ≡ record self.old { closing = record self.old.closing { wanted = true } } }
+        ensures is { self.new ≡ record self.old { closing = record self.old.closing { wanted = true } } }
+        ensures rest { KeepsRest self.old self.new }
     {
         self.closing.wanted = true;
     }

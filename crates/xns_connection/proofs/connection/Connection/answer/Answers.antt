@@ -2,13 +2,8 @@ use Rattle.std.proofs.Common.{ap, refl}
 use Rattle.xns_connection.specs.Deeds.{gave}
 use Rattle.xns_connection.specs.Moving.{conversation_scene}
 use Rattle.xns_connection.specs.declared.conversation.Conversation.{Conversation}
-use Rattle.xns_connection.proofs.Steps.{known_of, step_by, still_known}
+use Rattle.xns_connection.proofs.Steps.{step_by}
 use Rattle.xns_connection.proofs.connection.Connection.answer.Goals as goal
-
-pub invariant_of-self : goal.invariant_of-self
-invariant_of-self c =
-    let k = still_known c.answer.ensures.rest (known_of c.args.self.now) in
-    record { timed = k.timed; fits = k.fits; stands = k.stands }
 
 pub returns-clause-step : goal.returns-clause-step
 returns-clause-step c =

@@ -7,7 +7,7 @@ use Rattle.xns_connection.specs.Deeds.{took}
 use Rattle.xns_connection.specs.Moving.{is_calm, conversation_scene}
 use Rattle.xns_connection.specs.Step.{calmly, moving_on, none_waits, parts_of}
 use Rattle.xns_connection.specs.declared.conversation.Conversation.{Conversation}
-use Rattle.xns_connection.proofs.Steps.{calm_then, known_of, same_connection, step_by, still_known}
+use Rattle.xns_connection.proofs.Steps.{calm_then, same_connection, step_by}
 use Rattle.xns_connection.proofs.connection.Connection.take_message.Goals.{else-not-self-via-then-not-self+else-is_calm, else-not-self-via-else-not-self}
 use Rattle.xns_connection.proofs.connection.Connection.take_message.Goals as goal
 
@@ -38,8 +38,3 @@ returns-clause-step c =
     ])
     (step_by c.args.now took c.args.self.now _ c.take_message.new.self k.rest.endpoint (λ s. ap (λ (t : Conversation). conversation_scene t s) k.is) (λ s. refl) (λ s. refl)
     c.go_on.ensures.moved tt (λ steps. steps) k.rest.packets c.go_on.ensures.told)
-
-pub invariant_of-self : goal.invariant_of-self
-invariant_of-self c =
-    let k = still_known c.take_message.ensures.rest (known_of c.args.self.now) in
-    record { timed = k.timed; fits = k.fits; stands = k.stands }
