@@ -1,6 +1,6 @@
 -- Where reading may be refused memory, as its functions come there.
-use Rattle.std.proofs.Common.{◌≡◌, ℕ, zero, suc, ◌+◌, ◌*◌, get_or, ◌<◌, ◌≤◌, Bool, true, false, ◌&&◌, List, [], ◌∷◌, length, drop, None, Result, Ok, Err, is_ok, IsOk, refl, sym, ap, subst, ◌∙◌, arith, inl, inr, ◌⊎◌, eq-eqb}
-use Rattle.std.proofs.lemmas.Bool.{cases_eq}
+use Rattle.std.proofs.Common.{◌≡◌, ℕ, zero, suc, ◌+◌, ◌*◌, get_or, ◌<◌, ◌≤◌, Bool, true, false, ◌&&◌, List, [], ◌∷◌, length, drop, None, Result, Ok, Err, is_ok, IsOk, refl, sym, ap, subst, ◌∙◌, arith, inl, inr, eq-eqb}
+use Rattle.std.proofs.lemmas.Bool.{cases_Bool, cases_eq}
 use denote.Param.Weighed.{most, at_most}
 use Rattle.std.specs.Option.{option_or}
 use Rattle.courier_types.specs.declared.read_fault.Reason.TheVariants.{Truncated}
@@ -65,10 +65,6 @@ member_falls size inner xs i x y t k e lt le h =
 
 -- ---- at the end of the words
 
-one_or_other : (b : Bool) → (b ≡ true) ⊎ (b ≡ false)
-one_or_other true = inl refl
-one_or_other false = inr refl
-
 other_false : (a b : Bool) → a ≡ true → (a && b) ≡ false → b ≡ false
 other_false true b e h = h
 other_false false b e h = absurd cc
@@ -97,7 +93,7 @@ mutual
   no_parts_to_read no_shapes w h = absurd cc
   no_parts_to_read (shape_and shape shapes) w h =
       let p = neither (first_fault shape) (faults_of_parts shapes) h in
-      elim (one_or_other (wordless shape)) [
+      elim (cases_Bool (wordless shape)) [
         | inl none ↦
             let v = of_no_words shape none in
             ap (λ r. r >>= λ first. over (value_and first.0) (reading_fields shapes first.1)) (again shape v.0 [] [] v.1)
@@ -110,8 +106,6 @@ unfolding reading_times
 no_elements_to_read shape zero ws w h k e = absurd (omega arith)
 no_elements_to_read shape (suc n) [] w h k e = ap (λ r. r >>= λ first. over (value_and first.0) (reading_times (reading shape) n first.1)) (none_to_read shape w h)
 no_elements_to_read shape (suc n) (x ∷ ws) w h k e = absurd (omega arith)
-
--- ---- counts
 
 -- ---- records
 

@@ -3,7 +3,7 @@ use Rattle.std.proofs.Common.{◌≡◌, ℕ, zero, suc, ◌+◌, ◌*◌, ◌^�
 use Rattle.courier_types.specs.Shape.{ShapeModel, ShapeModels, no_shapes, shape_and, MemberModels, no_members, member_and}
 use Rattle.courier_types.specs.Value.{ValueModel, ValueModels}
 use Rattle.courier_types.specs.Spelling.{AreWords, bit, SpellsBytes, SpellsValue, SpellsThen, SpellsTimes, SpellsFields, SpellsMember}
-use Rattle.courier_types.proofs.Words.{none_below, cons_below, append_words}
+use Rattle.courier_types.proofs.Words.{none_below, cons_below, append_below}
 
 -- the words are these ones
 are : (v w : List ℕ) → w ≡ v → AreWords v → AreWords w
@@ -26,7 +26,7 @@ bytes_words (b ∷ c ∷ bytes) w s = are ((b * 256 + c) ∷ s.0) w s.3 (cons_be
 
 then_words : (spells : ValueModel → List ℕ → Type 0) (more_spell : ValueModels → List ℕ → Type 0) → ((v : ValueModel) (w : List ℕ) → spells v w → AreWords w) → ((vs : ValueModels) (w : List ℕ) → more_spell vs w → AreWords w)
     → (vs : ValueModels) (w : List ℕ) → SpellsThen spells more_spell vs w → AreWords w
-then_words spells more_spell h k vs w s = subst AreWords (sym s.5) (append_words s.2 s.3 (h s.0 s.2 s.6) (k s.1 s.3 s.7))
+then_words spells more_spell h k vs w s = subst AreWords (sym s.5) (append_below (2 ^ 16) s.2 s.3 (h s.0 s.2 s.6) (k s.1 s.3 s.7))
 
 times_words : (spells : ValueModel → List ℕ → Type 0) → ((v : ValueModel) (w : List ℕ) → spells v w → AreWords w) → (n : ℕ) (vs : ValueModels) (w : List ℕ) → SpellsTimes spells n vs w → AreWords w
 times_words spells h zero vs w s = are [] w s.1 (none_below (2 ^ 16))

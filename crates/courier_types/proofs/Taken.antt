@@ -10,7 +10,7 @@ use Rattle.courier_types.proofs.Words.{head_below, tail_below}
 
 -- past a prefix
 
-take_past : (front back : List ℕ) (n k : ℕ) → n ≡ length front + k → take n (front ++ back) ≡ front ++ take k back
+pub take_past : (front back : List ℕ) (n k : ℕ) → n ≡ length front + k → take n (front ++ back) ≡ front ++ take k back
 take_past [] back n k e = let h : n ≡ k = omega (arith, e) in ap (λ i. take i back) h
 take_past (x ∷ front) back zero k e = absurd (omega (arith, e))
 take_past (x ∷ front) back (suc n) k e = ap (λ (l : List ℕ). x ∷ l) (take_past front back n k (omega (arith, e)))
