@@ -8,6 +8,7 @@ use Rattle.std.proofs.Math.Facts.{sfits_to_z}
 use Rattle.std.proofs.lemmas.List.{append_cancel_left}
 use Rattle.courier_types.specs.Value.{ValueModel}
 use Rattle.courier_types.specs.Spelling.{SpellsValue, SpellsBytes}
+use Rattle.courier_types.proofs.Fitted.{long_fits}
 use Rattle.courier_texts.specs.Named.{NamedModel, shape_of}
 use Rattle.courier_texts.specs.Printing.{boolean_text, quoted, quoted_byte, value_text}
 use Rattle.courier_texts.proofs.Apart.{IsApart, heads, numbers, integers}
@@ -62,15 +63,12 @@ tells_unspecified v w a b x y s t ax ay e =
     let p = numbers s.0 t.0 x y (let h : s.0 < 2 ^ 16 = s.1 in omega arith) (let h : t.0 < 2 ^ 16 = t.1 in omega arith) ax ay (known NamedModel.unspecified v w _ _ x y s.2 t.2 e) in
     (s.2 ∙ ap ValueModel.unspecified p.0 ∙ sym t.2, p.1)
 
-pub long_bound : (high low : ℕ) → high < 2 ^ 16 → low < 2 ^ 16 → high * 2 ^ 16 + low < 2 ^ 32
-long_bound high low h l = omega arith
-
 pub tells_long_cardinal : Tells NamedModel.long_cardinal
 unfolding value_text
 tells_long_cardinal v w a b x y s t ax ay e =
     let n = s.0 * 2 ^ 16 + s.1 in
     let m = t.0 * 2 ^ 16 + t.1 in
-    let p = numbers n m x y (let h : n < 2 ^ 32 = long_bound s.0 s.1 s.2 s.3 in omega arith) (let h : m < 2 ^ 32 = long_bound t.0 t.1 t.2 t.3 in omega arith) ax ay (known NamedModel.long_cardinal v w _ _ x y s.4 t.4 e) in
+    let p = numbers n m x y (let h : n < 2 ^ 32 = long_fits s.0 s.1 s.2 s.3 in omega arith) (let h : m < 2 ^ 32 = long_fits t.0 t.1 t.2 t.3 in omega arith) ax ay (known NamedModel.long_cardinal v w _ _ x y s.4 t.4 e) in
     (s.4 ∙ ap ValueModel.long_cardinal p.0 ∙ sym t.4, p.1)
 
 pub tells_integer : Tells NamedModel.integer
@@ -84,7 +82,7 @@ unfolding value_text
 tells_long_integer v w a b x y s t ax ay e =
     let n = s.0 * 2 ^ 16 + s.1 in
     let m = t.0 * 2 ^ 16 + t.1 in
-    let p = integers (cast_signed w32 n) (cast_signed w32 m) x y (long_small n (long_bound s.0 s.1 s.2 s.3)) (long_small m (long_bound t.0 t.1 t.2 t.3)) ax ay (known NamedModel.long_integer v w _ _ x y s.4 t.4 e) in
+    let p = integers (cast_signed w32 n) (cast_signed w32 m) x y (long_small n (long_fits s.0 s.1 s.2 s.3)) (long_small m (long_fits t.0 t.1 t.2 t.3)) ax ay (known NamedModel.long_integer v w _ _ x y s.4 t.4 e) in
     (s.4 ∙ ap ValueModel.long_integer p.0 ∙ sym t.4, p.1)
 
 small_bytes : (bytes words : List ℕ) → SpellsBytes bytes words → AreSmall bytes

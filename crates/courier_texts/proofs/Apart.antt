@@ -8,6 +8,7 @@ use Rattle.std.specs.Prelude.{ℤ}
 use Rattle.std.specs.Char.{is_ascii_digit}
 use Rattle.std.proofs.lemmas.Str.Parse.{IsNumeralModel, numerals_by_fold}
 use Rattle.std.proofs.lemmas.Fmt.{decimal_injective, decimal_nonempty, digits_decimal, signed_decimal_injective}
+use Rattle.std.proofs.lemmas.Bool.{and_parts}
 use Rattle.std.proofs.lemmas.Bool.Decides.{nat_tests}
 use Rattle.courier_texts.specs.Laws.{is_plain}
 
@@ -27,10 +28,6 @@ IsPlain bytes = list_all is_plain bytes ≡ true
 pub heads : (b c : ℕ) (xs ys : List ℕ) → b ∷ xs ≡ c ∷ ys → (b ≡ c) × (xs ≡ ys)
 heads b c xs ys e = (cc, cc)
 
-pub and_both : (a b : Bool) → (a && b) ≡ true → (a ≡ true) × (b ≡ true)
-and_both true b h = (refl, h)
-and_both false b h = absurd (cc)
-
 pub clash : (c d : ℕ) → is_plain c ≡ true → is_plain d ≡ false → c ≡ d → ⊥
 clash c d t f e = let g : true ≡ false = sym t ∙ ap is_plain e ∙ f in cc
 
@@ -39,13 +36,13 @@ pub split : (a b x y : List ℕ) → IsPlain a → IsPlain b → IsApart x → I
 split [] [] x y p q ax ay e = (refl, e)
 split [] (c ∷ b) [] y p q ax ay e = absurd (cc)
 split [] (c ∷ b) (d ∷ x) y p q ax ay e =
-    absurd (clash c d (and_both (is_plain c) (list_all is_plain b) q).0 ax (sym (heads d c x (b ++ y) e).0))
+    absurd (clash c d (and_parts (is_plain c) (list_all is_plain b) q).0 ax (sym (heads d c x (b ++ y) e).0))
 split (c ∷ a) [] x [] p q ax ay e = absurd (cc)
 split (c ∷ a) [] x (d ∷ y) p q ax ay e =
-    absurd (clash c d (and_both (is_plain c) (list_all is_plain a) p).0 ay (heads c d (a ++ x) y e).0)
+    absurd (clash c d (and_parts (is_plain c) (list_all is_plain a) p).0 ay (heads c d (a ++ x) y e).0)
 split (c ∷ a) (d ∷ b) x y p q ax ay e =
     let h = heads c d (a ++ x) (b ++ y) e in
-    let more = split a b x y (and_both (is_plain c) (list_all is_plain a) p).1 (and_both (is_plain d) (list_all is_plain b) q).1 ax ay h.1 in
+    let more = split a b x y (and_parts (is_plain c) (list_all is_plain a) p).1 (and_parts (is_plain d) (list_all is_plain b) q).1 ax ay h.1 in
     ((let same : c ≡ d = h.0 in let others : a ≡ b = more.0 in cc), more.1)
 
 -- ---- decimals
@@ -64,7 +61,7 @@ digit_is_plain c h = grind (arith, nat_tests)
 digits_are_plain : (ds : List ℕ) → all_ascii_digits ds ≡ true → IsPlain ds
 digits_are_plain [] h = refl
 digits_are_plain (c ∷ cs) h =
-    let p = and_both (is_ascii_digit c) (all_ascii_digits cs) h in
+    let p = and_parts (is_ascii_digit c) (all_ascii_digits cs) h in
     ap (λ (b : Bool). b && list_all is_plain cs) (digit_is_plain c p.0) ∙ digits_are_plain cs p.1
 
 pub plain_decimal : (n : ℕ) → n < 2 ^ 64 → IsPlain (decimal n)
@@ -73,7 +70,7 @@ plain_decimal n h = digits_are_plain (decimal n) (digits_decimal own n h)
 -- plain bytes start with a plain one, if there are some
 pub plain_starts : (bytes more : List ℕ) → IsPlain bytes → 0 < length bytes → Starts (bytes ++ more)
 plain_starts [] more p h = absurd (omega arith)
-plain_starts (b ∷ bytes) more p h = (and_both (is_plain b) (list_all is_plain bytes) p).0
+plain_starts (b ∷ bytes) more p h = (and_parts (is_plain b) (list_all is_plain bytes) p).0
 
 pub decimal_starts : (n : ℕ) (more : List ℕ) → n < 2 ^ 64 → Starts (decimal n ++ more)
 decimal_starts n more h = plain_starts (decimal n) more (plain_decimal n h) (decimal_nonempty n h)

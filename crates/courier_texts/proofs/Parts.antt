@@ -2,14 +2,14 @@
 use Rattle.std.proofs.Common.{◌≡◌, ℕ, zero, suc, ◌==◌, Bool, true, false, cond, List, [], ◌∷◌, ◌++◌, map, codes, refl, sym, ap, ◌∙◌, append_assoc, arith}
 use Rattle.std.specs.Prelude.{◌||◌, ◌≢◌}
 use Rattle.std.specs.List.{list_all}
-use Rattle.std.proofs.lemmas.Bool.{eqb-true}
+use Rattle.std.proofs.lemmas.Bool.{and_parts, eqb-true}
 use Rattle.std.proofs.lemmas.List.{append_cancel_left}
 use Rattle.courier_types.specs.Value.{ValueModel, ValueModels, no_values, value_and}
 use Rattle.courier_types.specs.Spelling.{SpellsValue, SpellsTimes, is_listed}
 use Rattle.courier_texts.specs.Named.{NamedModel, shape_of}
 use Rattle.courier_texts.specs.Printing.{member_text, elements_text, value_text}
 use Rattle.courier_texts.specs.Laws.{is_plain, is_plain_name, NamesNoMember, HaveNames}
-use Rattle.courier_texts.proofs.Apart.{IsApart, Starts, IsPlain, heads, and_both, clash, split}
+use Rattle.courier_texts.proofs.Apart.{IsApart, Starts, IsPlain, heads, clash, split}
 use Rattle.courier_texts.proofs.Alike.{Tells, known}
 
 -- ---- names
@@ -20,7 +20,7 @@ plain_name (b ∷ bytes) h = h
 
 pub name_starts : (name more : List ℕ) → is_plain_name name ≡ true → Starts (name ++ more)
 name_starts [] more h = absurd (cc)
-name_starts (b ∷ bytes) more h = (and_both (is_plain b) (list_all is_plain bytes) h).0
+name_starts (b ∷ bytes) more h = (and_parts (is_plain b) (list_all is_plain bytes) h).0
 
 -- ---- enumerations
 

@@ -1,8 +1,8 @@
 -- What was printed so far, and what is still printed.
-use Rattle.std.proofs.Common.{◌≡◌, ℕ, ◌+◌, ◌≤◌, ◌<◌, ◌==◌, Bool, cond, List, [], ◌∷◌, ◌++◌, length, drop, get_or, codes, Vec, Box, Global, map, refl, ap, ◌∙◌, append_assoc, arith, rules}
+use Rattle.std.proofs.Common.{◌≡◌, ℕ, ◌+◌, ◌≤◌, ◌<◌, ◌==◌, Bool, cond, List, [], ◌∷◌, ◌++◌, length, drop, get_or, codes, Vec, Global, map, refl, ap, ◌∙◌, append_assoc, arith, rules}
 use Rattle.std.proofs.lemmas.List.{drop_all, drop_more}
 use Rattle.courier_types.proofs.Loops.{item_here}
-use Rattle.courier_types.specs.declared.value.Value.{Value, Fields as VFields, Choice as VChoice, the_lemmas as value_lemmas}
+use Rattle.courier_types.specs.declared.value.Value.{Value, Fields as VFields, the_lemmas as value_lemmas}
 use Rattle.courier_types.specs.Value.{ValueModel, no_values, value_model, value_models}
 use Rattle.courier_texts.specs.declared.named.Named.{Named, Record, Choice, the_lemmas}
 use Rattle.courier_texts.specs.Named.{NamedModel, ComponentModels, component_and, variant_and, named_model, members_seen, components_seen, variants_seen, component_models, variant_models}
@@ -102,6 +102,3 @@ named_choice v = choice_level v ∙ ap NamedModel.choice (variants_are v.items)
 
 pub value_fields : (v : Vec Value Global) → value_model (VFields v) ≡ ValueModel.fields (value_models v.items)
 value_fields v = search (rules, value_lemmas)
-
-pub value_chosen : (d : ℕ) (b : Box Value Global) → value_model (VChoice d b) ≡ ValueModel.choice d (value_model b.value)
-value_chosen d b = search (rules, value_lemmas)

@@ -1,10 +1,10 @@
 -- The shapes of parts, one after the other.
-use Rattle.std.proofs.Common.{◌≡◌, ℕ, ◌≤◌, ◌<◌, List, [], ◌∷◌, length, take, map, Vec, Global, Result, Ok, Err, refl, sym, ap, ◌∙◌, rules, arith}
-use Rattle.std.specs.Prelude.{OnErr}
+use Rattle.std.proofs.Common.{◌≡◌, ℕ, ◌≤◌, ◌<◌, List, [], ◌∷◌, length, take, map, Vec, Global, refl, sym, ap, ◌∙◌, rules, arith}
 use Rattle.std.proofs.lemmas.List.{take_all}
-use Rattle.courier_types.specs.declared.shape.Shape.{Shape, Choice, Enumeration as Words, the_lemmas}
+use Rattle.courier_types.specs.declared.shape.Shape.{Shape, Enumeration as Words, the_lemmas}
 use Rattle.courier_types.specs.Shape.{ShapeModel, shape_and, shapes_from, member_and, members_from, shape_model, shape_models, member_models}
-use Rattle.courier_texts.specs.declared.named.Named.{Named, Enumeration, the_lemmas as named_lemmas}
+use Rattle.courier_texts.specs.declared.named.Named.{Named, Enumeration, Record, Choice, the_lemmas as named_lemmas}
+use Rattle.courier_texts.proofs.Printed.{named_record, named_choice}
 use Rattle.courier_texts.specs.Named.{HasParts, NamedModel, named_model, members_seen, component_models, variant_models, shape_of, shapes_of, members_of}
 
 -- the shape of a component
@@ -34,9 +34,6 @@ all_members members parts i le so_far = ap members_from (so_far ∙ ap (map vari
 
 -- ---- what shapes are seen as
 
-pub shape_choice : (v : Vec (ℕ × Shape) Global) → shape_model (Choice v) ≡ ShapeModel.choice (member_models v.items)
-shape_choice v = search (rules, the_lemmas)
-
 pub words_seen : (members : List (Vec ℕ Global × ℕ)) → map (λ m. m.1) members ≡ map (λ m. m.1) (members_seen members)
 words_seen [] = refl
 words_seen (m ∷ ms) = ap (λ (ws : List ℕ). m.1 ∷ ws) (words_seen ms)
@@ -52,7 +49,7 @@ pub enumeration_shape : (words : Vec ℕ Global) (members : Vec (Vec ℕ Global 
 enumeration_shape words members h =
     shape_words words ∙ ap ShapeModel.enumeration (h ∙ words_seen members.items) ∙ sym (ap shape_of (named_members members))
 
--- ---- parts
+-- ---- a type with parts
 
 pub has_components : (parts : List (Vec ℕ Global × Named)) → 0 < length parts → HasParts (NamedModel.components (component_models parts))
 has_components [] h = absurd (omega arith)
@@ -62,6 +59,8 @@ pub has_variants : (parts : List (Vec ℕ Global × (ℕ × Named))) → 0 < len
 has_variants [] h = absurd (omega arith)
 has_variants (p ∷ parts) h = tt
 
-pub on_err : {T E : Type 0} (r : Result T E) (P Q : Type 0) → (P → Q) → OnErr r P → OnErr r Q
-on_err (Ok x) P Q f h = tt
-on_err (Err e) P Q f h = f h
+pub record_has_parts : (named : Named) (v : Vec (Vec ℕ Global × Named) Global) → named ≡ Record v → 0 < length v.items → HasParts (named_model named)
+record_has_parts named v is some = rw (is, named_record v) (has_components v.items some)
+
+pub choice_has_parts : (named : Named) (v : Vec (Vec ℕ Global × (ℕ × Named)) Global) → named ≡ Choice v → 0 < length v.items → HasParts (named_model named)
+choice_has_parts named v is some = rw (is, named_choice v) (has_variants v.items some)

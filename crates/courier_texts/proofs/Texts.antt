@@ -9,8 +9,9 @@ use Rattle.courier_types.specs.Spelling.{SpellsFields, SpellsMember, value_spell
 use Rattle.courier_texts.specs.Named.{NamedModel, ComponentModels, no_components, component_and, VariantModels, no_variants, variant_and, shape_of, shapes_of, members_of}
 use Rattle.courier_texts.specs.Printing.{value_text, components_text, variant_text}
 use Rattle.courier_texts.specs.Laws.{is_plain_name, NamesNoVariant, IsNamed, AreComponentsNamed, AreVariantsNamed, EqualTextsAreOfEqualValues}
+use Rattle.courier_types.proofs.Fitted.{long_fits}
 use Rattle.courier_texts.proofs.Apart.{IsApart, Starts, split, heads, decimal_starts, signed_starts}
-use Rattle.courier_texts.proofs.Alike.{Tells, known, word_small, long_small, long_bound, tells_boolean, tells_cardinal, tells_unspecified, tells_long_cardinal, tells_integer, tells_long_integer, tells_text}
+use Rattle.courier_texts.proofs.Alike.{Tells, known, word_small, long_small, tells_boolean, tells_cardinal, tells_unspecified, tells_long_cardinal, tells_integer, tells_long_integer, tells_text}
 use Rattle.courier_texts.proofs.Parts.{StartsPlain, in_brackets, plain_name, name_starts, listed_starts, tells_enumeration, tells_array, tells_sequence}
 
 -- ---- records
@@ -148,10 +149,10 @@ unfolding value_text
 starts NamedModel.boolean h v a more s = starts_known NamedModel.boolean v _ more s.1 (starts_boolean s.0 more)
 starts NamedModel.cardinal h v a more s = starts_known NamedModel.cardinal v _ more s.2 (decimal_starts s.0 more (small s.0 s.1))
 starts NamedModel.long_cardinal h v a more s =
-    starts_known NamedModel.long_cardinal v _ more s.4 (decimal_starts (s.0 * 2 ^ 16 + s.1) more (long (s.0 * 2 ^ 16 + s.1) (long_bound s.0 s.1 s.2 s.3)))
+    starts_known NamedModel.long_cardinal v _ more s.4 (decimal_starts (s.0 * 2 ^ 16 + s.1) more (long (s.0 * 2 ^ 16 + s.1) (long_fits s.0 s.1 s.2 s.3)))
 starts NamedModel.integer h v a more s = starts_known NamedModel.integer v _ more s.2 (signed_starts (cast_signed w16 s.0) more (word_small s.0 s.1))
 starts NamedModel.long_integer h v a more s =
-    starts_known NamedModel.long_integer v _ more s.4 (signed_starts (cast_signed w32 (s.0 * 2 ^ 16 + s.1)) more (long_small (s.0 * 2 ^ 16 + s.1) (long_bound s.0 s.1 s.2 s.3)))
+    starts_known NamedModel.long_integer v _ more s.4 (signed_starts (cast_signed w32 (s.0 * 2 ^ 16 + s.1)) more (long_small (s.0 * 2 ^ 16 + s.1) (long_fits s.0 s.1 s.2 s.3)))
 starts NamedModel.unspecified h v a more s = starts_known NamedModel.unspecified v _ more s.2 (decimal_starts s.0 more (small s.0 s.1))
 starts NamedModel.text h v a more s = starts_known NamedModel.text v _ more s.3 refl
 starts (NamedModel.enumeration members) h v a more s = starts_known (NamedModel.enumeration members) v _ more s.3 (listed_starts members s.0 more h s.2)

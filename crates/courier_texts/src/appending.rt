@@ -16,6 +16,6 @@ pub fn append(out: &mut Vec<u8>, bytes: &[u8]) -> Result<(), TextRefusal>
     if MOST_TEXT - out.len() < bytes.len() {
         return Err(TextRefusal::LongText);
     }
-    out.extend_from_slice(bytes)?;
-    Ok(())
+    out.extend_from_slice(bytes)
+        .map_err(|_| TextRefusal::NoMemory)
 }

@@ -2,10 +2,11 @@ use Rattle.std.proofs.Common.{◌++◌, ◌+◌, [], drop, ap, sym, ◌∙◌, a
 use Rattle.std.proofs.lemmas.Result.{err_from_is_err_and}
 use Rattle.courier_types.specs.Value.{value_model, value_models}
 use Rattle.courier_types.proofs.Loops.{item_here, walk_ends, walk_on}
+use Rattle.courier_types.proofs.Writes.{model_chosen}
 use Rattle.courier_texts.specs.Named.{named_model, component_models, variant_models}
 use Rattle.courier_texts.specs.Printing.{components_text, value_text, variant_text}
 use Rattle.courier_texts.proofs.Appends.{all_printed, goes_on, left_is, nothing, stops}
-use Rattle.courier_texts.proofs.Printed.{part_text, front_printed, front_first, no_value_text, no_part_text, next_variant, named_record, named_choice, value_fields, value_chosen}
+use Rattle.courier_texts.proofs.Printed.{part_text, front_printed, front_first, no_value_text, no_part_text, next_variant, named_record, named_choice, value_fields}
 use Rattle.courier_texts.proofs.printing.+print.Goals as goal
 
 pub print_components-returns-then-i-values : goal.print_components-returns-then-i-values
@@ -87,5 +88,5 @@ pub print_value-returns-in-Choice-Choice : goal.print_value-returns-in-Choice-Ch
 unfolding value_text
 print_value-returns-in-Choice-Choice t c =
     let type = ap named_model c.in-Choice-Choice.is-0 ∙ named_choice c.in-Choice-Choice.variants in
-    let value = ap value_model c.in-Choice-Choice.is-1 ∙ value_chosen c.in-Choice-Choice.designator c.in-Choice-Choice.value in
+    let value = ap value_model c.in-Choice-Choice.is-1 ∙ model_chosen c.in-Choice-Choice.designator c.in-Choice-Choice.value in
     rw (type, value, ← c.deref-in-Choice-Choice.ensures.value, ← c.deref-in-Choice-Choice-2.ensures) c.print_chosen.ensures

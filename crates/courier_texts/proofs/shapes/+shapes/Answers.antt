@@ -1,8 +1,10 @@
-use Rattle.std.proofs.Common.{ap, ◌∙◌, ◌<◌, length, rules}
+use Rattle.std.proofs.Common.{ap, ◌∙◌, rules}
+use Rattle.std.proofs.lemmas.Result.{on_err_weaker}
 use Rattle.courier_types.specs.Shape.{ShapeModel}
-use Rattle.courier_texts.specs.Named.{HasParts, NamedModel, named_model, component_models}
+use Rattle.courier_types.proofs.Loops.{model_choice}
+use Rattle.courier_texts.specs.Named.{named_model}
 use Rattle.courier_texts.proofs.Printed.{named_record, named_choice}
-use Rattle.courier_texts.proofs.Shaped.{all_shapes, all_members, shape_choice, enumeration_shape, has_components, has_variants, on_err}
+use Rattle.courier_texts.proofs.Shaped.{all_shapes, all_members, enumeration_shape, record_has_parts, choice_has_parts}
 use Rattle.courier_texts.proofs.shapes.+shapes.Goals as goal
 
 pub shapes_of_components-returns-clause-shapes : goal.shapes_of_components-returns-clause-shapes
@@ -31,18 +33,13 @@ pub shape_of-returns-in_ok-members_of_variants-in-Choice-clause-shape : goal.sha
 shape_of-returns-in_ok-members_of_variants-in-Choice-clause-shape t c =
     let members = c.in_ok-members_of_variants-in-Choice.field-0 in
     let type = ap named_model c.in-Choice.is ∙ named_choice c.in-Choice.variants in
-    rw (type, ← c.deref-in-Choice.ensures.value) (shape_choice members ∙ ap ShapeModel.choice c.in_ok-members_of_variants-in-Choice.ensures.members)
+    rw (type, ← c.deref-in-Choice.ensures.value) (model_choice members ∙ ap ShapeModel.choice c.in_ok-members_of_variants-in-Choice.ensures.members)
 
 pub shape_of-returns-in-Record-clause-memory : goal.shape_of-returns-in-Record-clause-memory
 shape_of-returns-in-Record-clause-memory t c =
-    let type = ap named_model c.in-Record.is ∙ named_record c.in-Record.components in
-    let parts = c.in-Record.components.items in
-    rw type (on_err c.shape_of_record.result (0 < length parts) (HasParts (NamedModel.components (component_models parts))) (has_components parts) (rw c.deref-in-Record.ensures.value at c.shape_of_record.ensures.memory))
+    on_err_weaker c.shape_of_record.result (record_has_parts c.args.named.now c.in-Record.components c.in-Record.is) (rw c.deref-in-Record.ensures.value at c.shape_of_record.ensures.memory)
 
 pub shape_of-returns-in_err-members_of_variants-in-Choice-clause-memory : goal.shape_of-returns-in_err-members_of_variants-in-Choice-clause-memory
 shape_of-returns-in_err-members_of_variants-in-Choice-clause-memory t c =
-    let type = ap named_model c.in-Choice.is ∙ named_choice c.in-Choice.variants in
-    let parts = c.in-Choice.variants.items in
-    let some : 0 < length parts = rw c.deref-in-Choice.ensures.value at c.in_err-members_of_variants-in-Choice.ensures.memory in
-    let has : HasParts (named_model c.args.named.now) = rw type (has_variants parts some) in
+    let has = choice_has_parts c.args.named.now c.in-Choice.variants c.in-Choice.is (rw c.deref-in-Choice.ensures.value at c.in_err-members_of_variants-in-Choice.ensures.memory) in
     search rules
