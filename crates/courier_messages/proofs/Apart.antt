@@ -14,7 +14,7 @@ use Rattle.courier_messages.specs.Phases.{run, said, onwards}
 use Rattle.courier_messages.specs.Cutting.{message_item, cut_items, cut_bytes, cut, versions_item}
 use Rattle.courier_messages.specs.Laws.{items_of}
 use Rattle.courier_messages.proofs.More.{item_one}
-use Rattle.courier_messages.proofs.Runs.{said_append, said_bytes, said_stream}
+use Rattle.courier_messages.proofs.Runs.{no_more, said_append, said_bytes, said_stream}
 use Rattle.courier_messages.proofs.Signs.{conversation_is}
 
 -- how many items end a message
@@ -28,14 +28,10 @@ lasts (x ∷ xs) = one_if x.last + lasts xs
 
 -- ---- items say no more messages than they end
 
-none_on : (r : Result Phase SessionFault) (f : Phase → List Message) → ((p : Phase) → f p ≡ []) → onwards r f ≡ []
-none_on (Ok p) f h = h p
-none_on (Err e) f h = refl
-
 signs_none : (ours : Bool) (x : Item) (p : Phase) → length (said p (if ours then map byte x.body ++ [] else foreign x.stream ∷ [])) ≤ 0
 unfolding said
 signs_none true x p =
-    let e = said_append p (map byte x.body) [] ∙ ap (λ (ms : List Message). ms ++ onwards (run p (map byte x.body)) (λ q. said q [])) (said_bytes p x.body) ∙ none_on (run p (map byte x.body)) (λ q. []) (λ q. refl) in
+    let e = said_append p (map byte x.body) [] ∙ ap (λ (ms : List Message). ms ++ onwards (run p (map byte x.body)) (λ q. said q [])) (said_bytes p x.body) ∙ no_more (run p (map byte x.body)) (λ q. []) (λ q. refl) in
     omega (arith, ap (length {A = Message}) e)
 signs_none false x p = omega (arith, ap (length {A = Message}) (said_stream p x.stream))
 

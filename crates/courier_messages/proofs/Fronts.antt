@@ -12,7 +12,7 @@ use Rattle.courier_messages.specs.Head.{ReadsHead, heads_in, with_words}
 use Rattle.courier_messages.specs.Inside.{IsSkipped}
 use Rattle.courier_messages.specs.Message.{call_in, reject_in, abort_in, message_in, message_of, unless_long}
 use Rattle.courier_messages.proofs.Heads.{dropped_length, even_message, short_message, skipped_within}
-use Rattle.courier_messages.proofs.Wholes.{half}
+use Rattle.courier_types.proofs.Joined.{words_length}
 
 -- one word
 
@@ -104,7 +104,7 @@ short_front skipped n kept more a b c d e f skips is odd size few ha hb hc hd he
     let within = skipped_within skipped (kept ++ more) skips in
     let count = dropped_length skipped kept more (omega (arith, all, within)) in
     let same : n ≡ length bytes = omega (arith, is, count) in
-    let words : n / 2 ≡ length ws = ap (λ (i : ℕ). i / 2) same ∙ sym (half bytes) in
+    let words : n / 2 ≡ length ws = ap (λ (i : ℕ). i / 2) same ∙ sym (words_length bytes) in
     ap (λ (l : List ℕ). heads_in (message_in l)) ((λ i. take (n / 2) (ha i ∷ hb i ∷ hc i ∷ hd i ∷ he i ∷ hf i ∷ [])) ∙ front_taken ws (n / 2) words few)
     ∙ sym (even_head bytes (λ o. odd (ap (λ (i : ℕ). i % 2) same ∙ o)) (omega (arith, count)))
 

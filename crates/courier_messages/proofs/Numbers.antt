@@ -1,12 +1,14 @@
 -- The messages of items whose bodies are bytes have numbers within their types' bounds.
-use Rattle.std.proofs.Common.{◌≡◌, sym, subst, refl, ℕ, zero, suc, ◌^◌, ◌<◌, Bool, true, false, List, [], ◌∷◌, ◌++◌, length, map, arith, Option, Some, None, ◌*◌, ◌+◌, Result, Ok, Err}
+use Rattle.std.proofs.Common.{◌≡◌, sym, subst, refl, ℕ, ◌^◌, ◌<◌, Bool, true, false, List, [], ◌∷◌, ◌++◌, length, map, Option, Some, None, ◌*◌, ◌+◌, Result, Ok, Err}
 use Rattle.std.specs.Prelude.{if◌then◌else◌, ◌==◌}
 use Rattle.std.specs.List.{AllByRecursion}
-use Rattle.std.proofs.lemmas.List.Elements.{All-append, recursion_from_All}
+use Rattle.std.proofs.lemmas.List.Elements.{recursion_from_All}
 use Rattle.xns_spp.specs.Fronts.{all_append}
 use Rattle.xns_spp.specs.declared.item.Item.{Item}
 use Rattle.xns_spp.specs.Item.{IsItem}
 use Rattle.courier_types.specs.Spelling.{AreBytes}
+use Rattle.courier_types.proofs.Joined.{bytes_words}
+use Rattle.courier_types.proofs.Words.{none_below, cons_below, append_below}
 use Rattle.courier_messages.specs.declared.fault.MessageFault.{MessageFault}
 use Rattle.courier_messages.specs.declared.fault.MessageFault.TheVariants.{TooLong}
 use Rattle.courier_messages.specs.declared.fault.SessionFault.{SessionFault}
@@ -17,14 +19,10 @@ use Rattle.courier_messages.specs.Text.{Sign, byte, mark, foreign, end_of, signs
 use Rattle.courier_messages.specs.Conversation.{versions_fault, Phase, opening, fresh, inside, conversation}
 use Rattle.courier_messages.specs.Phases.{fresh_unless, opened, closed, after_sign, ended, good, ◌then◌, onwards, said}
 use Rattle.courier_messages.proofs.Signs.{conversation_is}
-use Rattle.courier_messages.proofs.MessageWords.{read_is_spelled, byte_words}
-
-no_bytes : AreBytes []
-no_bytes i d lt = absurd (omega arith)
+use Rattle.courier_messages.proofs.MessageWords.{read_is_spelled}
 
 one_byte : (b : ℕ) → b < 2 ^ 8 → AreBytes (b ∷ [])
-one_byte b h zero d lt = h
-one_byte b h (suc i) d lt = absurd (omega arith)
+one_byte b h = cons_below (2 ^ 8) b [] h (none_below (2 ^ 8))
 
 -- what is kept is bytes
 abbrev HoldsBytes : Phase → Type 0
@@ -42,7 +40,7 @@ IsByte mark = Unit {0}
 IsByte (foreign kind) = Unit {0}
 
 after_mark : (r : Result Message MessageFault) → IfGoes (closed r)
-after_mark (Ok m) = no_bytes
+after_mark (Ok m) = none_below (2 ^ 8)
 after_mark (Err e) = tt
 
 agreed_by : (f : Option SessionFault) → IfGoes (fresh_unless f)
@@ -58,7 +56,7 @@ opened_bytes (a ∷ b ∷ c ∷ d ∷ bytes) = agreed_by (versions_fault (a * 25
 
 more_bytes : (bytes : List ℕ) (b : ℕ) (full : Bool) → AreBytes bytes → b < 2 ^ 8 → IfGoes (if full then Err (BadMessage TooLong) else Ok (inside (bytes ++ b ∷ [])))
 more_bytes bytes b true h k = tt
-more_bytes bytes b false h k = All-append (λ x. x < 2 ^ 8) bytes (b ∷ []) h (one_byte b k)
+more_bytes bytes b false h k = append_below (2 ^ 8) bytes (b ∷ []) h (one_byte b k)
 
 step_bytes : (p : Phase) (s : Sign) → HoldsBytes p → IsByte s → IfGoes (after_sign p s)
 step_bytes (opening bytes) (foreign kind) h k = tt
@@ -67,12 +65,12 @@ step_bytes (inside bytes) (foreign kind) h k = tt
 step_bytes (opening bytes) (byte b) h k = opened_bytes (bytes ++ b ∷ [])
 step_bytes (opening bytes) mark h k = tt
 step_bytes fresh (byte b) h k = one_byte b k
-step_bytes fresh mark h k = no_bytes
+step_bytes fresh mark h k = none_below (2 ^ 8)
 step_bytes (inside bytes) (byte b) h k = more_bytes bytes b (length bytes == 131072) h k
 step_bytes (inside bytes) mark h k = after_mark (message_of bytes)
 
 good_numbers : (bytes : List ℕ) (r : Result Message MessageFault) → AreBytes bytes → message_of bytes ≡ r → AllByRecursion IsMessage (good r)
-good_numbers bytes (Ok m) h is = ((read_is_spelled bytes m (byte_words bytes h) is).numbers, tt)
+good_numbers bytes (Ok m) h is = ((read_is_spelled bytes m (bytes_words bytes h) is).numbers, tt)
 good_numbers bytes (Err e) h is = tt
 
 ended_numbers : (p : Phase) (s : Sign) → HoldsBytes p → AllByRecursion IsMessage (ended p s)

@@ -4,7 +4,7 @@ use Rattle.std.proofs.lemmas.Bool.{eqb-false}
 use Rattle.std.proofs.lemmas.List.{drop-append-le, drop_all, map-append}
 use Rattle.std.proofs.lemmas.Grind.{elements}
 use Rattle.std.proofs.lemmas.Option.{slice_get-get_or}
-use Rattle.std.specs.Prelude.{if◌then◌else◌, ◌==◌, slice_get, Some, None}
+use Rattle.std.specs.Prelude.{◌==◌, slice_get, Some, None}
 use Rattle.courier_types.specs.Pieces.{words_of}
 use Rattle.courier_messages.specs.declared.fault.MessageFault.TheVariants.{TooLong}
 use Rattle.courier_messages.specs.declared.fault.SessionFault.{SessionFault}
@@ -15,33 +15,30 @@ use Rattle.courier_messages.specs.Phases.{agreement, opened, ◌then◌, run}
 use Rattle.courier_messages.specs.Inside.{IsSkipped}
 use Rattle.courier_messages.specs.Refusal.{UnlessMemory}
 use Rattle.courier_messages.proofs.Heads.{dropped_length, length_behind, range_dropped, skipped_within}
-use Rattle.courier_messages.proofs.Runs.{run_append, weaker}
+use Rattle.courier_messages.proofs.Runs.{byte_step, run_append, weaker}
 
 -- within a message
 
-full_step : List ℕ → ℕ → Bool → Result Phase SessionFault
-full_step bytes b full = if full then Err (BadMessage TooLong) else Ok (inside (bytes ++ b ∷ []))
-
 pub inside_bytes : (bytes more : List ℕ) → length bytes + length more ≤ 131072 → run (inside bytes) (map byte more) ≡ Ok (inside (bytes ++ more))
-unfolding run full_step
+unfolding run
 inside_bytes bytes [] h = ap (λ (l : List ℕ). Ok (inside l)) (sym (append-nil bytes))
 inside_bytes bytes (b ∷ more) h =
     let room : (length bytes == 131072) ≡ false = ne_eqb (length bytes) 131072 (λ e. omega (arith, e)) in
     let longer = length-append bytes (b ∷ []) in
-    ap (λ (v : Bool). full_step bytes b v then λ q. run q (map byte more)) room
+    ap (λ (v : Bool). byte_step bytes b v then λ q. run q (map byte more)) room
     ∙ inside_bytes (bytes ++ b ∷ []) more (omega (arith, longer))
     ∙ ap (λ (l : List ℕ). Ok (inside l)) (append_assoc bytes (b ∷ []) more)
 
 pub inside_too_many : (bytes more : List ℕ) → length bytes ≤ 131072 → 131072 < length bytes + length more → run (inside bytes) (map byte more) ≡ Err (BadMessage TooLong)
-unfolding run full_step
+unfolding run
 inside_too_many bytes [] h k = absurd (omega arith)
 inside_too_many bytes (b ∷ more) h k = by_size (λ x y. inside_too_many (bytes ++ b ∷ []) more x y) (length bytes == 131072) refl where
-  by_size : (length (bytes ++ b ∷ []) ≤ 131072 → 131072 < length (bytes ++ b ∷ []) + length more → run (inside (bytes ++ b ∷ [])) (map byte more) ≡ Err (BadMessage TooLong)) → (v : Bool) → (length bytes == 131072) ≡ v → (full_step bytes b (length bytes == 131072) then λ q. run q (map byte more)) ≡ Err (BadMessage TooLong)
-  by_size rec true e = ap (λ (v : Bool). full_step bytes b v then λ q. run q (map byte more)) e
+  by_size : (length (bytes ++ b ∷ []) ≤ 131072 → 131072 < length (bytes ++ b ∷ []) + length more → run (inside (bytes ++ b ∷ [])) (map byte more) ≡ Err (BadMessage TooLong)) → (v : Bool) → (length bytes == 131072) ≡ v → (byte_step bytes b (length bytes == 131072) then λ q. run q (map byte more)) ≡ Err (BadMessage TooLong)
+  by_size rec true e = ap (λ (v : Bool). byte_step bytes b v then λ q. run q (map byte more)) e
   by_size rec false e =
       let n = eqb-false (length bytes) 131072 e in
       let longer = length-append bytes (b ∷ []) in
-      ap (λ (v : Bool). full_step bytes b v then λ q. run q (map byte more)) e ∙ rec (omega (arith, longer, n)) (omega (arith, longer))
+      ap (λ (v : Bool). byte_step bytes b v then λ q. run q (map byte more)) e ∙ rec (omega (arith, longer, n)) (omega (arith, longer))
 
 -- behind bytes that are skipped
 

@@ -1,7 +1,8 @@
 -- How a conversation goes on.
 use Rattle.std.proofs.Common.{◌≡◌, ◌≢◌, ◌∙◌, ap, sym, refl, ℕ, List, [], ◌∷◌, ◌++◌, map, Bool, false, append_assoc, append-nil, arith, Ok, Err}
-use Rattle.std.specs.Prelude.{Result}
+use Rattle.std.specs.Prelude.{Result, if◌then◌else◌}
 use Rattle.xns_spp.specs.declared.item.Item.{Item}
+use Rattle.courier_messages.specs.declared.fault.MessageFault.TheVariants.{TooLong}
 use Rattle.courier_messages.specs.declared.fault.SessionFault.{SessionFault}
 use Rattle.courier_messages.specs.declared.fault.SessionFault.TheVariants as faults
 use Rattle.courier_messages.specs.Refusal.{Stops}
@@ -9,6 +10,10 @@ use Rattle.courier_messages.specs.declared.message.Message.{Message}
 use Rattle.courier_messages.specs.Text.{Sign, byte, mark, foreign, signs, end_of}
 use Rattle.courier_messages.specs.Conversation.{Phase, opening, fresh, inside}
 use Rattle.courier_messages.specs.Phases.{after_sign, ended, run, said, onwards, ◌then◌}
+
+-- a message takes one more byte, unless it is full
+abbrev pub byte_step : List ℕ → ℕ → Bool → Result Phase SessionFault
+byte_step bytes b full = if full then Err (faults.BadMessage TooLong) else Ok (inside (bytes ++ b ∷ []))
 
 onwards_run : (r : Result Phase SessionFault) (xs ys : List Sign) → ((q : Phase) → run q (xs ++ ys) ≡ (run q xs then λ t. run t ys)) → (r then λ q. run q (xs ++ ys)) ≡ ((r then λ q. run q xs) then λ q. run q ys)
 onwards_run (Ok q) xs ys h = h q
@@ -19,7 +24,8 @@ unfolding run
 run_append p [] ys = refl
 run_append p (x ∷ xs) ys = onwards_run (after_sign p x) xs ys (λ q. run_append q xs ys)
 
-no_more : (r : Result Phase SessionFault) (f : Phase → List Message) → ((q : Phase) → f q ≡ []) → onwards r f ≡ []
+-- where nothing is said onwards, whatever the phase, nothing is said
+pub no_more : (r : Result Phase SessionFault) (f : Phase → List Message) → ((q : Phase) → f q ≡ []) → onwards r f ≡ []
 no_more (Ok q) f h = h q
 no_more (Err e) f h = refl
 

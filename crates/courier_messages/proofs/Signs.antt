@@ -13,6 +13,7 @@ use Rattle.courier_messages.specs.Message.{message_of}
 use Rattle.courier_messages.specs.Text.{Sign, byte, mark, foreign, written, marked, pieces_behind, rest_behind, foreign_in}
 use Rattle.courier_messages.specs.Conversation.{versions_fault, agreed_unless, agreed_range, version_range, without_mark, said_by, message_and, messages_in, first_of, fault_in, fault_of_rest, fault_behind, messages_of, fault_of, conversation, conversation_fault, Phase, opening, fresh, inside, phase_behind, phase_of, or_fault, ending}
 use Rattle.courier_messages.specs.Phases.{fresh_unless, agreement, closed, good, after_sign, ◌then◌, run, onwards, said}
+use Rattle.courier_messages.proofs.Runs.{byte_step}
 
 -- more than 131,072 bytes stay a fault, whatever comes behind them
 
@@ -65,11 +66,8 @@ mark_says : (r : Result Message MessageFault) (text : List Sign) → Ties [] tex
 mark_says (Ok m) text k = ap (λ (ms : List Message). m ∷ ms) k.spoke
 mark_says (Err e) text k = refl
 
-byte_step : List ℕ → ℕ → Bool → Result Phase SessionFault
-byte_step begun b full = if full then Err (BadMessage TooLong) else Ok (inside (begun ++ b ∷ []))
-
 byte_ties : (begun : List ℕ) (b : ℕ) (text : List Sign) (full : Bool) → (length begun == 131072) ≡ full → (full ≡ true → IsTooLong (begun ++ b ∷ []) text) → (full ≡ false → Ties (begun ++ b ∷ []) text) → Ties begun (byte b ∷ text)
-unfolding pieces_behind rest_behind foreign_in run said byte_step
+unfolding pieces_behind rest_behind foreign_in run said
 byte_ties begun b text true e long short =
     let k = long refl in
     let s : after_sign (inside begun) (byte b) ≡ Err (BadMessage TooLong) = ap (byte_step begun b) e in

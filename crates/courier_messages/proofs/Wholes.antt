@@ -1,5 +1,5 @@
 -- A value is read whole exactly where all the words spell it.
-use Rattle.std.proofs.Common.{◌≡◌, ◌∙◌, ◌↔◌, ap, refl, ℕ, ◌-◌, ◌/◌, Bool, true, false, List, [], ◌∷◌, length, drop, arith, eq-eqb, Result, Ok, Err, Some, None}
+use Rattle.std.proofs.Common.{◌≡◌, ◌∙◌, ◌↔◌, ap, refl, ℕ, ◌-◌, ◌/◌, Bool, true, false, List, length, drop, eq-eqb, Result, Ok, Err, Some, None}
 use Rattle.std.specs.Prelude.{◌==◌, if◌then◌else◌}
 use Rattle.std.proofs.lemmas.Bool.{eqb-true}
 use Rattle.std.proofs.lemmas.List.{length-drop}
@@ -10,16 +10,12 @@ use Rattle.courier_types.specs.Pieces.{words_of}
 use Rattle.courier_types.specs.Spelling.{SpellsValue, AreWords}
 use Rattle.courier_types.specs.Front.{value_of}
 use Rattle.courier_types.specs.Laws.{WordsAreReadWhole}
+use Rattle.courier_types.proofs.Joined.{words_length}
 use Rattle.courier_messages.specs.Whole.{all_taken, whole}
-
-pub half : (bytes : List ℕ) → length (words_of bytes) ≡ length bytes / 2
-half [] = refl
-half (b ∷ []) = refl
-half (b ∷ c ∷ bytes) = let h = half bytes in omega (arith, h)
 
 -- how many words are left behind those that are skipped
 pub left_behind : (skipped : ℕ) (bytes : List ℕ) → length (drop skipped (words_of bytes)) ≡ length bytes / 2 - skipped
-left_behind skipped bytes = length-drop skipped (words_of bytes) ∙ ap (λ (n : ℕ). n - skipped) (half bytes)
+left_behind skipped bytes = length-drop skipped (words_of bytes) ∙ ap (λ (n : ℕ). n - skipped) (words_length bytes)
 
 taken_whole : (words : List ℕ) (value : ValueModel) (r : Result (ValueModel × ℕ) ReadFault) → all_taken words r ≡ Some value → r ≡ Ok (value, length words)
 taken_whole words value (Err e) k = absurd cc

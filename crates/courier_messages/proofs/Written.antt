@@ -23,7 +23,7 @@ use Rattle.courier_messages.proofs.Ranges.{inside_bytes}
 use Rattle.courier_messages.proofs.Runs.{run_append, said_append, said_bytes}
 use Rattle.courier_messages.proofs.Signs.{conversation_is, ending_is}
 use Rattle.courier_messages.proofs.Cuts.{bytes_length}
-use Rattle.courier_messages.proofs.Wholes.{half}
+use Rattle.courier_types.proofs.Joined.{words_length}
 
 two_bytes : (w : ℕ) → (w / 256) * 256 + w % 256 ≡ w
 two_bytes w = omega arith
@@ -121,4 +121,4 @@ spelled_is_read bytes m even h =
     even_message bytes (λ odd. omega (arith, even, odd))
     ∙ ap (λ (ws : List ℕ). unless_long bytes (message_in ws)) h.spells
     ∙ ap (unless_long bytes) (message_back m)
-    ∙ short_message bytes m (omega (arith, size, even, half bytes))
+    ∙ short_message bytes m (omega (arith, size, even, words_length bytes))

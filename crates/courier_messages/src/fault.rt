@@ -32,16 +32,6 @@ pub enum MessageRefusal {
     NoMemory,
 }
 
-impl From<AllocError> for MessageRefusal {
-    ghost use Rattle.courier_messages.specs.declared.fault.MessageRefusal.TheVariants.{NoMemory};
-
-    ghost from_gives = { λ _ e. e ≡ NoMemory };
-
-    fn from(_e: AllocError) -> MessageRefusal {
-        MessageRefusal::NoMemory
-    }
-}
-
 /// Why a session stopped.
 #[derive(Clone, Copy, Debug, PartialEq, Eq, Error)]
 pub enum SessionFault {

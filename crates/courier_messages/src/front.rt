@@ -90,7 +90,7 @@ fn word_at(pieces: &Pieces, skipped: usize, body: &[u8], place: usize) -> u16
 
 /// The head of the message whose bytes are those of the pieces, without those that are skipped, followed by `body`; or
 /// what is wrong with the message.
-#[tactic(auto, using(crate::proofs::Fronts::front_taken, crate::proofs::Fronts::front_head, crate::proofs::Fronts::even_head, crate::proofs::Heads::odd_message, crate::proofs::Wholes::half, crate::proofs::Heads::dropped_length))]
+#[tactic(auto, using(crate::proofs::Fronts::front_taken, crate::proofs::Fronts::front_head, crate::proofs::Fronts::even_head, crate::proofs::Heads::odd_message, courier_types::proofs::Joined::words_length, crate::proofs::Heads::dropped_length))]
 fn head_behind(pieces: &Pieces, skipped: usize, body: &[u8]) -> Result<Head, MessageFault>
     requires skipped { IsSkipped skipped (pieces.now ++ body.now) }
     requires size { length pieces.now + length body.now ≤ most_bytes + skipped }

@@ -144,7 +144,10 @@ fn read_exactly(alloc: Global, bytes: &[u8]) -> Result<Message, MessageRefusal>
     if bytes.len() > MOST_BYTES {
         return Err(MessageRefusal::Fault(MessageFault::TooLong));
     }
-    Ok(head.with_words(words_left(alloc, &mut source)?))
+    match words_left(alloc, &mut source) {
+        Ok(words) => Ok(head.with_words(words)),
+        Err(_) => Err(MessageRefusal::NoMemory),
+    }
 }
 
 /// The message that the bytes are.
