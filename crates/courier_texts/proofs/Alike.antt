@@ -39,6 +39,10 @@ word_small n h = let k : NatFits w16 n = omega arith in small16 (cast_signed w16
 pub long_small : (n : ℕ) → n < 2 ^ 32 → mag (cast_signed w32 n) < 2 ^ 63
 long_small n h = let k : NatFits w32 n = omega arith in small32 (cast_signed w32 n) (sfits_to_z {w = w32} {n = n} k)
 
+-- values are told apart where what they are made of is
+pub told : {X : Type 0} (f : X → ValueModel) (n m : X) {v w : ValueModel} {x y : List ℕ} → v ≡ f n → w ≡ f m → (n ≡ m) × (x ≡ y) → (v ≡ w) × (x ≡ y)
+told f n m is_v is_w apart = (is_v ∙ ap f apart.0 ∙ sym is_w, apart.1)
+
 booleans : (b c : Bool) (x y : List ℕ) → boolean_text b ++ x ≡ boolean_text c ++ y → (b ≡ c) × (x ≡ y)
 booleans true true x y e = (refl, append_cancel_left (codes "TRUE") x y e)
 booleans false false x y e = (refl, append_cancel_left (codes "FALSE") x y e)
@@ -48,42 +52,46 @@ booleans false true x y e = absurd (omega (arith, (heads 70 84 (65 ∷ 76 ∷ 83
 pub tells_boolean : Tells NamedModel.boolean
 unfolding value_text
 tells_boolean v w a b x y s t ax ay e =
-    let p = booleans s.0 t.0 x y (known NamedModel.boolean v w _ _ x y s.1 t.1 e) in
-    (s.1 ∙ ap ValueModel.boolean p.0 ∙ sym t.1, p.1)
+    told ValueModel.boolean s.0 t.0 s.1 t.1 (booleans s.0 t.0 x y (known NamedModel.boolean v w _ _ x y s.1 t.1 e))
+
+pub small : (n : ℕ) → n < 2 ^ 16 → n < 2 ^ 64
+small n h = omega arith
+
+pub long : (n : ℕ) → n < 2 ^ 32 → n < 2 ^ 64
+long n h = omega arith
 
 pub tells_cardinal : Tells NamedModel.cardinal
 unfolding value_text
 tells_cardinal v w a b x y s t ax ay e =
-    let p = numbers s.0 t.0 x y (let h : s.0 < 2 ^ 16 = s.1 in omega arith) (let h : t.0 < 2 ^ 16 = t.1 in omega arith) ax ay (known NamedModel.cardinal v w _ _ x y s.2 t.2 e) in
-    (s.2 ∙ ap ValueModel.cardinal p.0 ∙ sym t.2, p.1)
+    told ValueModel.cardinal s.0 t.0 s.2 t.2 (numbers s.0 t.0 x y (small s.0 s.1) (small t.0 t.1) ax ay (known NamedModel.cardinal v w _ _ x y s.2 t.2 e))
 
 pub tells_unspecified : Tells NamedModel.unspecified
 unfolding value_text
 tells_unspecified v w a b x y s t ax ay e =
-    let p = numbers s.0 t.0 x y (let h : s.0 < 2 ^ 16 = s.1 in omega arith) (let h : t.0 < 2 ^ 16 = t.1 in omega arith) ax ay (known NamedModel.unspecified v w _ _ x y s.2 t.2 e) in
-    (s.2 ∙ ap ValueModel.unspecified p.0 ∙ sym t.2, p.1)
+    told ValueModel.unspecified s.0 t.0 s.2 t.2 (numbers s.0 t.0 x y (small s.0 s.1) (small t.0 t.1) ax ay (known NamedModel.unspecified v w _ _ x y s.2 t.2 e))
 
 pub tells_long_cardinal : Tells NamedModel.long_cardinal
 unfolding value_text
 tells_long_cardinal v w a b x y s t ax ay e =
     let n = s.0 * 2 ^ 16 + s.1 in
     let m = t.0 * 2 ^ 16 + t.1 in
-    let p = numbers n m x y (let h : n < 2 ^ 32 = long_fits s.0 s.1 s.2 s.3 in omega arith) (let h : m < 2 ^ 32 = long_fits t.0 t.1 t.2 t.3 in omega arith) ax ay (known NamedModel.long_cardinal v w _ _ x y s.4 t.4 e) in
-    (s.4 ∙ ap ValueModel.long_cardinal p.0 ∙ sym t.4, p.1)
+    told ValueModel.long_cardinal n m s.4 t.4 (numbers n m x y (long n (long_fits s.0 s.1 s.2 s.3)) (long m (long_fits t.0 t.1 t.2 t.3)) ax ay (known NamedModel.long_cardinal v w _ _ x y s.4 t.4 e))
 
 pub tells_integer : Tells NamedModel.integer
 unfolding value_text
 tells_integer v w a b x y s t ax ay e =
-    let p = integers (cast_signed w16 s.0) (cast_signed w16 t.0) x y (word_small s.0 s.1) (word_small t.0 t.1) ax ay (known NamedModel.integer v w _ _ x y s.2 t.2 e) in
-    (s.2 ∙ ap ValueModel.integer p.0 ∙ sym t.2, p.1)
+    let z = cast_signed w16 s.0 in
+    let u = cast_signed w16 t.0 in
+    told ValueModel.integer z u s.2 t.2 (integers z u x y (word_small s.0 s.1) (word_small t.0 t.1) ax ay (known NamedModel.integer v w _ _ x y s.2 t.2 e))
 
 pub tells_long_integer : Tells NamedModel.long_integer
 unfolding value_text
 tells_long_integer v w a b x y s t ax ay e =
     let n = s.0 * 2 ^ 16 + s.1 in
     let m = t.0 * 2 ^ 16 + t.1 in
-    let p = integers (cast_signed w32 n) (cast_signed w32 m) x y (long_small n (long_fits s.0 s.1 s.2 s.3)) (long_small m (long_fits t.0 t.1 t.2 t.3)) ax ay (known NamedModel.long_integer v w _ _ x y s.4 t.4 e) in
-    (s.4 ∙ ap ValueModel.long_integer p.0 ∙ sym t.4, p.1)
+    let z = cast_signed w32 n in
+    let u = cast_signed w32 m in
+    told ValueModel.long_integer z u s.4 t.4 (integers z u x y (long_small n (long_fits s.0 s.1 s.2 s.3)) (long_small m (long_fits t.0 t.1 t.2 t.3)) ax ay (known NamedModel.long_integer v w _ _ x y s.4 t.4 e))
 
 small_bytes : (bytes words : List ℕ) → SpellsBytes bytes words → AreSmall bytes
 small_bytes [] words s = tt
@@ -95,6 +103,6 @@ unfolding value_text
 tells_text v w a b x y s t ax ay e =
     let both : quoted s.0 ++ x ≡ quoted t.0 ++ y = known NamedModel.text v w _ _ x y s.3 t.3 e in
     let inside = (heads 34 34 ((flat_map quoted_byte s.0 ++ 34 ∷ []) ++ x) ((flat_map quoted_byte t.0 ++ 34 ∷ []) ++ y) both).1 in
-    let p = strings s.0 t.0 x y (small_bytes s.0 s.1 s.5) (small_bytes t.0 t.1 t.5)
-    (sym (append_assoc (flat_map quoted_byte s.0) (34 ∷ []) x) ∙ inside ∙ append_assoc (flat_map quoted_byte t.0) (34 ∷ []) y) in
-    (s.3 ∙ ap ValueModel.text p.0 ∙ sym t.3, p.1)
+    told ValueModel.text s.0 t.0 s.3 t.3
+    (strings s.0 t.0 x y (small_bytes s.0 s.1 s.5) (small_bytes t.0 t.1 t.5)
+    (sym (append_assoc (flat_map quoted_byte s.0) (34 ∷ []) x) ∙ inside ∙ append_assoc (flat_map quoted_byte t.0) (34 ∷ []) y))

@@ -10,7 +10,7 @@ use Rattle.courier_texts.specs.Named.{NamedModel, shape_of}
 use Rattle.courier_texts.specs.Printing.{member_text, elements_text, value_text}
 use Rattle.courier_texts.specs.Laws.{is_plain, is_plain_name, NamesNoMember, HaveNames}
 use Rattle.courier_texts.proofs.Apart.{IsApart, Starts, IsPlain, heads, clash, split}
-use Rattle.courier_texts.proofs.Alike.{Tells, known}
+use Rattle.courier_texts.proofs.Alike.{Tells, known, told}
 
 -- ---- names
 
@@ -68,8 +68,7 @@ tells_members (m ∷ ms) h n k x y l r ax ay e =
 pub tells_enumeration : (ms : Members) → HaveNames ms → Tells (NamedModel.enumeration ms)
 unfolding value_text
 tells_enumeration ms h v w a b x y s t ax ay e =
-    let p = tells_members ms h s.0 t.0 x y s.2 t.2 ax ay (known (NamedModel.enumeration ms) v w _ _ x y s.3 t.3 e) in
-    (s.3 ∙ ap ValueModel.enumeration p.0 ∙ sym t.3, p.1)
+    told ValueModel.enumeration s.0 t.0 s.3 t.3 (tells_members ms h s.0 t.0 x y s.2 t.2 ax ay (known (NamedModel.enumeration ms) v w _ _ x y s.3 t.3 e))
 
 listed_step : (m : List ℕ × ℕ) (ms : Members) (n : ℕ) (more : List ℕ) (t : Bool) → is_plain_name m.0 ≡ true → (Lists ms n → Starts (member_text ms n ++ more))
     → (t || is_listed (map (λ m. m.1) ms) n) ≡ true → Starts (cond t m.0 (member_text ms n) ++ more)
@@ -162,12 +161,10 @@ pub tells_array : (n : ℕ) (element : NamedModel) → Tells element → StartsP
 unfolding value_text
 tells_array n element one starts v w a b x y s t ax ay e =
     let both = in_brackets (elements_text [] (value_text element) s.0) (elements_text [] (value_text element) t.0) x y (known (NamedModel.array n element) v w _ _ x y s.1 t.1 e) in
-    let p = elements element one starts n n s.0 t.0 a b x y s.2 t.2 both in
-    (s.1 ∙ ap ValueModel.array p.0 ∙ sym t.1, p.1)
+    told ValueModel.array s.0 t.0 s.1 t.1 (elements element one starts n n s.0 t.0 a b x y s.2 t.2 both)
 
 pub tells_sequence : (most : ℕ) (element : NamedModel) → Tells element → StartsPlain element → Tells (NamedModel.sequence most element)
 unfolding value_text
 tells_sequence most element one starts v w a b x y s t ax ay e =
     let both = in_brackets (elements_text [] (value_text element) s.1) (elements_text [] (value_text element) t.1) x y (known (NamedModel.sequence most element) v w _ _ x y s.5 t.5 e) in
-    let p = elements element one starts s.0 t.0 s.1 t.1 s.2 t.2 x y s.7 t.7 both in
-    (s.5 ∙ ap ValueModel.sequence p.0 ∙ sym t.5, p.1)
+    told ValueModel.sequence s.1 t.1 s.5 t.5 (elements element one starts s.0 t.0 s.1 t.1 s.2 t.2 x y s.7 t.7 both)

@@ -1,5 +1,5 @@
 -- Records and choices, and then all values.
-use Rattle.std.proofs.Common.{◌≡◌, ℕ, ◌+◌, ◌*◌, ◌^◌, ◌<◌, inl, inr, subst, Bool, true, false, cond, List, [], ◌∷◌, ◌++◌, codes, refl, sym, ap, ◌∙◌, append_assoc, append-nil, eq-eqb, ne_eqb, arith}
+use Rattle.std.proofs.Common.{◌≡◌, ℕ, ◌+◌, ◌*◌, ◌^◌, inl, inr, subst, Bool, true, false, cond, List, [], ◌∷◌, ◌++◌, codes, refl, sym, ap, ◌∙◌, append_assoc, append-nil, eq-eqb, ne_eqb}
 use Rattle.std.specs.Prelude.{◌≢◌}
 use Rattle.std.specs.Int.{w16, w32, cast_signed}
 use Rattle.std.proofs.lemmas.List.{append_cancel_left}
@@ -11,7 +11,7 @@ use Rattle.courier_texts.specs.Printing.{value_text, components_text, variant_te
 use Rattle.courier_texts.specs.Laws.{is_plain_name, NamesNoVariant, IsNamed, AreComponentsNamed, AreVariantsNamed, EqualTextsAreOfEqualValues}
 use Rattle.courier_types.proofs.Fitted.{long_fits}
 use Rattle.courier_texts.proofs.Apart.{IsApart, Starts, split, heads, decimal_starts, signed_starts}
-use Rattle.courier_texts.proofs.Alike.{Tells, known, word_small, long_small, tells_boolean, tells_cardinal, tells_unspecified, tells_long_cardinal, tells_integer, tells_long_integer, tells_text}
+use Rattle.courier_texts.proofs.Alike.{Tells, known, told, small, long, word_small, long_small, tells_boolean, tells_cardinal, tells_unspecified, tells_long_cardinal, tells_integer, tells_long_integer, tells_text}
 use Rattle.courier_texts.proofs.Parts.{StartsPlain, in_brackets, plain_name, name_starts, listed_starts, tells_enumeration, tells_array, tells_sequence}
 
 -- ---- records
@@ -56,8 +56,7 @@ tells_record : (parts : ComponentModels) → TellsParts parts → Tells (NamedMo
 unfolding value_text components_text
 tells_record parts more v w a b x y s t ax ay e =
     let both = in_brackets (components_text [] parts s.0) (components_text [] parts t.0) x y (known (NamedModel.components parts) v w _ _ x y s.1 t.1 e) in
-    let p = more [] s.0 t.0 a b x y s.2 t.2 both in
-    (s.1 ∙ ap ValueModel.fields p.0 ∙ sym t.1, p.1)
+    told ValueModel.fields s.0 t.0 s.1 t.1 (more [] s.0 t.0 a b x y s.2 t.2 both)
 
 -- ---- choices
 
@@ -137,12 +136,6 @@ starts_choice (variant_and name e part parts) d v a more h (inl s) =
 starts_choice (variant_and name e part parts) d v a more h (inr s) =
     let P : List ℕ → Type 0 = Starts in
     subst P (sym (ap (λ (l : List ℕ). l ++ more) (variant_past name e part parts d v s.0))) (starts_choice parts d v a more h.3 s.1)
-
-small : (n : ℕ) → n < 2 ^ 16 → n < 2 ^ 64
-small n h = omega arith
-
-long : (n : ℕ) → n < 2 ^ 32 → n < 2 ^ 64
-long n h = omega arith
 
 starts : (type : NamedModel) → IsNamed type → StartsPlain type
 unfolding value_text

@@ -35,20 +35,16 @@ print_components-returns-in_err-append t c =
 pub print_components-returns-in_err-print_part : goal.print_components-returns-in_err-print_part
 print_components-returns-in_err-print_part t c =
     let l = c.loop-i in
-    let part = c.index-components-i.result in
-    let v = c.index-values-i.result in
-    let s = front_printed l.front.now c.args.components.now c.args.values.now l.i part v (omega arith) c.index-components-i.is (omega arith) c.index-values-i.is l.invariant c.in_ok-append.ensures in
+    let s = front_printed l.front.now c.args.components.now c.args.values.now l.i c.index-components-i.result c.index-values-i.result (omega arith) c.index-components-i.is (omega arith) c.index-values-i.is l.invariant c.in_ok-append.ensures in
     let put = rw c.deref.ensures.value at c.in_err-print_part.ensures in
     let p = err_from_is_err_and c.from_residual-in_err-print_part.result c.from_residual-in_err-print_part.ensures.1 in
-    rw (p.1, p.2) (stops c.in_err-print_part.field-0.0 c.args.out.now c.append.new.out (part_text part v) _ _ s put)
+    rw (p.1, p.2) (stops c.in_err-print_part.field-0.0 c.args.out.now c.append.new.out (part_text c.index-components-i.result c.index-values-i.result) _ _ s put)
 
 pub print_components-loop-i-preserved : goal.print_components-loop-i-preserved
 print_components-loop-i-preserved t c =
     let l = c.loop-i in
-    let part = c.index-components-i.result in
-    let v = c.index-values-i.result in
-    let s = front_printed l.front.now c.args.components.now c.args.values.now l.i part v (omega arith) c.index-components-i.is (omega arith) c.index-values-i.is l.invariant c.in_ok-append.ensures in
-    goes_on c.args.out.now c.append.new.out c.print_part.new.out (part_text part v) _ _ s (rw c.deref.ensures.value at c.in_ok-print_part.ensures)
+    let s = front_printed l.front.now c.args.components.now c.args.values.now l.i c.index-components-i.result c.index-values-i.result (omega arith) c.index-components-i.is (omega arith) c.index-values-i.is l.invariant c.in_ok-append.ensures in
+    goes_on c.args.out.now c.append.new.out c.print_part.new.out (part_text c.index-components-i.result c.index-values-i.result) _ _ s (rw c.deref.ensures.value at c.in_ok-print_part.ensures)
 
 pub print_chosen-returns-then-variant-designator : goal.print_chosen-returns-then-variant-designator
 unfolding variant_text
