@@ -1,18 +1,18 @@
 -- Where reading may be refused memory, as its functions come there.
-use Rattle.std.proofs.Common.{◌≡◌, ℕ, zero, suc, ◌+◌, ◌*◌, get_or, ◌<◌, ◌≤◌, Bool, true, false, ◌&&◌, List, [], ◌∷◌, length, drop, None, Result, Ok, Err, is_ok, IsOk, refl, sym, ap, subst, ◌∙◌, arith, inl, inr, eq-eqb}
-use Rattle.std.proofs.lemmas.Bool.{cases_Bool, cases_eq}
+use Rattle.std.proofs.Common.{◌≡◌, ℕ, zero, suc, ◌+◌, ◌*◌, get_or, ◌<◌, ◌≤◌, Bool, true, false, cond, ◌&&◌, List, [], ◌∷◌, length, drop, None, Result, Ok, Err, is_ok, IsOk, refl, sym, ap, subst, ◌∙◌, arith, inl, inr, eq-eqb}
+use Rattle.std.proofs.lemmas.Bool.{cases_Bool, cases_eq, le-ltb}
 use denote.Param.Weighed.{most, at_most}
 use Rattle.std.specs.Option.{option_or}
-use Rattle.courier_types.specs.declared.read_fault.Reason.TheVariants.{Truncated}
+use Rattle.courier_types.specs.declared.read_fault.Reason.TheVariants.{Truncated, OverMaximum}
 use Rattle.courier_types.specs.declared.stop.Stop.{Stop}
 use Rattle.courier_types.specs.declared.stop.Stop.TheVariants as stops
 use Rattle.courier_types.specs.Source.{Fails}
 use Rattle.courier_types.specs.declared.shape.Shape.{Shape}
 use Rattle.courier_types.specs.Shape.{ShapeModel, ShapeModels, no_shapes, shape_and, MemberModels, no_members, member_and, shape_model, shape_models, member_models}
-use Rattle.courier_types.specs.Value.{ValueModel, value_and}
+use Rattle.courier_types.specs.Value.{ValueModel, ValueModels, value_and}
 use Rattle.courier_types.specs.Check.{wordless, all_wordless, element_fault, first_fault, faults_of_parts, faults_of_members}
-use Rattle.courier_types.specs.Memory.{PartsWant, ChoiceWants, WantsMemory, MemberWants}
-use Rattle.courier_types.specs.Reading.{Fault, ◌>>=◌, over, front_long, front_listed, front_text, reading_times, reading_counted, reading_choice, reading, reading_fields, reading_member}
+use Rattle.courier_types.specs.Memory.{ElementsWant, CountedWant, PartsWant, ChoiceWants, WantsMemory, MemberWants}
+use Rattle.courier_types.specs.Reading.{Fault, ◌>>=◌, Reader, over, front_long, front_listed, front_text, reading_times, reading_counted, reading_choice, reading, reading_fields, reading_member}
 use Rattle.courier_types.proofs.Sound.{neither}
 use Rattle.courier_types.proofs.Loops.{at_member, past_member, failed}
 use Rattle.courier_types.proofs.Wordless.{of_no_words}
@@ -120,6 +120,25 @@ room_wanted r e (suc n) h k = omega arith
 pub some_parts : (parts : List Shape) → 0 < length parts → PartsWant (shape_models parts)
 some_parts [] h = absurd (omega arith)
 some_parts (part ∷ parts) h = tt
+
+-- ---- sequences
+
+-- behind a count that is no more than the most, the values of a sequence are read one by one
+counted_is : (one : Reader ValueModel) (most count : ℕ) (ws behind : List ℕ) → ws ≡ count ∷ behind → count ≤ most → reading_counted one most ws ≡ reading_times one count behind
+unfolding reading_counted
+counted_is one most count ws behind there few =
+    ap (reading_counted one most) there ∙ ap (λ (b : Bool). cond b (failed (length behind + 1, OverMaximum)) (reading_times one count behind)) (le-ltb most count few)
+
+-- a sequence stops where its elements do, which stand behind the count
+pub sequence_stops : (element : ShapeModel) (most count : ℕ) (ws behind : List ℕ) (e : Stop) → ws ≡ count ∷ behind → count ≤ most → Fails (ElementsWant count behind) e (reading_times (reading element) count behind)
+    → Fails (CountedWant most ws) e (over ValueModel.sequence (reading_counted (reading element) most ws))
+sequence_stops element most count ws behind stops.Truncated there few h = ap (over ValueModel.sequence) (counted_is (reading element) most count ws behind there few ∙ h)
+sequence_stops element most count ws behind (stops.WrongWord n r) there few h = ap (over ValueModel.sequence) (counted_is (reading element) most count ws behind there few ∙ h)
+sequence_stops element most count ws behind stops.NoMemory there few h = subst (λ (u : List ℕ). CountedWant most u) (sym there) (few, h)
+
+pub sequence_read : (element : ShapeModel) (most count : ℕ) (ws behind : List ℕ) (vs : ValueModels) (after : List ℕ) → ws ≡ count ∷ behind → count ≤ most → reading_times (reading element) count behind ≡ Ok (vs, after)
+    → over ValueModel.sequence (reading_counted (reading element) most ws) ≡ Ok (ValueModel.sequence vs, after)
+sequence_read element most count ws behind vs after there few h = ap (over ValueModel.sequence) (counted_is (reading element) most count ws behind there few ∙ h)
 
 -- ---- choices
 
