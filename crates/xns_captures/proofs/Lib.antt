@@ -1,4 +1,3 @@
-pub mod Consumed
 pub mod Frames
 pub mod Fuel
 pub mod Interfaces

@@ -2,12 +2,13 @@
 use Rattle.std.proofs.Common.{◌≡◌, sym, refl, arith, ℕ, ◌≤◌, inl, inr, List, [], append-nil, subst, Option, Some, None, Result, Ok, Err}
 use Rattle.std.specs.Prelude.{IfErr, IfSome, OnOk}
 use Rattle.std.specs.Io.KnownBytes.{Appends}
+use Rattle.std.proofs.lemmas.Option.{IfSome_then}
 use Rattle.xns_lines.specs.Faults.{AppendsPart}
 use Rattle.xns_lines.specs.Report.{whole}
 use Rattle.xns_lines.specs.declared.pages.Pages.{Pages}
 use Rattle.xns_lines.specs.declared.fault.RunFault.{RunFault}
 use Rattle.xns_lines.specs.declared.fault.RunFault.TheVariants as run
-use Rattle.xns_lines.proofs.OnPages.{all_left, if_some, none_left, part_left, whole_front}
+use Rattle.xns_lines.proofs.OnPages.{all_left, none_left, part_left, whole_front}
 use Rattle.xns_lines.proofs.Writes.{appends_nothing}
 use Rattle.xns_captures.specs.Captures.{NumberedPacket, packets_of}
 use Rattle.xns_lines.specs.Printing.{EndCount, HasFailed, Output, Stands, StopsInEnd, TextWithEnd, text_to_end}
@@ -120,8 +121,8 @@ module _ {P : Type 0} (output : Output P NumberedPacket) (old new : Pages P) (be
     pub unflushed : (r : Result Unit FileFault) (f : RunFault) (left : Option (List ℕ)) → (f ≡ run.Write) × AppendsPart mid after (whole new.page.text)
         → OnOk r (IfSome left All) → IfErr r (λ e. IfSome left (Some_of e))
         → IfSome left (λ file. StopsIn output.text_of output.end_count (Run f) file before after)
-    unflushed (Ok x) f left failed all some = rw failed.0 (if_some _ _ left all (λ file h. unflushed_all file failed.1 h))
-    unflushed (Err e) f left failed all some = rw failed.0 (if_some _ _ left some (λ file h. unflushed_some e file failed.1 h))
+    unflushed (Ok x) f left failed all some = rw failed.0 (IfSome_then left all (λ file h. unflushed_all file failed.1 h))
+    unflushed (Err e) f left failed all some = rw failed.0 (IfSome_then left some (λ file h. unflushed_some e file failed.1 h))
 
 -- ---- before anything is read
 

@@ -4,7 +4,8 @@ use Rattle.std.specs.Prelude.{IfErr, IfSome}
 use Rattle.std.proofs.lemmas.Bool.{le-ltb}
 use Rattle.std.specs.Fmt.{option_append}
 use Rattle.std.specs.Io.KnownBytes.{Consumes, IsAtEnd}
-use Rattle.xns_lines.proofs.AtFirst.{nothing_more, stops_unread}
+use Rattle.xns_lines.proofs.AtFirst.{stops_unread}
+use Rattle.xns_lines.proofs.Writes.{appends_nothing}
 use Rattle.xns_lines.specs.Lines.{split_at_newlines}
 use Rattle.xns_lines.specs.declared.fault.RunFault.TheVariants as run
 use Rattle.xns_captures.specs.Captures.{packets_of}
@@ -63,8 +64,8 @@ module _ (programs : Programs) where
 module _ (programs : Programs) where
   lines_at_first : (mode : Mode) (file : List ℕ) (held : Option (List ℕ)) → StopsIn programs mode file (Some file) held held run.Read
   unfolding split_at_newlines
-  lines_at_first Dump file held = stops_unread run.Read _ _ _ file held refl refl (nothing_more held)
-  lines_at_first Calls file held = stops_unread run.Read _ _ _ file held refl refl (nothing_more held)
+  lines_at_first Dump file held = stops_unread run.Read _ _ _ file held refl refl (appends_nothing held)
+  lines_at_first Calls file held = stops_unread run.Read _ _ _ file held refl refl (appends_nothing held)
   lines_at_first Sim file held = record {
     read = [];
     consumed = refl;
@@ -77,8 +78,8 @@ module _ (programs : Programs) where
   }
 
   pub at_first : (b : Bool) (times : Times) (mode : Mode) (file : List ℕ) (held : Option (List ℕ)) → StopsAs programs b times mode file (Some file) held held (Run run.Read)
-  at_first true times Dump file held = (tt, [], 0, record { rest = packets_of file; joined = refl; few = omega arith; place = inl refl }, nothing_more held)
-  at_first true times Calls file held = (tt, [], 0, record { rest = packets_of file; joined = refl; few = omega arith; place = inl refl }, nothing_more held)
+  at_first true times Dump file held = (tt, [], 0, record { rest = packets_of file; joined = refl; few = omega arith; place = inl refl }, appends_nothing held)
+  at_first true times Calls file held = (tt, [], 0, record { rest = packets_of file; joined = refl; few = omega arith; place = inl refl }, appends_nothing held)
   at_first true times Sim file held = lines_at_first Sim file held
   at_first false times mode file held = lines_at_first mode file held
 

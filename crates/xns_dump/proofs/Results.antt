@@ -11,5 +11,5 @@ on_ok_1 A X (Err e) a f = tt
 pub adds_more : {T E : Type 0} (r : Result T E) (old mid new : ReportModel) (xs ys : List ℕ) → mid.front ≡ old.front → mid.line ≡ old.line ++ xs → Adds r mid new ys → Adds r old new (xs ++ ys)
 adds_more r old mid new xs ys front line h = record {
   front = h.front ∙ front;
-  line = on_ok_1 _ _ r h.line (λ e. e ∙ ap (λ t. t ++ ys) line ∙ append_assoc old.line xs ys);
+  line = on_ok_weaker r (λ e. e ∙ ap (λ t. t ++ ys) line ∙ append_assoc old.line xs ys) h.line;
 }

@@ -3,7 +3,7 @@ use Rattle.std.proofs.Common.{◌≡◌, ◌∙◌, ap, sym, refl, rules, arith,
 use Rattle.std.specs.List.{list_any}
 use Rattle.std.specs.Prelude.{nat_lt}
 use Rattle.std.proofs.Math.Seq.{drop-cons}
-use Rattle.std.proofs.lemmas.Bool.{eqb-true}
+use Rattle.std.proofs.lemmas.Bool.{eqb-true, false_from_ne_true}
 use Rattle.std.proofs.lemmas.Bool.Decides.{nat_tests}
 use Rattle.std.proofs.lemmas.List.{take-append-drop}
 use Rattle.std.proofs.lemmas.List.Folds.{list_any-append}
@@ -84,10 +84,6 @@ no_line (b ∷ rest) e = absurd (omega arith)
 
 pub not_long : (n : ℕ) → n ≤ most_line_bytes → nat_lt most_line_bytes n ≡ false
 not_long n le = grind (arith, nat_tests)
-
-pub or_false : (b : Bool) → (b || false) ≡ b
-or_false true = refl
-or_false false = refl
 
 -- lines over and a line that is not, none of which is too long
 pub all_within : (most : ℕ) (xs : List ℕ) → list_any is_long (closed_lines xs) ≡ false → length (open_line xs) ≤ most_line_bytes → length (lines_of xs) ≤ most → AreWithinLimits most (lines_of xs)
@@ -191,12 +187,8 @@ more_line rest more lt = some_line (rest ++ more) (omega (arith, lt, length-appe
 
 -- ---- a run of bytes among which is no byte 10
 
-not_true : (p : Bool) → (p ≡ true → ⊥) → p ≡ false
-not_true true h = absurd (h refl)
-not_true false h = refl
-
 run_head : (b : ℕ) (run : List ℕ) → HasNoNewline (b ∷ run) → (b == 10) ≡ false
-run_head b run h = not_true (b == 10) (h 0 (omega arith) (omega arith))
+run_head b run h = false_from_ne_true (b == 10) (h 0 (omega arith) (omega arith))
 
 run_tail : (b : ℕ) (run : List ℕ) → HasNoNewline (b ∷ run) → HasNoNewline run
 run_tail b run h = λ k low high. h (suc k) (omega arith) (omega (arith, high))

@@ -4,13 +4,14 @@ use Rattle.std.specs.List.{list_any}
 use Rattle.std.specs.Prelude.{IfSome}
 use Rattle.std.specs.Io.KnownBytes.{Consumes, IsAtEnd}
 use Rattle.std.proofs.lemmas.List.Folds.{list_any-append}
+use Rattle.std.proofs.Math.Bool.{or-false}
 use Rattle.xns_lines.specs.Lines.Cutter.{HasCut, HasNoNewline, HasTaken, IsCutShort, IsJustifiedAt, StandsAfter, StandsAfterLine, IsOwn, Says, StopsShort}
 use Rattle.xns_lines.specs.Faults.{IsJustified}
 use Rattle.xns_lines.specs.Lines.{AreWithinLimits, IsWithinLimits, closed_lines, is_long, line_if_any, lines_of, open_line, most_line_bytes}
 use Rattle.xns_lines.specs.declared.cutter.Cutter.{Cutter}
 use Rattle.xns_lines.specs.declared.fault.RunFault.{RunFault}
 use Rattle.xns_lines.specs.declared.fault.RunFault.TheVariants as fault
-use Rattle.xns_lines.proofs.Cuts.{all_within, closed-newline, closed-nothing, closed-run, few_closed, few_more, line_count-parts, lines_of-append, long_stays, more_line, no_line, not_long, one_line, open-newline, open-nothing, open-run, or_false}
+use Rattle.xns_lines.proofs.Cuts.{all_within, closed-newline, closed-nothing, closed-run, few_closed, few_more, line_count-parts, lines_of-append, long_stays, more_line, no_line, not_long, one_line, open-newline, open-nothing, open-run}
 use Rattle.xns_lines.proofs.Writes.{consumes_trans}
 
 module _ (most : ℕ) where
@@ -40,7 +41,7 @@ module _ (most : ℕ) where
   short_newline n taken h =
       list_any-append is_long (closed_lines taken) (open_line taken ∷ [])
       ∙ ap (λ r. r || (is_long (open_line taken) || false)) h.closed_short
-      ∙ or_false (is_long (open_line taken)) ∙ not_long (length (open_line taken)) h.open_short
+      ∙ or-false (is_long (open_line taken)) ∙ not_long (length (open_line taken)) h.open_short
 
   cut_end : (c' : Cutter) (n : ℕ) (taken : List ℕ) → n < most → c'.most ≡ most → c'.line.items ≡ [] → c'.count ≡ n + 1 → IsShort n taken → HasCut most c' (taken ++ 10 ∷ [])
   cut_end c' n taken small limit line count h =

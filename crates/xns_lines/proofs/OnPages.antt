@@ -1,8 +1,9 @@
 -- What is printed of lines, as they are taken and written.
-use Rattle.std.proofs.Common.{◌≡◌, ◌∙◌, ap, sym, refl, arith, ℕ, zero, suc, ◌+◌, ◌-◌, ◌≤◌, ◌⊎◌, inl, inr, List, [], ◌∷◌, ◌++◌, append-nil, subst, Option, Some, None, Result, Ok, Err}
+use Rattle.std.proofs.Common.{◌≡◌, ◌∙◌, ap, sym, refl, arith, ℕ, zero, suc, ◌+◌, ◌-◌, ◌≤◌, ◌⊎◌, inl, inr, List, [], ◌∷◌, ◌++◌, append-nil, subst, Option, Result, Ok, Err}
 use Rattle.std.specs.Prelude.{IfErr, IfSome, OnOk}
 use Rattle.std.specs.Io.KnownBytes.{Appends}
-use Rattle.xns_lines.specs.Faults.{AppendsFront, AppendsPart, Begins, HasWritten}
+use Rattle.std.proofs.lemmas.Option.{IfSome_then}
+use Rattle.xns_lines.specs.Faults.{AppendsFront, AppendsPart, Begins, HasWritten, IsJustified}
 use Rattle.xns_lines.specs.Lines.{IsWithinLimits, lines_of}
 use Rattle.xns_lines.specs.Lines.Cutter.{Says, StandsAfter, StopsShort}
 use Rattle.xns_lines.specs.Printing.{EndCount, HasFailed, IsAtEnd, Output, Stands, StopsAt, StopsIn, StopsInEnd, TakesAll, TakesSome, text_to_end}
@@ -86,10 +87,6 @@ module _ {P : Type 0} (output : Output P (List ℕ)) (part : ℕ) (pages : Pages
 
 -- ---- the end of the input
 
-pub if_some : (P X : List ℕ → Type 0) (o : Option (List ℕ)) → IfSome o P → ((input : List ℕ) → P input → X input) → IfSome o X
-if_some P X None p f = tt
-if_some P X (Some input) p f = f input p
-
 -- the text with some parts is a prefix of that with more
 ends_begin : (text : ℕ → List ℕ) → ((part : ℕ) → Begins (text part) (text (part + 1))) → (part more : ℕ) → Begins (text part) (text (part + more))
 ends_begin text grows part zero =
@@ -118,6 +115,21 @@ lines_short most end_count f input read left h = record {
 }
 
 module _ {P : Type 0} (most : ℕ) (output : Output P (List ℕ)) where
+  -- a run that stopped behind all lines of the input
+  stopped_behind : (f : RunFault) (input : List ℕ) (part : ℕ) (left : ℕ → Says) → IsWithinLimits most input → IsJustified most f input (lines_of input) []
+      → part ≤ output.end_count (lines_of input) → IsAtEnd f input input [] → left part (lines_of input) → StopsAt most output.end_count f input input left
+  stopped_behind f input part left within shown few at_end is_left = record {
+    good = lines_of input;
+    next = [];
+    part = part;
+    lines = sym (append-nil (lines_of input));
+    within = within;
+    shown = shown;
+    few = few;
+    place = inr at_end;
+    is_left = is_left;
+  }
+
   -- a run that stopped in the end of the input
   pub end_short : (f : RunFault) (pages : Pages P) (before after : Option (List ℕ)) (input : List ℕ) → IsWithinLimits most input
       → StopsInEnd output f (output.end_count (lines_of input)) pages before after (lines_of input)
@@ -125,28 +137,8 @@ module _ {P : Type 0} (most : ℕ) (output : Output P (List ℕ)) where
   end_short fault.Read pages before after input within s = absurd s.2
   end_short fault.LineTooLong pages before after input within s = absurd s.2
   end_short fault.TooManyLines pages before after input within s = absurd s.2
-  end_short fault.NoMemory pages before after input within s = record {
-    good = lines_of input;
-    next = [];
-    part = s.0;
-    lines = sym (append-nil (lines_of input));
-    within = within;
-    shown = tt;
-    few = s.1;
-    place = inr (refl, refl);
-    is_left = s.2;
-  }
-  end_short fault.Write pages before after input within s = record {
-    good = lines_of input;
-    next = [];
-    part = s.0;
-    lines = sym (append-nil (lines_of input));
-    within = within;
-    shown = tt;
-    few = s.1;
-    place = inr (refl, refl);
-    is_left = s.2;
-  }
+  end_short fault.NoMemory pages before after input within s = stopped_behind fault.NoMemory input s.0 _ within tt s.1 (refl, refl) s.2
+  end_short fault.Write pages before after input within s = stopped_behind fault.Write input s.0 _ within tt s.1 (refl, refl) s.2
 
   end_as : (f : RunFault) (input read : List ℕ) (next : List (List ℕ)) → IsAtEnd f input read next → IsAtEnd fault.Write input read next
   end_as fault.Read input read next h = absurd h
@@ -194,15 +186,28 @@ module _ {P : Type 0} (most : ℕ) (output : Output P (List ℕ)) where
             read = input;
             consumed = all.0;
             front = part_front held after _ said;
+            stops = stopped_behind fault.Write input count _ all.1 tt (omega arith) (refl, refl) said;
+          }
+
+      -- the lines were taken up to a fault, and the run stops with that fault or with another
+      stopped_on_pages : (e f : RunFault) (input : List ℕ) (some : Front e input) → let h = some.2 held begun in
+          IsJustified most f some.0 h.good h.next → (h.part ≡ 0) ⊎ IsAtEnd f input some.0 h.next
+          → HasWritten f held after (output.text_of h.good h.part) → StopsIn most output.text_of output.end_count input left held after f
+      stopped_on_pages e f input some shown place said =
+          let h = some.2 held begun in
+          record {
+            read = some.0;
+            consumed = some.1;
+            front = front_behind held after _ _ (good_front e input some.0 h.good h.next h.part h.lines h.few h.place) (written_front f held after _ said);
             stops = record {
-              good = lines_of input;
-              next = [];
-              part = count;
-              lines = sym (append-nil (lines_of input));
-              within = all.1;
-              shown = tt;
-              few = omega arith;
-              place = inr (refl, refl);
+              good = h.good;
+              next = h.next;
+              part = h.part;
+              lines = h.lines;
+              within = h.within;
+              shown = shown;
+              few = h.few;
+              place = place;
               is_left = said;
             };
           }
@@ -212,51 +217,21 @@ module _ {P : Type 0} (most : ℕ) (output : Output P (List ℕ)) where
           let h = some.2 held begun in
           let said : AppendsPart held after (output.text_of h.good h.part) =
           left_part output h.part new mid after e held h.good h.is_left failed in
-          record {
-            read = some.0;
-            consumed = some.1;
-            front = front_behind held after _ _ (good_front e input some.0 h.good h.next h.part h.lines h.few h.place) (part_front held after _ said);
-            stops = record {
-              good = h.good;
-              next = h.next;
-              part = h.part;
-              lines = h.lines;
-              within = h.within;
-              shown = tt;
-              few = h.few;
-              place = place_as e input some.0 h.part h.next h.place;
-              is_left = said;
-            };
-          }
+          stopped_on_pages e fault.Write input some tt (place_as e input some.0 h.part h.next h.place) said
 
       pub unflushed_all : (r : Result Unit RunFault) (f : RunFault) → (f ≡ fault.Write) × AppendsPart mid after (whole new.page.text)
           → OnOk r (IfSome start All) → IfErr r (λ e. IfSome start (Front e)) → IfSome start (λ input. StopsIn most output.text_of output.end_count input left held after f)
-      unflushed_all (Ok x) f failed all some = rw failed.0 (if_some _ _ start all (λ input h. all_unwritten input failed.1 h))
-      unflushed_all (Err e) f failed all some = rw failed.0 (if_some _ _ start some (λ input h. some_unwritten e input failed.1 h))
+      unflushed_all (Ok x) f failed all some = rw failed.0 (IfSome_then start all (λ input h. all_unwritten input failed.1 h))
+      unflushed_all (Err e) f failed all some = rw failed.0 (IfSome_then start some (λ input h. some_unwritten e input failed.1 h))
 
       pub flushed_some : (f : RunFault) → IfSome start (Front f) → Appends mid after (whole new.page.text) → IfSome start (λ input. StopsIn most output.text_of output.end_count input left held after f)
-      flushed_some f some written = if_some _ _ start some (λ input t.
+      flushed_some f some written = IfSome_then start some (λ input t.
           let h = t.2 held begun in
           let said : HasWritten f held after (output.text_of h.good h.part) =
           left_whole output h.part new mid after f held h.good h.is_left written in
-          record {
-            read = t.0;
-            consumed = t.1;
-            front = front_behind held after _ _ (good_front f input t.0 h.good h.next h.part h.lines h.few h.place) (written_front f held after _ said);
-            stops = record {
-              good = h.good;
-              next = h.next;
-              part = h.part;
-              lines = h.lines;
-              within = h.within;
-              shown = h.shown;
-              few = h.few;
-              place = h.place;
-              is_left = said;
-            };
-          })
+          stopped_on_pages f f input t h.shown h.place said)
 
       pub flushed_text : IfSome start All → Appends mid after (whole new.page.text) → IfSome start (λ input. Appends held after (text_to_end output.text_of output.end_count (lines_of input)))
-      flushed_text all written = if_some _ _ start all (λ input h.
+      flushed_text all written = IfSome_then start all (λ input h.
           let count = output.end_count (lines_of input) in
           all_left output count new mid after held (lines_of input) written (h.2 held begun))

@@ -1,6 +1,6 @@
 -- What is written and read.
 use Rattle.std.proofs.Common.{◌≡◌, ◌∙◌, ap, sym, refl, ℕ, ◌-◌, List, [], ◌++◌, length, append_assoc, append-nil, take, drop, subst, Option, Some, None, Result, Ok, Err}
-use Rattle.std.specs.Prelude.{IfErr, OnOk}
+use Rattle.std.specs.Prelude.{OnOk}
 use Rattle.std.specs.Io.KnownBytes.{Appends, Consumes, Keeps}
 use Rattle.std.proofs.lemmas.List.{take-append-drop, take_rest}
 use Rattle.xns_lines.specs.Faults.{AppendsPart, Begins}
@@ -48,17 +48,9 @@ rest_written front rest text n e =
     ∙ ap (λ t. front ++ (take n rest ++ t)) (take_rest rest n)
     ∙ ap (λ t. front ++ t) (take-append-drop n rest) ∙ e
 
-pub on_ok_1 : {T E : Type 0} (A X : Type 0) (r : Result T E) → OnOk r A → (A → X) → OnOk r X
-on_ok_1 A X (Ok x) a f = f a
-on_ok_1 A X (Err e) a f = tt
-
 pub on_ok_2 : {T E : Type 0} (A B X : Type 0) (r : Result T E) → OnOk r A → OnOk r B → (A → B → X) → OnOk r X
 on_ok_2 A B X (Ok x) a b f = f a b
 on_ok_2 A B X (Err e) a b f = tt
-
-pub if_err_1 : {T E : Type 0} (P X : E → Type 0) (r : Result T E) → IfErr r P → ((e : E) → P e → X e) → IfErr r X
-if_err_1 P X (Ok x) p f = tt
-if_err_1 P X (Err e) p f = f e p
 
 pub consumes_none : (a b c : Option (List ℕ)) (x y : List ℕ) → y ≡ [] → Consumes a b x → Consumes b c y → Consumes a c x
 consumes_none a b c x y e h k = subst (Consumes a c) (ap (λ t. x ++ t) e ∙ append-nil x) (consumes_trans a b c x y h k)

@@ -82,6 +82,16 @@ pub record Stands {P A : Type 0} (output : Output P A) (part : ℕ) (pages : Pag
 abbrev pub HasFailed : {P A : Type 0} → Output P A → ℕ → Pages P → Option (List ℕ) → Option (List ℕ) → List A → Type 0
 HasFailed output part pages before after things = (whole pages.page.text ≡ []) × AppendsPart before after (output.text_of things part)
 
+-- a write of what is pending: with whatever parts of the end, the pages stand for what they stood for
+abbrev pub StandsStill : {P A : Type 0} → Output P A → Pages P → Pages P → Option (List ℕ) → Option (List ℕ) → Type 0
+StandsStill {P} {A} output old new was is = (part : ℕ) (before : Option (List ℕ)) (things : List A)
+    → Stands output part old before was things → Stands output part new before is things
+
+-- a write of what is pending that failed: something of what the pages stood for was not written
+abbrev pub HasFailedToWrite : {P A : Type 0} → Output P A → Pages P → Pages P → Option (List ℕ) → Option (List ℕ) → Type 0
+HasFailedToWrite {P} {A} output old new was is = (part : ℕ) (before : Option (List ℕ)) (things : List A)
+    → Stands output part old before was things → HasFailed output part new before is things
+
 -- memory may be refused for a thing: it was refused before, or the printer wants some for the thing, on a page whose next line begins
 abbrev pub WantsAtLine : {P A : Type 0} → (P → Page → A → Type 0) → Pages P → A → Type 0
 WantsAtLine wants pages thing = (pages.is_lost ≡ true)

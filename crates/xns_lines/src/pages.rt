@@ -1,7 +1,7 @@
 //! Prints the things in an input on pages.
 ghost use Rattle.std.specs.Prelude.{◌≡◌, ◌<◌, ◌+◌, ◌++◌, ◌∷◌, [], ℕ, true, List, Option, IfErr, OnErr, OnOk};
 ghost use Rattle.xns_lines.specs.Faults.{IfWants, StandsAfterThing};
-ghost use Rattle.xns_lines.specs.Printing.{HasFailed, IsSilent, Stands, StopsInEnd, WantsAtLine};
+ghost use Rattle.xns_lines.specs.Printing.{HasFailed, HasFailedToWrite, IsSilent, Stands, StandsStill, StopsInEnd, WantsAtLine};
 ghost use Rattle.xns_lines.specs.Report.{whole};
 
 use crate::fault::RunFault;
@@ -151,12 +151,9 @@ impl<P: ThingPrinter> Pages<P> {
 
     /// Writes a page that is full.
     fn flush_full<W: Write>(&mut self, writer: &mut W) -> Result<(), RunFault>
-        ensures ok { OnOk result ((part : ℕ) (before : Option (List ℕ)) (things : List P.Thing)
-            → Stands P.output part self.old before (W.contents writer.old) things
-            → Stands P.output part self.new before (W.contents writer.new) things) }
-        ensures err { IfErr result (λ fault. (fault ≡ RunFault.Write) × ((part : ℕ) (before : Option (List ℕ)) (things : List P.Thing)
-            → Stands P.output part self.old before (W.contents writer.old) things
-            → HasFailed P.output part self.new before (W.contents writer.new) things)) }
+        ensures ok { OnOk result (StandsStill P.output self.old self.new (W.contents writer.old) (W.contents writer.new)) }
+        ensures err { IfErr result (λ fault. (fault ≡ RunFault.Write)
+            × HasFailedToWrite P.output self.old self.new (W.contents writer.old) (W.contents writer.new)) }
     {
         if self.page.is_full() {
             return self.flush(writer);
@@ -168,12 +165,9 @@ impl<P: ThingPrinter> Pages<P> {
     ///
     /// The only error is `Write`, where a write fails.
     pub fn flush<W: Write>(&mut self, writer: &mut W) -> Result<(), RunFault>
-        ensures ok { OnOk result ((part : ℕ) (before : Option (List ℕ)) (things : List P.Thing)
-            → Stands P.output part self.old before (W.contents writer.old) things
-            → Stands P.output part self.new before (W.contents writer.new) things) }
-        ensures err { IfErr result (λ fault. (fault ≡ RunFault.Write) × ((part : ℕ) (before : Option (List ℕ)) (things : List P.Thing)
-            → Stands P.output part self.old before (W.contents writer.old) things
-            → HasFailed P.output part self.new before (W.contents writer.new) things)) }
+        ensures ok { OnOk result (StandsStill P.output self.old self.new (W.contents writer.old) (W.contents writer.new)) }
+        ensures err { IfErr result (λ fault. (fault ≡ RunFault.Write)
+            × HasFailedToWrite P.output self.old self.new (W.contents writer.old) (W.contents writer.new)) }
         ensures text { whole self.new.page.text ≡ [] }
     {
         self.page.flush(writer)

@@ -32,7 +32,7 @@ nothing_left fault.TooManyLines t input first mid lines h = h.1
 nothing_left fault.NoMemory t input first mid lines h = h.1
 
 pub some_read : (start left first mid : Option (List ℕ)) (t0 t : ScriptTaker) (f : RunFault) → HasReadLines t0.script [] → IfSome start (TakesSome left first mid t0 t f) → IfSome start (λ input. SimStopsIn input left first mid f)
-some_read start left first mid t0 t f new some = if_some _ _ start some (λ input h.
+some_read start left first mid t0 t f new some = IfSome_then start some (λ input h.
     let said = h.2 first (new, refl) in
     record {
       read = h.0;
@@ -67,10 +67,10 @@ stops_behind input left first mid after s f h shown written = record {
 -- a write failed
 pub unwritten : (start left first mid after : Option (List ℕ)) (s : Script) (text : List ℕ) (f : RunFault) → (f ≡ fault.Write) × AppendsPart mid after text → Makes s text
     → IfSome start (λ input. HasReadAll s input left first mid) → IfSome start (λ input. SimStopsIn input left first after f)
-unwritten start left first mid after s text f failed made all = if_some _ _ start all (λ input h. rw failed.0 (stops_behind input left first mid after s fault.Write h tt
+unwritten start left first mid after s text f failed made all = IfSome_then start all (λ input h. rw failed.0 (stops_behind input left first mid after s fault.Write h tt
     (subst (λ (t : List ℕ). AppendsPart first after t) (made (script_lines input) h.read) (subst (λ (m : Option (List ℕ)). AppendsPart m after text) h.unwritten failed.1))))
 
 pub written : (start left first mid after : Option (List ℕ)) (s : Script) (text : List ℕ) → Makes s text → Appends mid after text
     → IfSome start (λ input. HasReadAll s input left first mid) → IfSome start (λ input. Appends first after (sim_text input))
-written start left first mid after s text made whole all = if_some _ _ start all (λ input h.
+written start left first mid after s text made whole all = IfSome_then start all (λ input h.
     subst (λ (t : List ℕ). Appends first after t) (made (script_lines input) h.read) (subst (λ (m : Option (List ℕ)). Appends m after text) h.unwritten whole))

@@ -7,7 +7,7 @@ use Rattle.xns_captures.specs.declared.file_fault.FileFault.TheVariants.{Run}
 use Rattle.xns_captures.specs.declared.reading.Reading.{Reading}
 use Rattle.xns_lines.specs.declared.fault.RunFault.{RunFault}
 use Rattle.xns_lines.specs.declared.fault.RunFault.TheVariants as run
-use Rattle.xns_captures.proofs.Consumed.{consumes_kept, consumes_none, consumes_nothing, consumes_trans}
+use Rattle.xns_lines.proofs.Writes.{consumes_kept, consumes_none, consumes_nothing, consumes_trans}
 use Rattle.xns_captures.proofs.Frames.{stops_in_run}
 use Rattle.xns_captures.proofs.Fuel.{contents-none}
 use Rattle.xns_captures.proofs.Whole.{anew, begun, ended, ended_short, grown, paused, stops_by}

@@ -1,6 +1,7 @@
 use Rattle.std.proofs.Common.{◌∙◌}
 use Rattle.std.proofs.lemmas.Result.{err_from_is_err_and}
-use Rattle.xns_lines.proofs.OnPages.{flushed_some, flushed_text, if_some, unflushed_all}
+use Rattle.std.proofs.lemmas.Option.{IfSome_then}
+use Rattle.xns_lines.proofs.OnPages.{flushed_some, flushed_text, unflushed_all}
 use Rattle.xns_lines.proofs.printing.print_lines.Goals as goal
 
 pub returns-in_err-flush-clause-fault : goal.returns-in_err-flush-clause-fault
@@ -21,10 +22,10 @@ pub returns-in-Ok-clause-refused : goal.returns-in-Ok-clause-refused
 returns-in-Ok-clause-refused g c =
     let law = c.text_only_grows.ensures in
     let begun = c.new-pages.ensures (g.W.Write.contents c.args.writer.now) (record { printed = c.requires.begun; text = law.nothing; refused = law.unrefused }) in
-    if_some _ _ (g.R.Read.remaining c.args.reader.now) c.in-Ok.ensures.ok (λ input all. c.in_ok-flush.ensures.refused ∙ (all.2 _ begun).refused)
+    IfSome_then (g.R.Read.remaining c.args.reader.now) c.in-Ok.ensures.ok (λ input all. c.in_ok-flush.ensures.refused ∙ (all.2 _ begun).refused)
 
 pub returns-in-Ok-clause-limits : goal.returns-in-Ok-clause-limits
-returns-in-Ok-clause-limits g c = if_some _ _ (g.R.Read.remaining c.args.reader.now) c.in-Ok.ensures.ok (λ input all. all.1)
+returns-in-Ok-clause-limits g c = IfSome_then (g.R.Read.remaining c.args.reader.now) c.in-Ok.ensures.ok (λ input all. all.1)
 
 pub returns-clause-fault : goal.returns-clause-fault
 returns-clause-fault g c =

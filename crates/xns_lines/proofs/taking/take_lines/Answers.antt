@@ -1,9 +1,9 @@
 use Rattle.std.proofs.Common.{arith, rules, ◌≡◌, ◌∙◌, ap, take, ◌++◌, ℕ, [], List, Option, sym, subst}
-use Rattle.std.proofs.lemmas.Result.{err_from_is_err_and}
+use Rattle.std.proofs.lemmas.Result.{IfErr-weaker, err_from_is_err_and}
 use Rattle.xns_lines.specs.Lines.{closed_lines}
 use Rattle.xns_lines.proofs.Cuts.{closed-nothing}
 use Rattle.xns_lines.proofs.Cutting.{few_lines, stops_at_once, stops_pausing, stops_reading, stops_short, taken_in, taker_stopped, taker_stopped_with}
-use Rattle.xns_lines.proofs.Writes.{consumes_kept, consumes_none, consumes_nothing, consumes_trans, if_err_1, on_ok_2}
+use Rattle.xns_lines.proofs.Writes.{consumes_kept, consumes_none, consumes_nothing, consumes_trans, on_ok_2}
 use Rattle.xns_lines.proofs.taking.take_lines.Goals as goal
 
 pub returns-in_err-cutter-clause-err : goal.returns-in_err-cutter-clause-err
@@ -64,10 +64,11 @@ pub returns-clause-err : goal.returns-clause-err
 returns-clause-err g c =
     let so_far = c.loop-count.invariant in
     let none : take c.in-Ok.count c.read.new.buf ≡ [] = ap (λ (n : ℕ). take n c.read.new.buf) c.if-count-eq0.true in
-    if_err_1 _ _ c.finish.result c.finish.ensures.err (λ fault err.
+    IfErr-weaker c.finish.result _ _ (λ fault err.
     taker_stopped c.args.most g.T.LineTaker.stands g.T.LineTaker.fails g.W.Write.contents c.args.taker.now c.finish.new.taker c.args.writer.now c.finish.new.writer _ _ fault so_far.0
     (consumes_none _ _ _ so_far.0 _ none so_far.1 c.in-Ok.ensures.bytes.0)
     (λ before said. err c.args.most so_far.0 before (so_far.2, so_far.3 before said)))
+    c.finish.ensures.err
 
 pub take_piece-requires : goal.take_piece-requires
 take_piece-requires g c = omega (arith, c.loop-count.invariant.4, c.requires.few)

@@ -1,10 +1,9 @@
 use Rattle.std.proofs.lemmas.Grind.{common_steps}
 use Rattle.std.proofs.Common.{◌≡◌, arith, ap, refl, length, ◌∙◌, ◌+◌, ◌++◌, ◌∷◌, []}
 use Rattle.std.proofs.lemmas.Bool.Decides.{nat_tests}
-use Rattle.std.proofs.lemmas.Result.{err_from_is_err_and}
+use Rattle.std.proofs.lemmas.Result.{IfErr-weaker, err_from_is_err_and, on_ok_weaker}
 use Rattle.xns_lines.specs.Lines.{closed_lines}
 use Rattle.xns_lines.proofs.Cutting.{cut_whole, short_at_whole, short_later, short_long, short_own, takes_run, takes_whole}
-use Rattle.xns_lines.proofs.Writes.{if_err_1, on_ok_1}
 use Rattle.xns_lines.proofs.cutter.Cutter.take_end.Goals as goal
 
 pub returns-then-run-gt-MOST_LINE_BYTES-clause-err : goal.returns-then-run-gt-MOST_LINE_BYTES-clause-err
@@ -44,16 +43,18 @@ returns-in_err-take_run-clause-err g c =
 pub returns-then-not-is_empty-clause-ok : goal.returns-then-not-is_empty-clause-ok
 returns-then-not-is_empty-clause-ok g c =
     let contents = g.W.Write.contents c.args.writer.now in
-    on_ok_1 _ _ c.take_newline.result c.take_newline.ensures.ok (λ ok. λ most taken before h.
+    on_ok_weaker c.take_newline.result (λ ok. λ most taken before h.
     ok most (taken ++ c.args.run.now) before
     (takes_run most c.args.self.now _ (g.T.LineTaker.stands c.args.taker.now before contents) taken c.args.run.now (c.in_ok-take_run.ensures.ok most taken) h))
+    c.take_newline.ensures.ok
 
 pub returns-then-not-is_empty-clause-err : goal.returns-then-not-is_empty-clause-err
 returns-then-not-is_empty-clause-err g c =
     let contents = g.W.Write.contents c.args.writer.now in
-    if_err_1 _ _ c.take_newline.result c.take_newline.ensures.err (λ fault err. λ most taken before h.
+    IfErr-weaker c.take_newline.result _ _ (λ fault err. λ most taken before h.
     err most (taken ++ c.args.run.now) before
     (takes_run most c.args.self.now _ (g.T.LineTaker.stands c.args.taker.now before contents) taken c.args.run.now (c.in_ok-take_run.ensures.ok most taken) h))
+    c.take_newline.ensures.err
 
 pub returns-in_err-number-clause-err : goal.returns-in_err-number-clause-err
 returns-in_err-number-clause-err g c = grind (arith, common_steps)

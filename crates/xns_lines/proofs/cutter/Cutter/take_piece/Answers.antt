@@ -1,10 +1,9 @@
 use Rattle.std.proofs.lemmas.Grind.{common_steps}
 use Rattle.std.proofs.Common.{arith, ◌∙◌, ◌++◌, ◌+◌, take, drop, [], ◌∷◌, length-append}
 use Rattle.std.proofs.lemmas.List.{take_rest, length-take, append-nil}
-use Rattle.std.proofs.lemmas.Result.{err_from_is_err_and}
+use Rattle.std.proofs.lemmas.Result.{IfErr-weaker, err_from_is_err_and, on_ok_weaker}
 use Rattle.xns_lines.proofs.Cuts.{longer_front, newline_front, newline_split, whole_split}
 use Rattle.xns_lines.proofs.Cutting.{cut_as, short_later, short_own, takes_as, takes_run}
-use Rattle.xns_lines.proofs.Writes.{if_err_1, on_ok_1}
 use Rattle.xns_lines.proofs.cutter.Cutter.take_piece.Goals as goal
 
 pub returns-in_err-take_end-clause-err : goal.returns-in_err-take_end-clause-err
@@ -42,17 +41,19 @@ loop-end-preserved g c =
 pub returns-clause-cut : goal.returns-clause-cut
 returns-clause-cut g c =
     let so_far = c.loop-end.invariant in
-    on_ok_1 _ _ c.take_run.result c.take_run.ensures.ok
+    on_ok_weaker c.take_run.result
     (λ ok. λ most taken h. cut_as most _ _ _ (whole_split taken so_far.0 c.loop-end.rest.now c.args.piece.now so_far.1) (ok most (taken ++ so_far.0) (so_far.3 most taken h)).0)
+    c.take_run.ensures.ok
 
 pub returns-clause-ok : goal.returns-clause-ok
 returns-clause-ok g c =
     let stands = g.T.LineTaker.stands c.loop-end.taker in
     let contents = g.W.Write.contents c.loop-end.writer in
     let so_far = c.loop-end.invariant in
-    on_ok_1 _ _ c.take_run.result c.take_run.ensures.ok
+    on_ok_weaker c.take_run.result
     (λ ok. λ most taken before h. takes_as most _ (stands before contents) _ _ (whole_split taken so_far.0 c.loop-end.rest.now c.args.piece.now so_far.1)
     (takes_run most _ _ (stands before contents) (taken ++ so_far.0) _ (ok most (taken ++ so_far.0)) (so_far.2 most taken before h)))
+    c.take_run.ensures.ok
 
 pub returns-clause-err : goal.returns-clause-err
 returns-clause-err g c =
@@ -60,12 +61,13 @@ returns-clause-err g c =
     let fails = g.T.LineTaker.fails c.loop-end.taker in
     let contents = g.W.Write.contents c.loop-end.writer in
     let so_far = c.loop-end.invariant in
-    if_err_1 _ _ c.take_run.result c.take_run.ensures.err
+    IfErr-weaker c.take_run.result _ _
     (λ fault err. λ most taken before h.
     let t = so_far.2 most taken before h in
     short_later most ((taken ++ so_far.0) ++ c.loop-end.rest.now) [] _ _ _
     (append-nil ((taken ++ so_far.0) ++ c.loop-end.rest.now) ∙ whole_split taken so_far.0 c.loop-end.rest.now c.args.piece.now so_far.1)
     (short_own most fault (stands before contents) (fails before contents) (taken ++ so_far.0) _ t.1 (err most (taken ++ so_far.0) t.0)))
+    c.take_run.ensures.err
 
 pub loop-end-init : goal.loop-end-init
 loop-end-init g c = grind (arith, common_steps)
