@@ -2,7 +2,7 @@
 use Rattle.std.proofs.Common.{◌≡◌, ap, arith, sym, subst, ℕ, ◌<◌, ◌≤◌, ◌+◌, ◌-◌, ◌==◌, ◌&&◌, ◌||◌, nat_lt, not, Bool, true, false, cond, List, [], ◌∷◌, ◌++◌, slice_get, length, length-append, Ok, Err, Option, Some, None}
 use Rattle.std.proofs.lemmas.Bool.{cond_both, ltb-true, not-false}
 use Rattle.xns_captures.specs.Links.{is_link_read}
-use Rattle.xns_captures.specs.Parts.{PartContent, block_in, block_of_type, classic_in, classic_order, enhanced_in, frame_of, has_lengths, header_in, header_link, interface_in, is_counted, is_link_taken, kept_count, most_frame_bytes, most_interfaces, old_in, other_in, part_of, passed_over, rest_in, section_in_order, section_order, section_type, simple_in, time_by}
+use Rattle.xns_captures.specs.Parts.{PartContent, block_in, block_of_type, classic_in, classic_order, enhanced_in, frame_of, has_lengths, header_in, header_link, interface_in, is_counted, is_link_taken, kept_count, most_frame_bytes, most_interfaces, old_in, other_in, part_of, passed_over, rest_in, section_in_order, section_order, section_type, simple_in, time_by, timed_in}
 use Rattle.xns_captures.specs.Places.{count_at, long_in_order, word_in_order}
 use Rattle.xns_captures.specs.declared.byte_order.ByteOrder.{ByteOrder}
 use Rattle.xns_captures.specs.declared.byte_order.ByteOrder.TheVariants.{Big}
@@ -65,15 +65,9 @@ packet_room order least is bytes interface start count time =
     or_fault is (not (has_lengths order least bytes)) fault.Lengths (frame_of is interface start count time (length bytes))
     (frame_room is interface start count time (length bytes))
 
-enhanced_room : (order : ByteOrder) (is : List Interface) (bytes : List ℕ) → HasRoom is (enhanced_in order is bytes)
-enhanced_room order is bytes =
-    let interface = slice_get is (long_in_order order bytes 8) in
-    packet_room order 32 is bytes interface 28 (long_in_order order bytes 20) (time_by interface (count_at order bytes 12))
-
-old_room : (order : ByteOrder) (is : List Interface) (bytes : List ℕ) → HasRoom is (old_in order is bytes)
-old_room order is bytes =
-    let interface = slice_get is (word_in_order order bytes 8) in
-    packet_room order 32 is bytes interface 28 (long_in_order order bytes 20) (time_by interface (count_at order bytes 12))
+timed_room : (number : ℕ) (order : ByteOrder) (is : List Interface) (bytes : List ℕ) → HasRoom is (timed_in number order is bytes)
+timed_room number order is bytes =
+    packet_room order 32 is bytes (slice_get is number) 28 (long_in_order order bytes 20) (time_by (slice_get is number) (count_at order bytes 12))
 
 simple_room : (order : ByteOrder) (is : List Interface) (bytes : List ℕ) → HasRoom is (simple_in order is bytes)
 simple_room order is bytes =
@@ -86,8 +80,8 @@ type_room kind order is bytes =
     (cond (kind == 6) (enhanced_in order is bytes)
     (cond (kind == 2) (old_in order is bytes) (cond (kind == 3) (simple_in order is bytes) (other_in kind order bytes))))
     (interface_room order is bytes)
-    (either is _ _ _ (enhanced_room order is bytes)
-    (either is _ _ _ (old_room order is bytes) (either is _ _ _ (simple_room order is bytes) (other_room is kind order bytes))))
+    (either is _ _ _ (timed_room (long_in_order order bytes 8) order is bytes)
+    (either is _ _ _ (timed_room (word_in_order order bytes 8) order is bytes) (either is _ _ _ (simple_room order is bytes) (other_room is kind order bytes))))
 
 block_room : (order : ByteOrder) (is : List Interface) (bytes : List ℕ) → HasRoom is (block_in order is bytes)
 unfolding block_in

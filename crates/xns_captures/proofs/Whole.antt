@@ -4,6 +4,7 @@ use Rattle.std.specs.Prelude.{IfSome}
 use Rattle.std.specs.Io.KnownBytes.{Consumes, IsAtEnd}
 use Rattle.std.proofs.lemmas.Bool.{eqb-false, eqb-true}
 use Rattle.std.specs.Option.{option_or}
+use Rattle.xns_lines.proofs.Writes.{consumes_none}
 use Rattle.xns_captures.specs.Captures.{Contents, FrameBytes, NumberedPacket, contents, contents_of, ends_with, capture_fault, frames_of, packets_in, packets_of, stamp_of, with_packet}
 use Rattle.xns_captures.specs.Links.{packet_of_frame}
 use Rattle.xns_captures.specs.Reading.{HasRead, HasStopped, Says, StandsAfter, StopsBy, behind_frames, end_in, first_among, most_frames}
@@ -93,31 +94,21 @@ whole_file (Some file) None read P h end p = absurd h
 whole_file (Some file) (Some xs) read P h end p =
     subst P (sym (h ∙ ap (λ ys. read ++ ys) end ∙ append-nil read)) p
 
--- the file ends behind its last part
-pub ended : (left after : Option (List ℕ)) (reading : Reading) (read kept : List ℕ) (first stands : Option (List ℕ) → Says)
-    → Consumes left after read → IsAtEnd after
-    → rest_of reading kept ≡ ends_with None
+-- the file ends behind its last part, or within a part: nothing more was read
+pub ended : (left mid after : Option (List ℕ)) (reading : Reading) (read kept piece bytes : List ℕ) (why : Option CaptureFault) (first stands : Option (List ℕ) → Says)
+    → Consumes left mid read → Consumes mid after piece → piece ≡ [] → IsAtEnd after
+    → rest_of reading kept ≡ ends_with (end_in reading.format kept) → bytes ≡ kept ++ piece → end_in reading.format bytes ≡ why
     → ((before : Option (List ℕ)) → first before [] → HasRead reading read kept (stands before))
-    → IfSome left (λ file. (before : Option (List ℕ)) → first before [] → (capture_fault file ≡ None) × stands before (packets_of file))
-ended left after reading read kept first stands consumed end rest has =
-    whole_file left after read (λ file. (before : Option (List ℕ)) → first before [] → (capture_fault file ≡ None) × stands before (packets_of file)) consumed end
+    → IfSome left (λ file. (before : Option (List ℕ)) → first before [] → (capture_fault file ≡ why) × stands before (packets_of file))
+ended left mid after reading read kept piece bytes why first stands consumed more none end rest whole ends has =
+    let same : bytes ≡ kept = whole ∙ ap (λ p. kept ++ p) none ∙ append-nil kept in
+    let rest_ends : rest_of reading kept ≡ ends_with why = rest ∙ ap (λ bs. ends_with (end_in reading.format bs)) (sym same) ∙ ap ends_with ends in
+    whole_file left after read (λ file. (before : Option (List ℕ)) → first before [] → (capture_fault file ≡ why) × stands before (packets_of file))
+    (consumes_none left mid after read piece none consumed more) end
     (λ before said.
     let h = has before said in
-    let e = at_end reading read kept (stands before) None rest h in
-    (fault-of read h.frames (ends_with None) e, subst (stands before) (sym (packets-end read h.frames None e)) h.taken))
-
--- the file ends within a part
-pub ended_short : (left after : Option (List ℕ)) (reading : Reading) (read kept : List ℕ) (why : CaptureFault) (first stands : Option (List ℕ) → Says)
-    → Consumes left after read → IsAtEnd after
-    → rest_of reading kept ≡ ends_with (Some why)
-    → ((before : Option (List ℕ)) → first before [] → HasRead reading read kept (stands before))
-    → IfSome left (λ file. (before : Option (List ℕ)) → first before [] → StopsBy (Capture why) file (stands before))
-ended_short left after reading read kept why first stands consumed end rest has =
-    whole_file left after read (λ file. (before : Option (List ℕ)) → first before [] → StopsBy (Capture why) file (stands before)) consumed end
-    (λ before said.
-    let h = has before said in
-    let e = at_end reading read kept (stands before) (Some why) rest h in
-    (fault-of read h.frames (ends_with (Some why)) e, subst (stands before) (sym (packets-end read h.frames (Some why) e)) h.taken))
+    let e = at_end reading read kept (stands before) why rest_ends h in
+    (fault-of read h.frames (ends_with why) e, subst (stands before) (sym (packets-end read h.frames why e)) h.taken))
 
 -- ---- it stopped before the end
 

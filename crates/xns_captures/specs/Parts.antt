@@ -156,19 +156,20 @@ frame_of interfaces (Some interface) start count time total =
     else if nat_lt total (start + count + 4) then Err fault.Lengths
     else Ok (part.Frame (record { link = interface.link; start = start; count = count; time = time }))
 
--- an enhanced packet: the number of the interface at 8, the time at 12, and the captured length at 20
-abbrev pub enhanced_in : ByteOrder → List Interface → List ℕ → PartContent
-enhanced_in order interfaces bytes =
+-- a packet of the interface with this number: the time at 12, and the captured length at 20
+abbrev pub timed_in : ℕ → ByteOrder → List Interface → List ℕ → PartContent
+timed_in number order interfaces bytes =
     if not (has_lengths order 32 bytes) then Err fault.Lengths
-    else frame_of interfaces (slice_get interfaces (long_in_order order bytes 8)) 28 (long_in_order order bytes 20)
-    (time_by (slice_get interfaces (long_in_order order bytes 8)) (count_at order bytes 12)) (length bytes)
+    else frame_of interfaces (slice_get interfaces number) 28 (long_in_order order bytes 20)
+    (time_by (slice_get interfaces number) (count_at order bytes 12)) (length bytes)
 
--- the obsolete packet, whose interface has a number of two bytes
+-- an enhanced packet, whose interface has a number of four bytes at 8
+abbrev pub enhanced_in : ByteOrder → List Interface → List ℕ → PartContent
+enhanced_in order interfaces bytes = timed_in (long_in_order order bytes 8) order interfaces bytes
+
+-- the obsolete packet, whose interface has a number of two bytes at 8
 abbrev pub old_in : ByteOrder → List Interface → List ℕ → PartContent
-old_in order interfaces bytes =
-    if not (has_lengths order 32 bytes) then Err fault.Lengths
-    else frame_of interfaces (slice_get interfaces (word_in_order order bytes 8)) 28 (long_in_order order bytes 20)
-    (time_by (slice_get interfaces (word_in_order order bytes 8)) (count_at order bytes 12)) (length bytes)
+old_in order interfaces bytes = timed_in (word_in_order order bytes 8) order interfaces bytes
 
 -- how many bytes of a frame of so many were kept
 abbrev pub kept_count : Option Interface → ℕ → ℕ

@@ -91,6 +91,21 @@ pub record HasStopped (fault : FileFault) (read : List ℕ) (left : Says) : Type
   pub ends : EndsBy fault frames more
   pub is_left : left (packets_in None 1 frames)
 
+-- what a taker and a writer stand for together, by what the writer held before and holds after
+abbrev pub Stands : Type 1
+Stands = Option (List ℕ) → Option (List ℕ) → Says
+
+-- the part with these bytes is taken, whatever comes behind it: the taker stood for the packets before it, and stands for those with it; the
+-- writer held `mid` before, and holds `after`
+abbrev pub TakesPart : Reading → Reading → List ℕ → Stands → Stands → Option (List ℕ) → Option (List ℕ) → Type 0
+TakesPart old new bytes stood stands mid after = (read tail : List ℕ) (before : Option (List ℕ)) → HasRead old read (bytes ++ tail) (stood before mid)
+    → HasRead new read tail (stands before after)
+
+-- a fault came at the part with these bytes, whatever comes behind it
+abbrev pub StopsInPart : FileFault → Reading → List ℕ → Stands → Stands → Stands → Option (List ℕ) → Option (List ℕ) → Type 0
+StopsInPart fault old bytes stood stands fails mid after = (read tail : List ℕ) (before : Option (List ℕ)) → HasRead old read (bytes ++ tail) (stood before mid)
+    → HasStopped fault read (StandsAfter fault (stands before after) (fails before after))
+
 -- why it stopped: the capture can't be read on, or has too many frames
 abbrev pub IsJustified : FileFault → List ℕ → Type 0
 IsJustified (Capture fault) file = capture_fault file ≡ Some fault

@@ -1,5 +1,5 @@
 //! The blocks of a pcapng file.
-ghost use Rattle.std.specs.Prelude.{◌≡◌, ◌≤◌, ◌-◌, ℕ, true, IfOk, drop, length, take};
+ghost use Rattle.std.specs.Prelude.{◌≡◌, ◌≤◌, ◌-◌, ℕ, false, true, IfErr, IfOk, OnOk, drop, length, take};
 ghost use Rattle.xns_captures.specs.Times.{resolution_of};
 ghost use Rattle.xns_captures.specs.Parts.{block_in, block_of_type, block_size as block_size_of, block_size_in};
 ghost use Rattle.xns_captures.specs.Parts.{IsWithin, has_lengths as has_lengths_in, interface_in};
@@ -14,7 +14,6 @@ use crate::interface::Interface;
 use crate::limits::{MOST_BLOCK_BYTES, MOST_INTERFACES};
 use crate::magic::SECTION;
 use crate::options::read_resolution;
-use crate::packet_block::{read_enhanced, read_old, read_simple};
 use crate::part::Part;
 use crate::places::{read_long, read_word};
 
@@ -22,6 +21,18 @@ use crate::places::{read_long, read_word};
 pub const BLOCK_HEAD_BYTES: usize = 12;
 /// The magic number of a section's order of bytes.
 const ORDER: u32 = 0x1a2b_3c4d;
+
+/// A block of a section. It has at least the bytes of a head.
+#[derive(Drop)]
+pub struct Block<'a> {
+    /// The order of bytes in the section.
+    pub order: ByteOrder,
+    /// The interfaces that the section has described so far.
+    pub interfaces: &'a [Interface],
+    /// The bytes of the block.
+    pub bytes: &'a [u8],
+    ghost has_head: { 12 ≤ length bytes.now },
+}
 
 /// The types of blocks that are read.
 const INTERFACE: u32 = 1;
@@ -105,35 +116,22 @@ fn section_order(bytes: &[u8]) -> Option<ByteOrder>
     None
 }
 
-/// What a block holds, in a section with these interfaces.
-#[tactic(auto, unfolding(crate::specs::Parts::block_in))]
-pub fn read_block(
+/// Refuses a block that is shorter than so many bytes, or whose length at the end is another than its own.
+pub(crate) fn check_lengths(
     order: ByteOrder,
-    interfaces: &[Interface],
+    least: usize,
     bytes: &[u8],
-) -> Result<Part, CaptureFault>
-    requires { 12 ≤ length bytes.now }
-    ensures value { result ≡ block_in order interfaces.now bytes.now }
-    ensures fits { IfOk result (IsWithin (length bytes.now)) }
-{
-    let kind = read_long(order, bytes, 0);
-    if kind == SECTION {
-        return read_section(bytes);
-    }
-    read_other(kind, order, interfaces, bytes)
-}
-
-/// Whether the length at the end of a block is its length, which is at least so many bytes.
-pub(crate) fn has_lengths(order: ByteOrder, least: usize, bytes: &[u8]) -> bool
-    requires some { 4 ≤ length bytes.now }
-    ensures value { result ≡ has_lengths_in order least bytes.now }
-    ensures least { result ≡ true → least ≤ length bytes.now }
+) -> Result<(), CaptureFault>
+    requires { 4 ≤ length bytes.now }
+    ensures ok { OnOk result (has_lengths_in order least bytes.now ≡ true) }
+    ensures least { OnOk result (least ≤ length bytes.now) }
+    ensures err { IfErr result (λ fault. (fault ≡ CaptureFault.Lengths) × (has_lengths_in order least bytes.now ≡ false)) }
 {
     let total = bytes.len();
-    if total < least {
-        return false;
+    if total < least || read_long(order, bytes, total - 4) as usize != total {
+        return Err(CaptureFault::Lengths);
     }
-    read_long(order, bytes, total - 4) as usize == total
+    Ok(())
 }
 
 /// A section header.
@@ -145,9 +143,7 @@ fn read_section(bytes: &[u8]) -> Result<Part, CaptureFault>
     let Some(order) = section_order(bytes) else {
         return Err(CaptureFault::Order);
     };
-    if !has_lengths(order, 28, bytes) {
-        return Err(CaptureFault::Lengths);
-    }
+    check_lengths(order, 28, bytes)?;
     let minor = read_word(order, bytes, 14);
     if read_word(order, bytes, 12) != 1 || (minor != 0 && minor != 2) {
         return Err(CaptureFault::Version);
@@ -155,48 +151,67 @@ fn read_section(bytes: &[u8]) -> Result<Part, CaptureFault>
     Ok(Part::Begins(Format::Blocks { order }))
 }
 
-/// A block that is no section header, by its type.
-#[tactic(auto, unfolding(crate::specs::Parts::block_of_type))]
-fn read_other(
-    kind: u32,
-    order: ByteOrder,
-    interfaces: &[Interface],
-    bytes: &[u8],
-) -> Result<Part, CaptureFault>
-    requires { 12 ≤ length bytes.now }
-    ensures value { result ≡ block_of_type kind order interfaces.now bytes.now }
-    ensures fits { IfOk result (IsWithin (length bytes.now)) }
-{
-    match kind {
-        INTERFACE => read_interface(order, interfaces, bytes),
-        ENHANCED_PACKET => read_enhanced(order, interfaces, bytes),
-        OLD_PACKET => read_old(order, interfaces, bytes),
-        SIMPLE_PACKET => read_simple(order, interfaces, bytes),
-        _ => pass_over(kind, order, bytes),
+impl Block<'_> {
+    /// What the block holds.
+    #[tactic(auto, unfolding(crate::specs::Parts::block_in))]
+    pub fn read(&self) -> Result<Part, CaptureFault>
+        ensures value { result ≡ block_in self.now.order self.now.interfaces.now self.now.bytes.now }
+        ensures fits { IfOk result (IsWithin (length self.now.bytes.now)) }
+    {
+        let kind = read_long(self.order, self.bytes, 0);
+        if kind == SECTION {
+            return read_section(self.bytes);
+        }
+        self.read_other(kind)
     }
-}
 
-/// An interface description.
-fn read_interface(
-    order: ByteOrder,
-    interfaces: &[Interface],
-    bytes: &[u8],
-) -> Result<Part, CaptureFault>
-    requires { 12 ≤ length bytes.now }
-    ensures value { result ≡ interface_in order interfaces.now bytes.now }
-    ensures fits { IfOk result (IsWithin (length bytes.now)) }
-{
-    if !has_lengths(order, 20, bytes) {
-        return Err(CaptureFault::Lengths);
+    /// A block that is no section header, by its type. An enhanced packet has a long number of its interface, and the obsolete packet
+    /// a short one.
+    #[tactic(auto, unfolding(crate::specs::Parts::block_of_type))]
+    fn read_other(&self, kind: u32) -> Result<Part, CaptureFault>
+        ensures value { result ≡ block_of_type kind self.now.order self.now.interfaces.now self.now.bytes.now }
+        ensures fits { IfOk result (IsWithin (length self.now.bytes.now)) }
+    {
+        match kind {
+            INTERFACE => self.read_interface(),
+            ENHANCED_PACKET => self.read_timed(read_long(self.order, self.bytes, 8) as usize),
+            OLD_PACKET => self.read_timed(usize::from(read_word(self.order, self.bytes, 8))),
+            SIMPLE_PACKET => self.read_simple(),
+            _ => self.pass_over(kind),
+        }
     }
-    if interfaces.len() >= MOST_INTERFACES {
-        return Err(CaptureFault::TooManyInterfaces);
+
+    /// An interface description.
+    fn read_interface(&self) -> Result<Part, CaptureFault>
+        ensures value { result ≡ interface_in self.now.order self.now.interfaces.now self.now.bytes.now }
+        ensures fits { IfOk result (IsWithin (length self.now.bytes.now)) }
+    {
+        check_lengths(self.order, 20, self.bytes)?;
+        if self.interfaces.len() >= MOST_INTERFACES {
+            return Err(CaptureFault::TooManyInterfaces);
+        }
+        Ok(Part::Interface(Interface {
+            link: read_word(self.order, self.bytes, 8),
+            most: read_long(self.order, self.bytes, 12),
+            resolution: interface_resolution(self.order, self.bytes),
+        }))
     }
-    Ok(Part::Interface(Interface {
-        link: read_word(order, bytes, 8),
-        most: read_long(order, bytes, 12),
-        resolution: interface_resolution(order, bytes),
-    }))
+
+    /// A block of any other type, or the head of a long one.
+    fn pass_over(&self, kind: u32) -> Result<Part, CaptureFault>
+        ensures value { result ≡ other_in kind self.now.order self.now.bytes.now }
+        ensures fits { IfOk result (IsWithin (length self.now.bytes.now)) }
+    {
+        let order = self.order;
+        let total = read_long(order, self.bytes, 4);
+        if total > MOST_BLOCK_BYTES {
+            let total = total as usize;
+            let left = total - BLOCK_HEAD_BYTES;
+            return Ok(passed_over(kind, Format::Passing { order, left, total }));
+        }
+        check_lengths(order, 12, self.bytes)?;
+        Ok(passed_over(kind, Format::Blocks { order }))
+    }
 }
 
 /// The resolution of the times of an interface, whose options stand before the length at the end of its description.
@@ -206,24 +221,6 @@ fn interface_resolution(order: ByteOrder, bytes: &[u8]) -> u8
 {
     let total = bytes.len();
     read_resolution(order, &bytes[..total - 4][16..])
-}
-
-/// A block of any other type, or the head of a long one.
-fn pass_over(kind: u32, order: ByteOrder, bytes: &[u8]) -> Result<Part, CaptureFault>
-    requires { 12 ≤ length bytes.now }
-    ensures value { result ≡ other_in kind order bytes.now }
-    ensures fits { IfOk result (IsWithin (length bytes.now)) }
-{
-    let total = read_long(order, bytes, 4);
-    if total > MOST_BLOCK_BYTES {
-        let total = total as usize;
-        let left = total - BLOCK_HEAD_BYTES;
-        return Ok(passed_over(kind, Format::Passing { order, left, total }));
-    }
-    if !has_lengths(order, 12, bytes) {
-        return Err(CaptureFault::Lengths);
-    }
-    Ok(passed_over(kind, Format::Blocks { order }))
 }
 
 /// A block that is passed over, with what comes behind these bytes of it.

@@ -2,11 +2,10 @@
 ghost use Rattle.std.specs.Prelude.{◌≡◌, ◌≤◌, IfOk, length, slice_get};
 ghost use Rattle.std.specs.List.{list_any};
 ghost use Rattle.xns_captures.specs.Links.{is_link_read};
-ghost use Rattle.xns_captures.specs.Parts.{IsWithin, enhanced_in, frame_of as frame_of_block, is_link_taken as is_taken_link};
-ghost use Rattle.xns_captures.specs.Parts.{kept_count as kept_count_of, old_in, simple_in, time_by as time_of_interface};
+ghost use Rattle.xns_captures.specs.Parts.{IsWithin, frame_of as frame_of_block, is_link_taken as is_taken_link};
+ghost use Rattle.xns_captures.specs.Parts.{kept_count as kept_count_of, simple_in, time_by as time_of_interface, timed_in};
 
-use crate::block::has_lengths;
-use crate::byte_order::ByteOrder;
+use crate::block::{Block, check_lengths};
 use crate::fault::CaptureFault;
 use crate::frame::Frame;
 use crate::frame_time::FrameTime;
@@ -14,74 +13,45 @@ use crate::interface::Interface;
 use crate::limits::MOST_FRAME_BYTES;
 use crate::link::is_link_read;
 use crate::part::Part;
-use crate::places::{read_count, read_long, read_word};
+use crate::places::{read_count, read_long};
 
-/// An enhanced packet.
-pub(crate) fn read_enhanced(
-    order: ByteOrder,
-    interfaces: &[Interface],
-    bytes: &[u8],
-) -> Result<Part, CaptureFault>
-    requires { 12 ≤ length bytes.now }
-    ensures value { result ≡ enhanced_in order interfaces.now bytes.now }
-    ensures fits { IfOk result (IsWithin (length bytes.now)) }
-{
-    if !has_lengths(order, 32, bytes) {
-        return Err(CaptureFault::Lengths);
+impl Block<'_> {
+    /// A packet with a time, of the interface with this number.
+    pub(crate) fn read_timed(&self, number: usize) -> Result<Part, CaptureFault>
+        ensures value { result ≡ timed_in number self.now.order self.now.interfaces.now self.now.bytes.now }
+        ensures fits { IfOk result (IsWithin (length self.now.bytes.now)) }
+    {
+        check_lengths(self.order, 32, self.bytes)?;
+        let interface = interface_at(self.interfaces, number);
+        let time = time_of(interface, read_count(self.order, self.bytes, 12));
+        let count = read_long(self.order, self.bytes, 20);
+        frame_of(
+            self.interfaces,
+            interface,
+            28,
+            count,
+            time,
+            self.bytes.len(),
+        )
     }
-    let interface = interface_at(interfaces, read_long(order, bytes, 8) as usize);
-    let time = time_of(interface, read_count(order, bytes, 12));
-    frame_of(
-        interfaces,
-        interface,
-        28,
-        read_long(order, bytes, 20),
-        time,
-        bytes.len(),
-    )
-}
 
-/// The obsolete packet, whose interface has a number of two bytes.
-pub(crate) fn read_old(
-    order: ByteOrder,
-    interfaces: &[Interface],
-    bytes: &[u8],
-) -> Result<Part, CaptureFault>
-    requires { 12 ≤ length bytes.now }
-    ensures value { result ≡ old_in order interfaces.now bytes.now }
-    ensures fits { IfOk result (IsWithin (length bytes.now)) }
-{
-    if !has_lengths(order, 32, bytes) {
-        return Err(CaptureFault::Lengths);
+    /// A simple packet, of the first interface, which does not say how much of it was captured.
+    pub(crate) fn read_simple(&self) -> Result<Part, CaptureFault>
+        ensures value { result ≡ simple_in self.now.order self.now.interfaces.now self.now.bytes.now }
+        ensures fits { IfOk result (IsWithin (length self.now.bytes.now)) }
+    {
+        check_lengths(self.order, 16, self.bytes)?;
+        let interface = interface_at(self.interfaces, 0);
+        let count = kept_count(interface, read_long(self.order, self.bytes, 8));
+        frame_of(
+            self.interfaces,
+            interface,
+            12,
+            count,
+            None,
+            self.bytes.len(),
+        )
     }
-    let interface = interface_at(interfaces, usize::from(read_word(order, bytes, 8)));
-    let time = time_of(interface, read_count(order, bytes, 12));
-    frame_of(
-        interfaces,
-        interface,
-        28,
-        read_long(order, bytes, 20),
-        time,
-        bytes.len(),
-    )
-}
-
-/// A simple packet, of the first interface, which does not say how much of it was captured.
-pub(crate) fn read_simple(
-    order: ByteOrder,
-    interfaces: &[Interface],
-    bytes: &[u8],
-) -> Result<Part, CaptureFault>
-    requires { 12 ≤ length bytes.now }
-    ensures value { result ≡ simple_in order interfaces.now bytes.now }
-    ensures fits { IfOk result (IsWithin (length bytes.now)) }
-{
-    if !has_lengths(order, 16, bytes) {
-        return Err(CaptureFault::Lengths);
-    }
-    let interface = interface_at(interfaces, 0);
-    let count = kept_count(interface, read_long(order, bytes, 8));
-    frame_of(interfaces, interface, 12, count, None, bytes.len())
 }
 
 /// The interface with this number, if it is described.

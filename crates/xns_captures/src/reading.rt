@@ -47,7 +47,7 @@ fn first_of(first: Option<FrameTime>, time: Option<FrameTime>) -> Option<FrameTi
 }
 
 impl Reading {
-    ghost use Rattle.xns_captures.specs.Reading.{HasRead, HasStopped, IsWholePart, StandsAfter, StopsAtFrame, end_in, first_among};
+    ghost use Rattle.xns_captures.specs.Reading.{HasRead, HasStopped, IsWholePart, StandsAfter, StopsAtFrame, StopsInPart, TakesPart, end_in, first_among};
 
     /// Nothing was read yet.
     pub(crate) fn new(alloc: Global) -> Self
@@ -146,13 +146,10 @@ impl Reading {
     ) -> Result<(), FileFault>
         requires head { head_count self.old.format ≤ length bytes.now }
         requires size { size_of self.old.format (take (head_count self.old.format) bytes.now) ≡ Ok (length bytes.now) }
-        ensures ok { OnOk result ((read tail : List ℕ) (before : Option (List ℕ))
-            → HasRead self.old read (bytes.now ++ tail) (T.stands taker.old before (W.contents writer.old))
-            → HasRead self.new read tail (T.stands taker.new before (W.contents writer.new))) }
-        ensures err { IfErr result (λ fault. (read tail : List ℕ) (before : Option (List ℕ))
-            → HasRead self.old read (bytes.now ++ tail) (T.stands taker.old before (W.contents writer.old))
-            → HasStopped fault read
-            (StandsAfter fault (T.stands taker.new before (W.contents writer.new)) (T.fails taker.new before (W.contents writer.new)))) }
+        ensures ok { OnOk result (TakesPart self.old self.new bytes.now
+            (T.stands taker.old) (T.stands taker.new) (W.contents writer.old) (W.contents writer.new)) }
+        ensures err { IfErr result (λ fault. StopsInPart fault self.old bytes.now
+            (T.stands taker.old) (T.stands taker.new) (T.fails taker.new) (W.contents writer.old) (W.contents writer.new)) }
     {
         if let Format::Records {
             order,
@@ -204,13 +201,10 @@ impl Reading {
         requires size { size_of self.old.format (take (head_count self.old.format) bytes.now) ≡ Ok (length bytes.now) }
         requires found { part_of self.old.format self.old.interfaces.items bytes.now ≡ Ok (Part.Frame frame) }
         requires fits { frame.start + frame.count ≤ length bytes.now }
-        ensures ok { OnOk result ((read tail : List ℕ) (before : Option (List ℕ))
-            → HasRead self.old read (bytes.now ++ tail) (T.stands taker.old before (W.contents writer.old))
-            → HasRead self.new read tail (T.stands taker.new before (W.contents writer.new))) }
-        ensures err { IfErr result (λ fault. (read tail : List ℕ) (before : Option (List ℕ))
-            → HasRead self.old read (bytes.now ++ tail) (T.stands taker.old before (W.contents writer.old))
-            → HasStopped fault read
-            (StandsAfter fault (T.stands taker.new before (W.contents writer.new)) (T.fails taker.new before (W.contents writer.new)))) }
+        ensures ok { OnOk result (TakesPart self.old self.new bytes.now
+            (T.stands taker.old) (T.stands taker.new) (W.contents writer.old) (W.contents writer.new)) }
+        ensures err { IfErr result (λ fault. StopsInPart fault self.old bytes.now
+            (T.stands taker.old) (T.stands taker.new) (T.fails taker.new) (W.contents writer.old) (W.contents writer.new)) }
     {
         let end = frame.start + frame.count;
         self.take_frame(

@@ -2,7 +2,7 @@
 ghost use Rattle.std.specs.Prelude.{◌≡◌, ◌≤◌, IfOk, length};
 ghost use Rattle.xns_captures.specs.Parts.{IsWithin, file_in, file_size as file_size_of, head_count, part_of, size_of};
 
-use crate::block::{BLOCK_HEAD_BYTES, block_size, read_block};
+use crate::block::{BLOCK_HEAD_BYTES, Block, block_size};
 use crate::byte_order::ByteOrder;
 use crate::fault::CaptureFault;
 use crate::format::Format;
@@ -58,7 +58,14 @@ pub fn read_part(
             link,
             is_nano,
         } => Ok(Part::Frame(read_record(order, link, is_nano, bytes))),
-        Format::Blocks { order } => read_block(order, interfaces, bytes),
+        Format::Blocks { order } => {
+            let block = Block {
+                order,
+                interfaces,
+                bytes,
+            };
+            block.read()
+        }
         Format::Passing { order, left, total } => read_rest(order, left, total, bytes),
     }
 }
@@ -84,7 +91,12 @@ fn read_first(interfaces: &[Interface], bytes: &[u8]) -> Result<Part, CaptureFau
     ensures fits { IfOk result (IsWithin (length bytes.now)) }
 {
     if read_long(ByteOrder::Big, bytes, 0) == SECTION {
-        return read_block(ByteOrder::Big, interfaces, bytes);
+        let block = Block {
+            order: ByteOrder::Big,
+            interfaces,
+            bytes,
+        };
+        return block.read();
     }
     match classic_order(bytes) {
         Some(order) => read_header(order, bytes),

@@ -1,16 +1,16 @@
-use Rattle.std.proofs.Common.{◌≡◌, ◌∙◌, ◌⊎◌, inl, inr, ap, sym, subst, lit≤, append-nil, ◌++◌, drop, List, ℕ, [], None}
+use Rattle.std.proofs.Common.{◌≡◌, ◌∙◌, ◌⊎◌, inl, inr, ap, sym, subst, lit≤, ◌++◌, drop, List, ℕ, [], None, Some}
 use Rattle.std.proofs.lemmas.List.{nil_from_length}
 use Rattle.std.proofs.lemmas.Result.{err_from_is_err_and}
-use Rattle.xns_captures.specs.Captures.{ends_with, packets_in}
+use Rattle.xns_captures.specs.Captures.{packets_in}
 use Rattle.xns_captures.specs.Reading.{HasRead, HasStopped, IsOfNoLine, Says, StandsAfter}
 use Rattle.xns_captures.specs.declared.file_fault.FileFault.TheVariants.{Run}
 use Rattle.xns_captures.specs.declared.reading.Reading.{Reading}
 use Rattle.xns_lines.specs.declared.fault.RunFault.{RunFault}
 use Rattle.xns_lines.specs.declared.fault.RunFault.TheVariants as run
-use Rattle.xns_lines.proofs.Writes.{consumes_kept, consumes_none, consumes_nothing, consumes_trans}
+use Rattle.xns_lines.proofs.Writes.{consumes_kept, consumes_nothing, consumes_trans}
 use Rattle.xns_captures.proofs.Frames.{stops_in_run}
 use Rattle.xns_captures.proofs.Fuel.{contents-none}
-use Rattle.xns_captures.proofs.Whole.{anew, begun, ended, ended_short, grown, paused, stops_by}
+use Rattle.xns_captures.proofs.Whole.{anew, begun, ended, grown, paused, stops_by}
 use Rattle.xns_captures.proofs.taking.take_packets.Goals as goal
 
 pub file-init : goal.file-init
@@ -46,31 +46,21 @@ pub returns-then-count-eq0-clause-ok : goal.returns-then-count-eq0-clause-ok
 returns-then-count-eq0-clause-ok g c =
     let so_far = c.file.invariant in
     let more = c.in-Ok.ensures.ok in
-    let none = nil_from_length more.0 (sym more.3 ∙ c.if-count-eq0.true) in
-    let kept = c.as_slice.ensures ∙ more.1 ∙ ap (λ piece. c.file.window.bytes ++ piece) none ∙ append-nil c.file.window.bytes in
-    let whole = rw (kept, c.in_default.is) at c.end_fault.ensures in
-    ended (g.R.Read.remaining c.args.reader.now) (g.R.Read.remaining c.read_piece.new.reader) c.file.reading so_far.0 c.file.window.bytes
+    ended _ _ _ c.file.reading so_far.0 c.file.window.bytes more.0 c.as_slice.result.now None
     (λ before. g.T.PacketTaker.stands c.args.taker.now before (g.W.Write.contents c.args.writer.now))
     (λ before. g.T.PacketTaker.stands c.file.taker before (g.W.Write.contents c.file.writer))
-    (consumes_none _ _ _ so_far.0 _ none so_far.1 more.2)
-    (more.4 c.if-count-eq0.true)
-    (so_far.3 ∙ ap ends_with (sym whole))
-    so_far.2
+    so_far.1 more.2 (nil_from_length more.0 (sym more.3 ∙ c.if-count-eq0.true)) (more.4 c.if-count-eq0.true)
+    so_far.3 (c.as_slice.ensures ∙ more.1) (sym c.end_fault.ensures ∙ c.in_default.is) so_far.2
 
 pub returns-in-Some-clause-err : goal.returns-in-Some-clause-err
 returns-in-Some-clause-err g c =
     let so_far = c.file.invariant in
     let more = c.in-Ok.ensures.ok in
-    let none = nil_from_length more.0 (sym more.3 ∙ c.if-count-eq0.true) in
-    let kept = c.as_slice.ensures ∙ more.1 ∙ ap (λ piece. c.file.window.bytes ++ piece) none ∙ append-nil c.file.window.bytes in
-    let cut = rw (kept, c.in-Some.is) at c.end_fault.ensures in
-    ended_short (g.R.Read.remaining c.args.reader.now) (g.R.Read.remaining c.read_piece.new.reader) c.file.reading so_far.0 c.file.window.bytes c.in-Some.fault
+    ended _ _ _ c.file.reading so_far.0 c.file.window.bytes more.0 c.as_slice.result.now (Some c.in-Some.fault)
     (λ before. g.T.PacketTaker.stands c.args.taker.now before (g.W.Write.contents c.args.writer.now))
     (λ before. g.T.PacketTaker.stands c.file.taker before (g.W.Write.contents c.file.writer))
-    (consumes_none _ _ _ so_far.0 _ none so_far.1 more.2)
-    (more.4 c.if-count-eq0.true)
-    (so_far.3 ∙ ap ends_with (sym cut))
-    so_far.2
+    so_far.1 more.2 (nil_from_length more.0 (sym more.3 ∙ c.if-count-eq0.true)) (more.4 c.if-count-eq0.true)
+    so_far.3 (c.as_slice.ensures ∙ more.1) (sym c.end_fault.ensures ∙ c.in-Some.is) so_far.2
 
 pub returns-in_err-taken-clause-err : goal.returns-in_err-taken-clause-err
 returns-in_err-taken-clause-err g c =
