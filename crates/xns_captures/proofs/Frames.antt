@@ -118,17 +118,25 @@ takes_frame old new read bytes tail stands stands' frame step h count first take
 
 -- ---- it stops
 
+-- what was not taken yet says nothing of the rest of the capture
+pub stops_here : (old : Reading) (read kept : List ℕ) (stands left : Says) (why : CaptureFault)
+    → ((rest : List ℕ) → rest_of old (kept ++ rest) ≡ ends_with (Some why))
+    → (h : HasRead old read kept stands) → left (packets_in None 1 h.frames)
+    → HasStopped (Capture why) read left
+stops_here old read kept stands left why step h is_left = record {
+  frames = h.frames;
+  more = λ rest. rest_of old (kept ++ rest);
+  whole = h.whole;
+  ends = step;
+  is_left = is_left;
+}
+
 pub stops_at_part : (old : Reading) (read bytes tail : List ℕ) (stands left : Says) (why : CaptureFault)
     → ((rest : List ℕ) → rest_of old (bytes ++ rest) ≡ ends_with (Some why))
     → (h : HasRead old read (bytes ++ tail) stands) → left (packets_in None 1 h.frames)
     → HasStopped (Capture why) read left
-stops_at_part old read bytes tail stands left why step h is_left = record {
-  frames = h.frames;
-  more = λ rest. rest_of old (bytes ++ (tail ++ rest));
-  whole = behind_part_in old read bytes tail stands h;
-  ends = λ rest. step (tail ++ rest);
-  is_left = is_left;
-}
+stops_at_part old read bytes tail stands left why step h is_left =
+    stops_here old read (bytes ++ tail) stands left why (λ rest. ap (rest_of old) (append_assoc bytes tail rest) ∙ step (tail ++ rest)) h is_left
 
 pub stops_in_run : (old : Reading) (f : RunFault) (read kept : List ℕ) (stands left : Says) → IsOfNoLine f
     → (h : HasRead old read kept stands) → left (packets_in None 1 h.frames) → HasStopped (Run f) read left
@@ -210,19 +218,6 @@ pub same_rest : (new : Reading) (format : Format) (interfaces : List Interface) 
     → contents format interfaces rest ≡ rest_of new rest
 same_rest new format interfaces rest e f =
     ap (λ g. contents g interfaces rest) (sym e) ∙ ap (λ i. contents new.format i rest) (sym f)
-
--- what was not taken yet says nothing of the rest of the capture
-pub stops_here : (old : Reading) (read kept : List ℕ) (stands left : Says) (why : CaptureFault)
-    → ((rest : List ℕ) → rest_of old (kept ++ rest) ≡ ends_with (Some why))
-    → (h : HasRead old read kept stands) → left (packets_in None 1 h.frames)
-    → HasStopped (Capture why) read left
-stops_here old read kept stands left why step h is_left = record {
-  frames = h.frames;
-  more = λ rest. rest_of old (kept ++ rest);
-  whole = h.whole;
-  ends = step;
-  is_left = is_left;
-}
 
 -- a part, and what comes behind it
 part-split : (bytes : List ℕ) (taken size : ℕ)

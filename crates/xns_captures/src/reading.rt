@@ -1,8 +1,8 @@
 //! What is known of a capture while it is read.
-ghost use Rattle.std.specs.Prelude.{◌≡◌, ◌≤◌, ◌<◌, ◌+◌, ◌++◌, ◌∷◌, ℕ, List, [], Option, Ok, Some, None, IfErr, IfOk, IfSome, OnOk, length, take, drop};
+ghost use Rattle.std.specs.Prelude.{◌≡◌, ◌≤◌, ◌<◌, ◌+◌, ◌++◌, ◌∷◌, ℕ, List, [], Option, Ok, Some, None, IfErr, IfOk, IfSome, OnOk, length, drop};
 ghost use Rattle.std.specs.Option.{option_or};
 ghost use Rattle.xns_captures.specs.Captures.{FrameBytes, contents, ends_with, packets_in};
-ghost use Rattle.xns_captures.specs.Parts.{head_count, most_block_bytes, most_interfaces, part_of, size_of};
+ghost use Rattle.xns_captures.specs.Parts.{most_block_bytes, most_interfaces, part_of};
 
 use crate::fault::CaptureFault;
 use crate::file_fault::FileFault;
@@ -144,8 +144,7 @@ impl Reading {
         taker: &mut T,
         writer: &mut W,
     ) -> Result<(), FileFault>
-        requires head { head_count self.old.format ≤ length bytes.now }
-        requires size { size_of self.old.format (take (head_count self.old.format) bytes.now) ≡ Ok (length bytes.now) }
+        requires { IsWholePart self.old.format bytes.now (length bytes.now) }
         ensures ok { OnOk result (TakesPart self.old self.new bytes.now
             (T.stands taker.old) (T.stands taker.new) (W.contents writer.old) (W.contents writer.new)) }
         ensures err { IfErr result (λ fault. StopsInPart fault self.old bytes.now
@@ -197,8 +196,7 @@ impl Reading {
         taker: &mut T,
         writer: &mut W,
     ) -> Result<(), FileFault>
-        requires head { head_count self.old.format ≤ length bytes.now }
-        requires size { size_of self.old.format (take (head_count self.old.format) bytes.now) ≡ Ok (length bytes.now) }
+        requires whole { IsWholePart self.old.format bytes.now (length bytes.now) }
         requires found { part_of self.old.format self.old.interfaces.items bytes.now ≡ Ok (Part.Frame frame) }
         requires fits { frame.start + frame.count ≤ length bytes.now }
         ensures ok { OnOk result (TakesPart self.old self.new bytes.now

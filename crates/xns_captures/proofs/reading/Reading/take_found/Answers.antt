@@ -11,7 +11,7 @@ returns-clause-ok g c =
     let t = taken h.frames before h.count h.first h.taken in
     takes_frame c.args.self.now c.take_frame.new.self read c.args.bytes.now tail _ _
     (c.args.frame.link, take (c.args.frame.start + c.args.frame.count - c.args.frame.start) (drop c.args.frame.start c.args.bytes.now), c.args.frame.time)
-    (λ rest. at_part_as c.args.self.now.format c.args.self.now.interfaces.items c.args.bytes.now rest _ c.requires.head c.requires.size c.requires.found
+    (λ rest. at_part_as c.args.self.now.format c.args.self.now.interfaces.items c.args.bytes.now rest _ c.requires.whole.head c.requires.whole.of_head c.requires.found
     ∙ same_frame c.args.frame c.args.bytes.now (contents c.args.self.now.format c.args.self.now.interfaces.items rest)
     ∙ ap (with_frame (c.args.frame.link, take (c.args.frame.start + c.args.frame.count - c.args.frame.start) (drop c.args.frame.start c.args.bytes.now), c.args.frame.time))
     (same_rest c.take_frame.new.self c.args.self.now.format c.args.self.now.interfaces.items rest c.take_frame.ensures.format c.take_frame.ensures.interfaces)) h t.0 t.1 t.2)
@@ -23,6 +23,6 @@ returns-clause-err g c =
     stops_at_frame fault c.args.self.now read c.args.bytes.now tail _ _ _
     (c.args.frame.link, take (c.args.frame.start + c.args.frame.count - c.args.frame.start) (drop c.args.frame.start c.args.bytes.now), c.args.frame.time)
     (λ rest. contents c.args.self.now.format c.args.self.now.interfaces.items rest)
-    (λ rest. at_part_as c.args.self.now.format c.args.self.now.interfaces.items c.args.bytes.now rest _ c.requires.head c.requires.size c.requires.found
+    (λ rest. at_part_as c.args.self.now.format c.args.self.now.interfaces.items c.args.bytes.now rest _ c.requires.whole.head c.requires.whole.of_head c.requires.found
     ∙ same_frame c.args.frame c.args.bytes.now (contents c.args.self.now.format c.args.self.now.interfaces.items rest)) h (stopped h.frames before h.count h.first h.taken))
     c.take_frame.ensures.err
