@@ -1,10 +1,10 @@
 -- A packet of a capture more is printed.
-use Rattle.std.proofs.Common.{◌≡◌, ◌∙◌, ap, sym, refl, arith, ℕ, ◌+◌, ◌<◌, ◌≤◌, ◌||◌, true, false, Bool, List, [], ◌∷◌, ◌++◌, length, length-append, append_assoc, append-nil, subst, Option, Some, None}
+use Rattle.std.proofs.Common.{◌≡◌, ◌∙◌, ap, sym, arith, ℕ, ◌+◌, ◌<◌, ◌≤◌, ◌||◌, List, [], ◌∷◌, ◌++◌, length, length-append, append_assoc, append-nil, subst}
 use Rattle.std.specs.List.{list_any}
-use Rattle.std.specs.Option.{option_to_list}
 use Rattle.std.specs.BTreeMap.{BTreeMap}
 use Rattle.std.proofs.lemmas.Grind.{flat_map-append}
 use Rattle.std.proofs.lemmas.List.Folds.{list_any-append}
+use Rattle.std.proofs.Math.Bool.{or-false}
 use Rattle.xns_captures.specs.Captures.{NumberedPacket}
 use Rattle.xns_lines.specs.Printing.{IsBegun, IsPrinted}
 use Rattle.xns_captures.specs.Reading.{most_frames}
@@ -15,7 +15,6 @@ use Rattle.xns_dump.specs.Flows.{DataPacket, item_number}
 use Rattle.xns_dump.specs.Flows.Numbers.{NumbersStandFor, numbering}
 use Rattle.xns_dump.specs.declared.flows.flow.Flow.{Flow}
 use Rattle.xns_dump.proofs.Numbered.{numbering_is}
-use Rattle.xns_dump.proofs.Printed.{or_false}
 use Rattle.xns_dump.proofs.Texts.{at_most_one}
 
 items_among-last : (xs : List NumberedPacket) (packet : NumberedPacket) → items_among (xs ++ packet ∷ []) ≡ items_among xs ++ items_of_packet packet
@@ -53,6 +52,6 @@ packet_printed m m' page page' packets packet above few begun h refused text not
       printed = subst (NumbersStandFor m') (sym (items_among-last packets packet)) (noted numbers);
       text = text_from-last [] packets packet ∙ ap (λ t. packets_text packets ++ t) (sym said);
       refused = refused ∙ ap (λ r. r || is_packet_refused packet) begun.refused
-          ∙ ap (λ r. list_any is_packet_refused packets || r) (sym (or_false (is_packet_refused packet)))
+          ∙ ap (λ r. list_any is_packet_refused packets || r) (sym (or-false (is_packet_refused packet)))
           ∙ sym (list_any-append is_packet_refused packets (packet ∷ []));
     }

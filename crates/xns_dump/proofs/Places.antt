@@ -15,7 +15,7 @@ then_assoc Less y z = refl
 then_assoc Equal y z = refl
 then_assoc Greater y z = refl
 
-then_equal : (x : Ordering) → ordering_then x Equal ≡ x
+pub then_equal : (x : Ordering) → ordering_then x Equal ≡ x
 then_equal Less = refl
 then_equal Equal = refl
 then_equal Greater = refl

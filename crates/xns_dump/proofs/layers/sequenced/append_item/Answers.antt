@@ -1,6 +1,6 @@
 use Rattle.std.proofs.Common.{◌∙◌, sym}
+use Rattle.std.proofs.lemmas.Result.{on_ok_weaker}
 use Rattle.xns_dump.proofs.Numbered.{an_item, no_item}
-use Rattle.xns_dump.proofs.Results.{on_ok_1}
 use Rattle.xns_dump.proofs.layers.sequenced.append_item.Goals as goal
 
 pub returns-in-Some-clause-line : goal.returns-in-Some-clause-line
