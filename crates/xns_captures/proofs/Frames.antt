@@ -4,7 +4,7 @@ use Rattle.std.proofs.lemmas.List.{drop-drop, take-append-drop, take_rest}
 use Rattle.std.specs.Option.{option_or}
 use Rattle.xns_captures.specs.Captures.{Contents, FrameBytes, NumberedPacket, contents, contents_of, ends_with, frame_in, packets_in, stamp_of, with_frame, with_packet}
 use Rattle.xns_captures.specs.Links.{packet_of_frame}
-use Rattle.xns_captures.specs.Reading.{HasRead, HasStopped, IsOfNoLine, Says, StandsAfter, StandsAfterPacket, StopsAtFrame, behind_frames, first_among, most_frames}
+use Rattle.xns_captures.specs.Reading.{EndsBy, HasRead, HasStopped, IsOfNoLine, Says, StandsAfter, StandsAfterPacket, StopsAtFrame, behind_frames, first_among, most_frames}
 use Rattle.xns_captures.specs.declared.fault.CaptureFault.{CaptureFault}
 use Rattle.xns_captures.specs.declared.file_fault.FileFault.{FileFault}
 use Rattle.xns_captures.specs.declared.file_fault.FileFault.TheVariants.{Run, Capture, TooManyFrames}
@@ -118,18 +118,23 @@ takes_frame old new read bytes tail stands stands' frame step h count first take
 
 -- ---- it stops
 
+-- it stops behind the frames that came, by a fault that fits what comes behind them
+stops_behind : (fault : FileFault) (old : Reading) (read kept : List ℕ) (stands left : Says) (h : HasRead old read kept stands)
+    → EndsBy fault h.frames (λ rest. rest_of old (kept ++ rest)) → left (packets_in None 1 h.frames) → HasStopped fault read left
+stops_behind fault old read kept stands left h ends is_left = record {
+  frames = h.frames;
+  more = λ rest. rest_of old (kept ++ rest);
+  whole = h.whole;
+  ends = ends;
+  is_left = is_left;
+}
+
 -- what was not taken yet says nothing of the rest of the capture
 pub stops_here : (old : Reading) (read kept : List ℕ) (stands left : Says) (why : CaptureFault)
     → ((rest : List ℕ) → rest_of old (kept ++ rest) ≡ ends_with (Some why))
     → (h : HasRead old read kept stands) → left (packets_in None 1 h.frames)
     → HasStopped (Capture why) read left
-stops_here old read kept stands left why step h is_left = record {
-  frames = h.frames;
-  more = λ rest. rest_of old (kept ++ rest);
-  whole = h.whole;
-  ends = step;
-  is_left = is_left;
-}
+stops_here old read kept stands left why step h is_left = stops_behind (Capture why) old read kept stands left h step is_left
 
 pub stops_at_part : (old : Reading) (read bytes tail : List ℕ) (stands left : Says) (why : CaptureFault)
     → ((rest : List ℕ) → rest_of old (bytes ++ rest) ≡ ends_with (Some why))
@@ -140,13 +145,7 @@ stops_at_part old read bytes tail stands left why step h is_left =
 
 pub stops_in_run : (old : Reading) (f : RunFault) (read kept : List ℕ) (stands left : Says) → IsOfNoLine f
     → (h : HasRead old read kept stands) → left (packets_in None 1 h.frames) → HasStopped (Run f) read left
-stops_in_run old f read kept stands left of_none h is_left = record {
-  frames = h.frames;
-  more = λ rest. rest_of old (kept ++ rest);
-  whole = h.whole;
-  ends = of_none;
-  is_left = is_left;
-}
+stops_in_run old f read kept stands left of_none h is_left = stops_behind (Run f) old read kept stands left h of_none is_left
 
 -- a frame is there, as the part says
 a_frame_more : (rest more : Contents) (frame : FrameBytes) → rest ≡ with_frame frame more → 0 < length rest.frames
@@ -156,13 +155,10 @@ stops_at_limit : (old : Reading) (read bytes tail : List ℕ) (stands left : Say
     → ((rest : List ℕ) → rest_of old (bytes ++ rest) ≡ with_frame frame (more rest))
     → (h : HasRead old read (bytes ++ tail) stands) → most_frames ≤ old.count → left (packets_in None 1 h.frames)
     → HasStopped TooManyFrames read left
-stops_at_limit old read bytes tail stands left frame more step h many is_left = record {
-  frames = h.frames;
-  more = λ rest. rest_of old (bytes ++ (tail ++ rest));
-  whole = behind_part_in old read bytes tail stands h;
-  ends = (omega (arith, many, h.count), λ rest. a_frame_more _ (more (tail ++ rest)) frame (step (tail ++ rest)));
-  is_left = is_left;
-}
+stops_at_limit old read bytes tail stands left frame more step h many is_left =
+    stops_behind TooManyFrames old read (bytes ++ tail) stands left h
+    (omega (arith, many, h.count), λ rest. a_frame_more _ (more (tail ++ rest)) frame (ap (rest_of old) (append_assoc bytes tail rest) ∙ step (tail ++ rest)))
+    is_left
 
 pub stops_behind_frame : (old : Reading) (read bytes tail : List ℕ) (stands left : Says) (frame : FrameBytes)
     (more : List ℕ → Contents)

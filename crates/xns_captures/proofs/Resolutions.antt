@@ -1,8 +1,8 @@
 -- Resolutions of times: how many units a second has; and that what options give does not depend on the bound on their number.
-use Rattle.std.proofs.Common.{◌≡◌, lit≤, refl, ap, sym, ◌∙◌, arith, ℕ, zero, suc, ◌+◌, ◌-◌, ◌*◌, ◌/◌, ◌%◌, ◌^◌, ◌<◌, ◌≤◌, Bool, true, false, cond, nat_lt, ◌&&◌, ◌==◌, List, length, drop, length-drop, Option, Some, None}
+use Rattle.std.proofs.Common.{◌≡◌, lit≤, refl, ap, sym, ◌∙◌, arith, ℕ, zero, suc, ◌+◌, ◌-◌, ◌*◌, ◌/◌, ◌%◌, ◌^◌, ◌<◌, ◌≤◌, true, false, cond, nat_lt, ◌&&◌, ◌==◌, List, length, drop, length-drop, Option, Some, None}
 use Rattle.std.proofs.Math.Nat.{mod-eq_of_lt, pow-suc}
 use Rattle.std.proofs.lemmas.Nat.{pow_below}
-use Rattle.std.proofs.lemmas.Bool.{cond-true, cond-false, eq-eqb, eqb-true, le-ltb, lt-ltb}
+use Rattle.std.proofs.lemmas.Bool.{cond-true, cond-false, eq-eqb, le-ltb, lt-ltb, ne_eqb}
 use Rattle.std.specs.Prelude.{slice_index}
 use Rattle.xns_captures.specs.Places.{word_in_order}
 use Rattle.xns_captures.specs.Times.{by_option, resolution_of, resolution_within, units_of_second}
@@ -48,13 +48,6 @@ binary_units r h k =
 
 -- ---- options
 
-ne-eqb : (a b : ℕ) → (a ≡ b → ⊥) → (a == b) ≡ false
-ne-eqb a b h = none (a == b) (λ e. h (eqb-true a b e))
-  where
-    none : (p : Bool) → (p ≡ true → ⊥) → p ≡ false
-    none true g = absurd (g refl)
-    none false g = refl
-
 -- options of that order give this resolution, within any bound that they are shorter than
 abbrev pub Gives : ByteOrder → List ℕ → ℕ → Type 0
 Gives order options given = (more : ℕ) × (length options ≤ more) × (resolution_within more order options ≡ given)
@@ -90,7 +83,7 @@ pub gives-value : (order : ByteOrder) (options : List ℕ) (given : ℕ) → 4 �
 gives-value order options given long g end value =
     let o = gives-option order options given long g in
     let rest = resolution_within o.0 order (drop (4 + (word_in_order order options 2 + 3) / 4 * 4) options) in
-    sym (ap (λ p. cond p 6 (cond (word_in_order order options 0 == 9 && word_in_order order options 2 == 1) (slice_index options 4) rest)) (ne-eqb (word_in_order order options 0) 0 end)
+    sym (ap (λ p. cond p 6 (cond (word_in_order order options 0 == 9 && word_in_order order options 2 == 1) (slice_index options 4) rest)) (ne_eqb (word_in_order order options 0) 0 end)
     ∙ ap (λ p. cond p (slice_index options 4) rest) value) ∙ o.2
 
 pub gives-rest : (order : ByteOrder) (options : List ℕ) (given : ℕ) → 4 ≤ length options → Gives order options given
@@ -102,6 +95,6 @@ gives-rest order options given long g end value =
     let rest = resolution_within o.0 order (drop count options) in (
       o.0,
       omega (arith, o.1, length-drop count options),
-      sym (ap (λ p. cond p 6 (cond (word_in_order order options 0 == 9 && word_in_order order options 2 == 1) (slice_index options 4) rest)) (ne-eqb (word_in_order order options 0) 0 end)
+      sym (ap (λ p. cond p 6 (cond (word_in_order order options 0 == 9 && word_in_order order options 2 == 1) (slice_index options 4) rest)) (ne_eqb (word_in_order order options 0) 0 end)
           ∙ ap (λ p. cond p (slice_index options 4) rest) value) ∙ o.2,
     )
