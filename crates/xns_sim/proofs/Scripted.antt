@@ -1,7 +1,8 @@
 -- What stands once a script has read an input, after a fault and without one.
-use Rattle.std.proofs.Common.{◌≡◌, sym, refl, subst, ℕ, List, [], append-nil, Option, Some, None}
+use Rattle.std.proofs.Common.{◌≡◌, sym, refl, subst, ℕ, List, [], append-nil, Option, Some}
 use Rattle.std.specs.Prelude.{IfSome}
 use Rattle.std.specs.Io.KnownBytes.{Appends, Consumes}
+use Rattle.std.proofs.lemmas.Option.{IfSome_then}
 use Rattle.xns_script.specs.Reading.{HasReadLines}
 use Rattle.xns_script.specs.declared.script.Script.{Script}
 use Rattle.xns_sim.specs.declared.script_taker.ScriptTaker.{ScriptTaker}
@@ -12,10 +13,6 @@ use Rattle.xns_sim.specs.Sim.{LeavesWritten, SimStopsIn, script_lines, script_te
 use Rattle.xns_sim.specs.Sim.Script.{HasReadAll, never_fails, stands_for}
 use Rattle.xns_lines.specs.declared.fault.RunFault.{RunFault}
 use Rattle.xns_lines.specs.declared.fault.RunFault.TheVariants as fault
-
-pub if_some : (P X : List ℕ → Type 0) (o : Option (List ℕ)) → IfSome o P → ((input : List ℕ) → P input → X input) → IfSome o X
-if_some P X None p f = tt
-if_some P X (Some input) p f = f input p
 
 -- ---- reading
 
