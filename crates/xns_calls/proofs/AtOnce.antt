@@ -4,10 +4,11 @@ use Rattle.std.specs.Prelude.{not, OnOk, ◌&&◌, ◌||◌}
 use Rattle.std.specs.Option.{is_some}
 use Rattle.std.specs.List.{list_any}
 use Rattle.std.proofs.lemmas.Bool.Decides.{nat_tests}
+use Rattle.std.proofs.lemmas.Bool.{and_parts, eqb-true, le-ltb, not-true}
 use Rattle.xns_idp.specs.Packet.{PacketModel}
 use Rattle.xns_spp.specs.Header.{is_system}
 use Rattle.xns_spp.specs.declared.header.Header.{Header}
-use Rattle.xns_calls.specs.Exchange.{Scene, advance_other, advance_own, after_content, after_data, after_packet, after_told, begin_track, begun, brings_new, carried, is_repeat, other_reached, own_reached, reached, scene, take_number, told_of, unless_repeat, up_to, wants_memory}
+use Rattle.xns_calls.specs.Exchange.{Scene, advance_other, after_content, after_data, after_packet, after_told, begin_track, begun, brings_new, carried, is_repeat, other_reached, own_reached, reached, scene, take_number, told_of, unless_repeat, up_to, wants_memory}
 use Rattle.xns_calls.specs.Events.{after_events, captured_event}
 use Rattle.xns_calls.specs.Numbers.{most_early, near}
 use Rattle.xns_calls.specs.Queue.{kept, last_kept_number}
@@ -22,25 +23,11 @@ use Rattle.xns_calls.specs.declared.heading.Heading.{Heading}
 use Rattle.xns_calls.specs.declared.side.Side.{Side}
 use Rattle.xns_calls.specs.declared.track.Track.{Track}
 use Rattle.xns_lines.specs.declared.page.Page.{Page}
-use Rattle.xns_calls.proofs.Comparing.{equal_tells, lt_false}
 use Rattle.xns_calls.proofs.Known.{new_ordered}
 use Rattle.xns_calls.proofs.Ordered.{brought_same}
-use Rattle.xns_calls.proofs.Packets.{content_events, up_to_none}
-use Rattle.xns_calls.proofs.Wanted.{data_wants, none_brings}
+use Rattle.xns_calls.proofs.Packets.{content_events, none_own}
+use Rattle.xns_calls.proofs.Wanted.{data_wants, no_number, none_brings}
 use Rattle.xns_calls.proofs.Steps.{first_some, passed_same, with_early}
-
-both_true : (p q : Bool) → (p && q) ≡ true → (p ≡ true) × (q ≡ true)
-both_true true true e = (refl, refl)
-both_true true false e = (cc)
-both_true false q e = (cc)
-
-not_true : (p : Bool) → not p ≡ true → p ≡ false
-not_true true e = (cc)
-not_true false e = refl
-
-no_number : (o : Option ℕ) → is_some o ≡ false → o ≡ None
-no_number None e = refl
-no_number (Some n) e = (cc)
 
 no_items : (es : List Early) → (length es == 0) ≡ true → es ≡ []
 no_items [] test = refl
@@ -65,20 +52,12 @@ other_same : (h : Heading) (number : Option ℕ) (s : Scene) → keeps_none s.ot
 unfolding other_reached
 other_same h number s e = ap (λ o. advance_other h o s) (none_reached s.other.track number e)
 
-own_same : (h : Heading) (s : Scene) → own_reached h None s ≡ s
-unfolding own_reached
-own_same h s = by_track s.own.track
-  where
-    by_track : (o : Option Track) → advance_own h (reached o None) s ≡ s
-    by_track None = refl
-    by_track (Some track) = ap (λ o. advance_own h o s) (up_to_none (last_kept_number track.early))
-
 -- the item is the only one that is kept
 taken_once : (h : Heading) (n : ℕ) (item : Carried) (t : Told) → t.track.next ≡ n → t.track.early ≡ []
     → (after_events (captured_event h (Some n) item) t) ≡ with_early (record { number = n; item = item } ∷ []) t
 taken_once h n item t at none =
     let old : is_repeat n t.track ≡ false =
-    ap (λ p. p || list_any (λ (e : Early). e.number == n) t.track.early) (lt_false n t.track.next (omega (arith, at))) ∙ ap (λ es. list_any (λ (e : Early). e.number == n) es) none in
+    ap (λ p. p || list_any (λ (e : Early). e.number == n) t.track.early) (le-ltb n t.track.next (omega (arith, at))) ∙ ap (λ es. list_any (λ (e : Early). e.number == n) es) none in
     let same : brought h (n - most_early) t ≡ t = brought_same h (n - most_early) t (new_ordered t none) (omega (arith, at)) in
     ap (λ p. cond p t (item_taken h n item t)) old ∙ ap (with_kept_item n item) same ∙ ap (λ es. with_early es t) (ap (kept n item) none)
 
@@ -99,7 +78,7 @@ settled_once h given s track e at none quiet free =
     let x = after_told (with_early (e ∷ []) t) s in
     let few : kept_item_count x.own.track + kept_item_count x.other.track ≡ 1 = let c = none_count s.other.track quiet in omega (arith, c) in
     let line : readable x.own.track x.other.track given.other ≡ Some e.item.line =
-    ap (λ p. cond (not p && waits_for_none s.other.track given.other e.item.acknowledged) (Some e.item.line) None) (lt_false track.next e.number (omega (arith, at)))
+    ap (λ p. cond (not p && waits_for_none s.other.track given.other e.item.acknowledged) (Some e.item.line) None) (le-ltb track.next e.number (omega (arith, at)))
     ∙ ap (λ p. cond p (Some e.item.line) None) free in
     let turn : next_turn given x.own.track x.other.track ≡ Some false =
     ap (λ o. first_line o (readable x.other.track x.own.track given.own)) line ∙ ap (first_line (Some e.item.line)) (none_readable s.other.track x.own.track given.own quiet) in
@@ -115,25 +94,25 @@ once h due packet f content number s comes = by_track s.own.track refl comes
 
     at_once : (track : Track) → s.own.track ≡ Some track → near track.next f.sequence ≡ Some number → is_alone due f number track s.other.track ≡ true → Goal (Some track)
     at_once track is near_is e =
-        let parts = both_true ((not (is_system f) && not (is_some due.own)) && (number == track.next && length track.early == 0)) (keeps_none s.other.track && waits_for_none s.other.track due.given.other due.acknowledged) e in
-        let front = both_true (not (is_system f) && not (is_some due.own)) (number == track.next && length track.early == 0) parts.0 in
-        let kind = both_true (not (is_system f)) (not (is_some due.own)) front.0 in
-        let first = both_true (number == track.next) (length track.early == 0) front.1 in
-        let others = both_true (keeps_none s.other.track) (waits_for_none s.other.track due.given.other due.acknowledged) parts.1 in
+        let parts = and_parts ((not (is_system f) && not (is_some due.own)) && (number == track.next && length track.early == 0)) (keeps_none s.other.track && waits_for_none s.other.track due.given.other due.acknowledged) e in
+        let front = and_parts (not (is_system f) && not (is_some due.own)) (number == track.next && length track.early == 0) parts.0 in
+        let kind = and_parts (not (is_system f)) (not (is_some due.own)) front.0 in
+        let first = and_parts (number == track.next) (length track.early == 0) front.1 in
+        let others = and_parts (keeps_none s.other.track) (waits_for_none s.other.track due.given.other due.acknowledged) parts.1 in
         let none : track.early ≡ [] = no_items track.early first.1 in
-        let at : track.next ≡ number = sym (equal_tells number track.next first.0) in
+        let at : track.next ≡ number = sym (eqb-true number track.next first.0) in
         let item = carried h due.acknowledged f content in
         let early : Early = record { number = number; item = item } in
         let t = told_of track s in
         let kept_now : after_content h due.acknowledged packet f content s ≡ after_told (with_early (early ∷ []) t) s =
         content_events h due.acknowledged packet f content s track is
-        ∙ ap (λ p. after_told (after_events (cond p [] (captured_event h (near track.next f.sequence) item)) t) s) (not_true (is_system f) kind.0)
+        ∙ ap (λ p. after_told (after_events (cond p [] (captured_event h (near track.next f.sequence) item)) t) s) (not-true (is_system f) kind.0)
         ∙ ap (λ o. after_told (after_events (captured_event h o item) t) s) near_is
         ∙ ap (λ u. after_told u s) (taken_once h number item t at none) in
         ap (λ x. settled h due.given (own_reached h due.own (after_content h due.acknowledged packet f content x))) (other_same h due.other s others.0)
         ∙ ap (λ x. settled h due.given (own_reached h due.own x)) kept_now
-        ∙ ap (λ o. settled h due.given (own_reached h o (after_told (with_early (early ∷ []) t) s))) (no_number due.own (not_true (is_some due.own) kind.1))
-        ∙ ap (settled h due.given) (own_same h (after_told (with_early (early ∷ []) t) s))
+        ∙ ap (λ o. settled h due.given (own_reached h o (after_told (with_early (early ∷ []) t) s))) (no_number due.own (not-true (is_some due.own) kind.1))
+        ∙ ap (settled h due.given) (none_own h (after_told (with_early (early ∷ []) t) s))
         ∙ settled_once h due.given s track early at none others.0 others.1
 
     by_alone : (track : Track) → s.own.track ≡ Some track → (n : ℕ) → near track.next f.sequence ≡ Some n → (p : Bool) → is_alone due f n track s.other.track ≡ p → cond p (Some n) None ≡ Some number → Goal (Some track)
@@ -161,17 +140,17 @@ once_wants due f number own other page comes = by_track own.track refl comes
   where
     wanted : (track : Track) → own.track ≡ Some track → near track.next f.sequence ≡ Some number → is_alone due f number track other.track ≡ true → wants_memory due f (scene own other page) ≡ true
     wanted track is near_is e =
-        let parts = both_true ((not (is_system f) && not (is_some due.own)) && (number == track.next && length track.early == 0)) (keeps_none other.track && waits_for_none other.track due.given.other due.acknowledged) e in
-        let front = both_true (not (is_system f) && not (is_some due.own)) (number == track.next && length track.early == 0) parts.0 in
-        let kind = both_true (not (is_system f)) (not (is_some due.own)) front.0 in
-        let first = both_true (number == track.next) (length track.early == 0) front.1 in
+        let parts = and_parts ((not (is_system f) && not (is_some due.own)) && (number == track.next && length track.early == 0)) (keeps_none other.track && waits_for_none other.track due.given.other due.acknowledged) e in
+        let front = and_parts (not (is_system f) && not (is_some due.own)) (number == track.next && length track.early == 0) parts.0 in
+        let kind = and_parts (not (is_system f)) (not (is_some due.own)) front.0 in
+        let first = and_parts (number == track.next) (length track.early == 0) front.1 in
         let none : track.early ≡ [] = no_items track.early first.1 in
-        let at : track.next ≡ number = sym (equal_tells number track.next first.0) in
+        let at : track.next ≡ number = sym (eqb-true number track.next first.0) in
         let old : is_repeat number track ≡ false =
-        ap (λ p. p || list_any (λ (x : Early). x.number == number) track.early) (lt_false number track.next (omega (arith, at))) ∙ ap (λ es. list_any (λ (x : Early). x.number == number) es) none in
+        ap (λ p. p || list_any (λ (x : Early). x.number == number) track.early) (le-ltb number track.next (omega (arith, at))) ∙ ap (λ es. list_any (λ (x : Early). x.number == number) es) none in
         let new : brings_new own.track f.sequence ≡ true =
         ap (λ o. brings_new o f.sequence) is ∙ ap (λ o. is_some (unless_repeat track o)) near_is ∙ ap (λ p. is_some (cond p None (Some number))) old in
-        data_wants due f own other page (not_true (is_system f) kind.0) new
+        data_wants due f own other page (not-true (is_system f) kind.0) new
 
     by_alone : (track : Track) → own.track ≡ Some track → (n : ℕ) → near track.next f.sequence ≡ Some n → (p : Bool) → is_alone due f n track other.track ≡ p → cond p (Some n) None ≡ Some number → wants_memory due f (scene own other page) ≡ true
     by_alone track is n near_is false e some = (cc)
@@ -223,17 +202,17 @@ begun_first h due packet f content s plain quiet =
 pub on_ok_begun : {T E : Type 0} (r : Result T E) (h : Heading) (due : Due) (packet : PacketModel) (f : Header) (content : List ℕ) (s b u : Scene) → begins_first f s.own.track s.other.track ≡ true
     → b ≡ begun h packet f s → OnOk r (u ≡ handled h due packet f content b) → OnOk r (u ≡ handled h due packet f content s)
 on_ok_begun (Ok x) h due packet f content s b u first is e =
-    let both = both_true (not (is_system f) && not (is_some s.own.track)) (keeps_none s.other.track) first in
-    let kind = both_true (not (is_system f)) (not (is_some s.own.track)) both.0 in
-    e ∙ ap (handled h due packet f content) is ∙ begun_first h due packet f content s (not_true (is_system f) kind.0) both.1
+    let both = and_parts (not (is_system f) && not (is_some s.own.track)) (keeps_none s.other.track) first in
+    let kind = and_parts (not (is_system f)) (not (is_some s.own.track)) both.0 in
+    e ∙ ap (handled h due packet f content) is ∙ begun_first h due packet f content s (not-true (is_system f) kind.0) both.1
 on_ok_begun (Err x) h due packet f content s b u first is e = tt
 
 -- a data packet that begins its flow wants memory
 pub first_wants : (due : Due) (f : Header) (own other : Side) (page : Page) → begins_first f own.track other.track ≡ true → wants_memory due f (scene own other page) ≡ true
 first_wants due f own other page first =
-    let both = both_true (not (is_system f) && not (is_some own.track)) (keeps_none other.track) first in
-    let kind = both_true (not (is_system f)) (not (is_some own.track)) both.0 in
-    data_wants due f own other page (not_true (is_system f) kind.0) (none_brings own f.sequence (not_begun own.track (not_true (is_some own.track) kind.1)))
+    let both = and_parts (not (is_system f) && not (is_some own.track)) (keeps_none other.track) first in
+    let kind = and_parts (not (is_system f)) (not (is_some own.track)) both.0 in
+    data_wants due f own other page (not-true (is_system f) kind.0) (none_brings own f.sequence (not_begun own.track (not-true (is_some own.track) kind.1)))
   where
     not_begun : (o : Option Track) → is_some o ≡ false → o ≡ None
     not_begun None e = refl

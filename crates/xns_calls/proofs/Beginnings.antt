@@ -3,6 +3,7 @@ use Rattle.std.proofs.Common.{◌≡◌, ◌∙◌, ap, sym, refl, subst, ℕ, �
 use Rattle.std.specs.Prelude.{slice_get, slice_set}
 use Rattle.xns_calls.specs.Read.{settled}
 use Rattle.std.proofs.lemmas.Grind.{flat_map-append}
+use Rattle.std.proofs.lemmas.Bool.{eqb-false, eqb-true}
 use Rattle.xns_idp.specs.Packet.{PacketModel}
 use Rattle.xns_spp.specs.Header.{is_system}
 use Rattle.xns_spp.specs.declared.header.Header.{Header}
@@ -23,12 +24,11 @@ use Rattle.xns_calls.proofs.AtLines.{both_at}
 use Rattle.xns_calls.proofs.Whole.{after_append}
 use Rattle.xns_calls.proofs.EndReads.{ends_say, other_ends_rest, own_ends_rest}
 use Rattle.xns_calls.proofs.Fits.{Fits, fits_on}
-use Rattle.xns_calls.proofs.Comparing.{equal_tells}
 use Rattle.xns_calls.proofs.Onwards.{Rests, other_settles, own_settles, settled_says}
 use Rattle.xns_calls.proofs.Begun.{IsOn}
 use Rattle.xns_calls.proofs.Happenings.{repeated_own, repeated_parts, repeated_text, settled_step, settled_text}
 use Rattle.xns_calls.proofs.Renewals.{IsPlain, new_there, none_acknowledged, none_due, none_new}
-use Rattle.xns_calls.proofs.Parts.{flow_at, joined_own, number_tells, plain}
+use Rattle.xns_calls.proofs.Parts.{flow_at, joined_own, plain}
 use Rattle.xns_calls.proofs.Numbered.{AllKeep, IsNumbered, keep_more, keep_set, numbered_more, numbered_renewed, numbered_taken, same_number}
 use Rattle.xns_calls.proofs.Others.{get_last, get_same}
 use Rattle.xns_calls.proofs.Places.{place_there}
@@ -74,11 +74,11 @@ there_rests : (n : Origin) (m i : ℕ) (b q : Bool) (c : Connection) (k : Known)
 there_rests n m i b q c k there all = by_number (m == c.number) refl
   where
     by_number : (p : Bool) → (m == c.number) ≡ p → Awaits m b k.text (settled_there n i q (Some c) k) [] None
-    by_number true e = sides_rest n m i b q c k there all (equal_tells m c.number e)
+    by_number true e = sides_rest n m i b q c k there all (eqb-true m c.number e)
     by_number false e =
         let v = settled_says n c.number q (given_in q c) (scene_in q c k) in record {
           none = keep_set m b k.connections i (with_scene q (settled (heading_at n c.number q) (given_in q c) (scene_in q c k)) c) None all
-              (λ is. absurd (number_tells m c.number e (sym is ∙ same_number q _ c)));
+              (λ is. absurd (eqb-false m c.number e (sym is ∙ same_number q _ c)));
           nothing = refl;
           later = refl;
           parts = v.parts;
@@ -222,30 +222,25 @@ forget_waits n m i b flow c k there all = by_number (m == c.number) refl
     still_none : AllKeep m b (forgotten n i flow c k).connections None
     still_none = keep_set m b k.connections i (new_connection (k.count + 1) flow) None all (λ is. none_new b (k.count + 1) flow)
 
+    waits_by : (b : Bool) (s s' : Scene) → AllKeep c.number b (forgotten n i flow c k).connections None → (side_in b c).track ≡ None → s.text ≡ k.text → (forgotten n i flow c k).text ≡ s'.text
+        → Rests c.number b s s' → Awaits c.number b k.text (forgotten n i flow c k) (acknowledged_event (heading_at n c.number b) (behind_last (side_in b c).track)) None
+    waits_by b s s' still none before after w = record {
+      none = still;
+      nothing = ap (λ o. acknowledged_event (heading_at n c.number b) (behind_last o)) none;
+      later = refl;
+      parts = w.parts;
+      text = after ∙ w.text ∙ ap (λ z. z ++ parts_text w.parts) before;
+      own = w.own;
+    }
+
     waits_near : (b : Bool) → AllKeep c.number b (forgotten n i flow c k).connections None → (side_in b c).track ≡ None
         → Awaits c.number b k.text (forgotten n i flow c k) (acknowledged_event (heading_at n c.number b) (behind_last (side_in b c).track)) None
-    waits_near true still none =
-        let w = other_ends_rest n c.number false (scene_in false c k) none in record {
-          none = still;
-          nothing = ap (λ o. acknowledged_event (heading_at n c.number true) (behind_last o)) none;
-          later = refl;
-          parts = w.parts;
-          text = w.text;
-          own = w.own;
-        }
-    waits_near false still none =
-        let w = own_ends_rest n c.number false (scene_in false c k) none in record {
-          none = still;
-          nothing = ap (λ o. acknowledged_event (heading_at n c.number false) (behind_last o)) none;
-          later = refl;
-          parts = w.parts;
-          text = w.text;
-          own = w.own;
-        }
+    waits_near true still none = waits_by true _ _ still none refl refl (other_ends_rest n c.number false (scene_in false c k) none)
+    waits_near false still none = waits_by false _ _ still none refl refl (own_ends_rest n c.number false (scene_in false c k) none)
 
     by_number : (p : Bool) → (m == c.number) ≡ p → Awaits m b k.text (forgotten n i flow c k) (cond p (acknowledged_event (heading_at n m b) (behind_last (side_in b c).track)) []) None
     by_number true e =
-        let same : m ≡ c.number = equal_tells m c.number e in
+        let same : m ≡ c.number = eqb-true m c.number e in
         subst (λ g. Awaits g b k.text (forgotten n i flow c k) (acknowledged_event (heading_at n g b) (behind_last (side_in b c).track)) None) (sym same)
         (waits_near b (subst (λ g. AllKeep g b (forgotten n i flow c k).connections None) same still_none) (all i c there (sym same)))
     by_number false e =

@@ -52,25 +52,21 @@ stands_behind i true f c s k e u ordered track is = record { place = i; connecti
 stands_behind i false f c s k e u ordered track is = record { place = i; connection = with_scene false s (noted_beside false f c); there = get_same k.connections i c (with_scene false s (noted_beside false f c)) e; number = refl; track = track; is = is; ordered = ordered }
 
 -- where its connection stays
+still_as : (m : ℕ) (b : Bool) (k k' : Known) (t u : Told) → (a : IsAt m b k t) → slice_get k'.connections a.place ≡ slice_get k.connections a.place
+    → (scene_in b a.connection k').own.track ≡ Some u.track → u ≡ told_of u.track (scene_in b a.connection k') → IsOrdered u → IsAt m b k' u
+still_as m b k k' t u a same track is ordered = record {
+  place = a.place;
+  connection = a.connection;
+  there = same ∙ a.there;
+  number = a.number;
+  track = track;
+  is = is;
+  ordered = ordered;
+}
+
 pub still : (m : ℕ) (b : Bool) (k k' : Known) (t : Told) → (a : IsAt m b k t) → slice_get k'.connections a.place ≡ slice_get k.connections a.place → IsAt m b k' (with_others t.calls k'.text k'.is_refused t)
-still m true k k' t a same = record {
-  place = a.place;
-  connection = a.connection;
-  there = same ∙ a.there;
-  number = a.number;
-  track = a.track;
-  is = ap (λ (x : Told). with_others x.calls k'.text k'.is_refused t) a.is;
-  ordered = a.ordered;
-}
-still m false k k' t a same = record {
-  place = a.place;
-  connection = a.connection;
-  there = same ∙ a.there;
-  number = a.number;
-  track = a.track;
-  is = ap (λ (x : Told). with_others x.calls k'.text k'.is_refused t) a.is;
-  ordered = a.ordered;
-}
+still m true k k' t a same = still_as m true k k' t _ a same a.track (ap (λ (x : Told). with_others x.calls k'.text k'.is_refused t) a.is) a.ordered
+still m false k k' t a same = still_as m false k k' t _ a same a.track (ap (λ (x : Told). with_others x.calls k'.text k'.is_refused t) a.is) a.ordered
 
 -- ---- a packet, for a flow that has begun
 

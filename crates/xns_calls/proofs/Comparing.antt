@@ -1,7 +1,7 @@
 -- What comparisons of numbers tell.
-use Rattle.std.proofs.Common.{◌≡◌, refl, arith, ℕ, ◌+◌, ◌<◌, ◌≤◌, ◌==◌, Bool, true, false, cond}
+use Rattle.std.proofs.Common.{◌≡◌, refl, arith, ℕ, ◌+◌, ◌<◌, ◌≤◌, Bool, true, false, cond}
 use Rattle.std.specs.Prelude.{nat_lt}
-use Rattle.std.proofs.lemmas.Bool.Decides.{nat_tests}
+use Rattle.std.proofs.lemmas.Bool.{ltb-false, ltb-true}
 
 pub by_test : {A : Type 0} (P : A → Type 0) (p : Bool) (a b : A) → (p ≡ true → P a) → (p ≡ false → P b) → P (cond p a b)
 by_test P true a b f g = f refl
@@ -11,37 +11,16 @@ pub by_both : {A B : Type 0} (P : A → B → Type 0) (p : Bool) (a b : A) (x y 
 by_both P true a b x y f g = f refl
 by_both P false a b x y f g = g refl
 
-pub lt_false : (a b : ℕ) → b ≤ a → nat_lt a b ≡ false
-lt_false a b le = grind (arith, nat_tests)
-
-pub lt_true : (a b : ℕ) → a < b → nat_lt a b ≡ true
-lt_true a b lt = grind (arith, nat_tests)
-
-pub lt_tells : (a b : ℕ) → nat_lt a b ≡ true → a < b
-lt_tells a b e = grind (arith, nat_tests)
-
-pub le_tells : (a b : ℕ) → nat_lt a b ≡ false → b ≤ a
-le_tells a b e = grind (arith, nat_tests)
-
-equal_false : (a b : ℕ) → b < a → (a == b) ≡ false
-equal_false a b lt = grind (arith, nat_tests)
-
-pub equal_tells : (a b : ℕ) → (a == b) ≡ true → a ≡ b
-equal_tells a b e = grind (arith, nat_tests)
-
-pub equal_true : (a b : ℕ) → a ≡ b → (a == b) ≡ true
-equal_true a b e = grind (arith, nat_tests)
-
 pub other_than : (a b : ℕ) → (a ≡ b → ⊥) → b ≤ a → b + 1 ≤ a
 other_than a b other le = by_order (nat_lt b a) refl
   where
     by_order : (p : Bool) → nat_lt b a ≡ p → b + 1 ≤ a
-    by_order true more = omega (arith, lt_tells b a more)
-    by_order false less = absurd (other (omega (arith, le, le_tells b a less)))
+    by_order true more = omega (arith, ltb-true b a more)
+    by_order false less = absurd (other (omega (arith, le, ltb-false b a less)))
 
 pub not_less : (a b : ℕ) → (a < b → ⊥) → b ≤ a
 not_less a b never = by_order (nat_lt a b) refl
   where
     by_order : (p : Bool) → nat_lt a b ≡ p → b ≤ a
-    by_order true lt = absurd (never (lt_tells a b lt))
-    by_order false le = le_tells a b le
+    by_order true lt = absurd (never (ltb-true a b lt))
+    by_order false le = ltb-false a b le

@@ -1,8 +1,9 @@
 -- What takes effect with a packet is what the packet 64 before it acknowledged ahead.
-use Rattle.std.proofs.Common.{◌≡◌, ◌∙◌, ap, sym, refl, subst, arith, ℕ, zero, suc, ◌+◌, ◌-◌, ◌<◌, ◌≤◌, ◌==◌, true, false, cond, List, [], ◌∷◌, ◌++◌, length, take, drop, append_assoc, append-nil, length-append, Option, Some, None}
-use Rattle.std.specs.Prelude.{nat_lt, slice_get, slice_index_or, slice_set}
+use Rattle.std.proofs.Common.{◌≡◌, ◌∙◌, ap, sym, refl, subst, arith, ℕ, zero, suc, ◌+◌, ◌-◌, ◌<◌, ◌≤◌, ◌==◌, false, cond, List, [], ◌∷◌, ◌++◌, length, take, drop, append_assoc, append-nil, length-append, Option, Some, None}
+use Rattle.std.specs.Prelude.{slice_get, slice_index_or, slice_set}
 use Rattle.std.specs.Option.{unwrap_or}
 use Rattle.std.proofs.lemmas.Bool.Decides.{nat_tests}
+use Rattle.std.proofs.lemmas.Bool.{le-ltb, lt-ltb}
 use Rattle.xns_calls.specs.Acknowledged.{ago, effective, kept_behind, nearer, one_nearer, waiting, with_ahead}
 use Rattle.xns_calls.specs.declared.ahead.Ahead.{Ahead}
 
@@ -75,17 +76,11 @@ entries_few l (Some n ∷ qs) = let few = entries_few (l + 1) qs in omega (arith
 abbrev at_place : List (Option ℕ) → ℕ → Option ℕ
 at_place xs i = unwrap_or (slice_get xs i) None
 
-less_true : (a b : ℕ) → a < b → nat_lt a b ≡ true
-less_true a b lt = grind (arith, nat_tests)
-
-less_false : (a b : ℕ) → b ≤ a → nat_lt a b ≡ false
-less_false a b le = grind (arith, nat_tests)
-
 ago_none : (xs : List (Option ℕ)) → length xs < 64 → ago xs ≡ None
-ago_none xs lt = ap (λ p. cond p None (at_place xs (length xs - 64))) (less_true (length xs) 64 lt)
+ago_none xs lt = ap (λ p. cond p None (at_place xs (length xs - 64))) (lt-ltb (length xs) 64 lt)
 
 ago_at : (xs : List (Option ℕ)) → 64 ≤ length xs → ago xs ≡ at_place xs (length xs - 64)
-ago_at xs le = ap (λ p. cond p None (at_place xs (length xs - 64))) (less_false (length xs) 64 le)
+ago_at xs le = ap (λ p. cond p None (at_place xs (length xs - 64))) (le-ltb (length xs) 64 le)
 
 ago_first : (q : Option ℕ) (qs : List (Option ℕ)) → length qs ≡ 63 → ago (q ∷ qs) ≡ q
 ago_first q qs e = let at : length (q ∷ qs) - 64 ≡ 0 = omega (arith, e) in ago_at (q ∷ qs) (omega (arith, e)) ∙ ap (at_place (q ∷ qs)) at

@@ -2,6 +2,8 @@
 use Rattle.std.proofs.Common.{◌≡◌, ◌∙◌, ap, sym, refl, subst, arith, inl, inr, ℕ, zero, suc, ◌+◌, ◌<◌, ◌≤◌, ◌==◌, Bool, true, false, List, [], ◌∷◌, ◌++◌, length, append-nil, Option, Some, None}
 use Rattle.std.specs.Prelude.{nat_lt, slice_get, slice_set}
 use Rattle.std.proofs.lemmas.Grind.{flat_map-append}
+use Rattle.std.proofs.lemmas.Bool.{eqb-false, eqb-true, ltb-false, ltb-true}
+use Rattle.std.proofs.lemmas.Option.{slice_get_within}
 use Rattle.xns_spp.specs.Ends.{most_pending}
 use Rattle.xns_spp.specs.declared.item.Item.{Item}
 use Rattle.courier_messages.specs.Conversation.{conversation, ending, opening}
@@ -27,20 +29,19 @@ use Rattle.xns_calls.proofs.FirstLines.{lines_met}
 use Rattle.xns_calls.proofs.AtLines.{AreAt, AreBetween, last_between, line_heading, told_between}
 use Rattle.xns_calls.proofs.EndReads.{ended_scene, ends_say, flow_ends, flow_left, scene_seen, seen_by}
 use Rattle.xns_calls.proofs.Fits.{fits_whole}
-use Rattle.xns_calls.proofs.Comparing.{equal_tells, le_tells, lt_tells}
 use Rattle.xns_calls.proofs.Known.{events_ordered}
 use Rattle.xns_calls.proofs.Ordered.{IsOrdered}
 use Rattle.xns_calls.proofs.Begun.{IsAt, IsGone, IsOn, still}
-use Rattle.xns_calls.proofs.Happenings.{gone_set, other_place}
+use Rattle.xns_calls.proofs.Happenings.{far_stays, flow_here, gone_set}
 use Rattle.xns_calls.proofs.LastKept.{AreAcks, AreBelow}
 use Rattle.xns_calls.proofs.Onwards.{Says}
 use Rattle.xns_calls.proofs.Inputs.{from_front, numbered_from}
-use Rattle.xns_calls.proofs.Parts.{flow_at, joined_own, number_tells, plain, plain_whole}
+use Rattle.xns_calls.proofs.Parts.{flow_at, joined_own, plain, plain_whole}
 use Rattle.xns_calls.proofs.Numbered.{AllKeep, IsNumbered, numbered_none, numbered_set}
 use Rattle.xns_calls.proofs.Others.{get_same, get_set}
 use Rattle.xns_calls.proofs.Steps.{early_of}
 use Rattle.xns_calls.proofs.Places.{plain_places}
-use Rattle.xns_calls.proofs.Whole.{after_append, first_of, get_below, whole_said}
+use Rattle.xns_calls.proofs.Whole.{after_append, first_of, whole_said}
 use Rattle.xns_calls.proofs.WholeEnds.{acks_whole, whole_below}
 use Rattle.xns_calls.specs.declared.origin.Origin.{Origin}
 use Rattle.xns_calls.specs.Origins.{line_origin}
@@ -133,17 +134,13 @@ there_end n m i b c k t numbered there on = by_number (m == c.number) refl on
 
     by_number : (p : Bool) → (m == c.number) ≡ p → IsOn m b k t → EndStep n m i b k (ended_there n i (Some c) k) t
     by_number true e (inl a) =
-        let place : a.place ≡ i = numbered.alone a.place i a.connection c a.there there (a.number ∙ equal_tells m c.number e) in
-        let some : Some a.connection ≡ Some c = sym a.there ∙ ap (slice_get k.connections) place ∙ there in
-        let one : a.connection ≡ c = (cc) in
-        let track : (scene_in b c k).own.track ≡ Some t.track = ap (λ (x : Connection). (scene_in b x k).own.track) (sym one) ∙ a.track in
-        let is : t ≡ told_of t.track (scene_in b c k) = a.is ∙ ap (λ (x : Connection). told_of t.track (scene_in b x k)) one in
-        subst (λ g. EndStep n g i b k (ended_there n i (Some c) k) t) (sym (equal_tells m c.number e)) (near_end n i b c k t there a.ordered track is)
-    by_number true e (inr gone) = absurd (gone.none i c there (sym (equal_tells m c.number e)))
+        let here = flow_here m i b c k t numbered there a (eqb-true m c.number e) in
+        subst (λ g. EndStep n g i b k (ended_there n i (Some c) k) t) (sym (eqb-true m c.number e)) (near_end n i b c k t there a.ordered here.0 here.1)
+    by_number true e (inr gone) = absurd (gone.none i c there (sym (eqb-true m c.number e)))
     by_number false e (inl a) =
         step_far n m i b k (ended_there n i (Some c) k) t says.parts says.text (says.far m b e) a
-        (get_set k.connections a.place i c' (other_place k a.place i a.connection c a.there there (λ same. number_tells m c.number e (sym a.number ∙ same))))
-        (other_here (number_tells m c.number e))
+        (far_stays m i b c c' k t there a (eqb-false m c.number e))
+        (other_here (eqb-false m c.number e))
     by_number false e (inr gone) =
         step_gone n m i b k (ended_there n i (Some c) k) t says.parts says.text (says.far m b e)
         (record { counted = gone.counted; none = gone_set m i k c c' t gone there refl; empty = gone.empty })
@@ -206,8 +203,8 @@ less : (j i : ℕ) → j < suc i → (j ≡ i → ⊥) → j < i
 less j i lt other = by_order (nat_lt j i) refl
   where
     by_order : (p : Bool) → nat_lt j i ≡ p → j < i
-    by_order true e = lt_tells j i e
-    by_order false e = let le : i ≤ j = le_tells j i e in absurd (other (omega (arith, lt, le)))
+    by_order true e = ltb-true j i e
+    by_order false e = let le : i ≤ j = ltb-false j i e in absurd (other (omega (arith, lt, le)))
 
 goes_one : (at_line : ℕ → Heading) (last : ℕ) (n : Origin) (items : List Item) (m : ℕ) (b : Bool) (start : Told) (line text : List ℕ) (before : Known) (count part : ℕ) → 1 ≤ last → at_line last ≡ heading_at n m b → start.track ≡ record { next = 0; early = []; speech = Hearing (opening []) }
     → Goes at_line last items m b start line text before count part
@@ -238,9 +235,9 @@ goes_one at_line last n items m b start line text before count part some is firs
         (j : ℕ) (c : Connection) → (slice_get before.connections j ≡ Some c → c.number ≡ m → j < part → t.track.early ≡ [])
         → slice_get (after_end n part (record before { text = [] })).connections j ≡ Some c → c.number ≡ m → j < suc part → (p : Bool) → (j == part) ≡ p
         → (after_events v.events t).track.early ≡ []
-    by_place v j c old there is lt true e = v.done c (subst (λ i. slice_get (after_end n part (record before { text = [] })).connections i ≡ Some c) (equal_tells j part e) there) is
+    by_place v j c old there is lt true e = v.done c (subst (λ i. slice_get (after_end n part (record before { text = [] })).connections i ≡ Some c) (eqb-true j part e) there) is
     by_place v j c old there is lt false e =
-        let other = number_tells j part e in
+        let other = eqb-false j part e in
         v.keeps (old (sym (end_others n part j (record before { text = [] }) other) ∙ there) is (less j part lt other))
 
 module _ (programs : Programs) where
@@ -258,7 +255,7 @@ none_at_first m b i c there is = (cc)
 -- nothing is kept at the end
 all_ended : (m : ℕ) (b : Bool) (k : Known) (t : Told) (count : ℕ) → length k.connections ≡ count → IsOn m b k t
     → ((j : ℕ) (c : Connection) → slice_get k.connections j ≡ Some c → c.number ≡ m → j < count → t.track.early ≡ []) → t.track.early ≡ []
-all_ended m b k t count long (inl a) done = done a.place a.connection a.there a.number (subst (λ x. a.place < x) long (get_below k.connections a.place a.connection a.there))
+all_ended m b k t count long (inl a) done = done a.place a.connection a.there a.number (subst (λ x. a.place < x) long (slice_get_within k.connections a.place a.connection a.there))
 all_ended m b k t count long (inr gone) done = gone.empty
 
 -- a flow that begins does so with a line

@@ -1,6 +1,6 @@
 -- What is said of a flow and of a connection has the word `refused` exactly where the flag is set with it.
 use Rattle.std.proofs.Common.{◌≡◌, ◌∙◌, ap, sym, refl, ℕ, zero, suc, ◌+◌, ◌-◌, ◌==◌, ◌||◌, Bool, true, false, List, [], ◌∷◌, ◌++◌, Option, Some, None}
-use Rattle.std.proofs.Math.Bool.{or-false, or_assoc}
+use Rattle.std.proofs.Math.Bool.{or-false, or-true, or_assoc}
 use Rattle.std.specs.Prelude.{nat_lt}
 use Rattle.xns_idp.specs.Packet.{PacketModel}
 use Rattle.xns_spp.specs.Header.{is_system}
@@ -39,10 +39,6 @@ pub record Says (b : Bool) (text : List ℕ) (flag : Bool) : Type 0 where
   pub flag_is : flag ≡ (b || new)
   pub tells : Tells new text
 
-or_true : (b : Bool) → true ≡ (b || true)
-or_true true = refl
-or_true false = refl
-
 abbrev SaysTold : Bool → Told → Type 0
 SaysTold b t = Says b t.text t.is_refused
 
@@ -77,7 +73,7 @@ module _ (joined : JoinedTextsSayRefused) (only : OnlyRefusalsSayRefused) where
   unfolding Tells
   says_loud b text more flag s l = record {
     new = s.new || true;
-    flag_is = or_true b ∙ ap (λ c. b || c) (or_true s.new);
+    flag_is = sym (or-true b) ∙ ap (λ c. b || c) (sym (or-true s.new));
     tells = tells_both s.new true text more s.tells l;
   }
 

@@ -1,6 +1,7 @@
 -- Where each item is captured before it is waited for no longer, none is missing.
 use Rattle.std.proofs.Common.{◌≡◌, ◌∙◌, ap, sym, refl, subst, arith, ℕ, ◌+◌, ◌-◌, ◌<◌, ◌≤◌, ◌⊎◌, inl, inr, Bool, true, false, cond, List, [], ◌∷◌, Option, Some, None}
 use Rattle.std.specs.Prelude.{nat_lt, min}
+use Rattle.std.proofs.lemmas.Bool.{ltb-false, ltb-true}
 use Rattle.xns_calls.specs.declared.early.Early.{Early}
 use Rattle.xns_calls.specs.declared.heading.Heading.{Heading}
 use Rattle.xns_calls.specs.Events.{AreWithinReach, Event, IsAmong, IsLate, acknowledged, after_event, after_events, after_whole_event, after_whole_events, brought_if, captured, meanwhile, read, read_below, read_below_if, read_below_over, read_first_over, with_captured}
@@ -9,7 +10,6 @@ use Rattle.xns_calls.specs.Numbers.{most_early}
 use Rattle.xns_calls.specs.Queue.{below, last_kept_number}
 use Rattle.xns_calls.specs.Reading.{Told, brought, brought_over, first_read, first_read_over, item_read, passed, read_next}
 use Rattle.xns_calls.proofs.Steps.{early_of, passed_same, read_early, with_early}
-use Rattle.xns_calls.proofs.Comparing.{le_tells, lt_tells}
 use Rattle.xns_calls.proofs.Known.{event_known, event_ordered, known_step, new_ordered, with_item}
 use Rattle.xns_calls.proofs.Ordered.{AreFrom, IsKnown, IsOrdered, Kept, item_next, next_of, none_below}
 
@@ -28,15 +28,15 @@ at_end : (next n : ℕ) → AreKept next n [] → n ≤ next
 at_end next n all = by_order (nat_lt next n) refl
   where
     by_order : (p : Bool) → nat_lt next n ≡ p → n ≤ next
-    by_order true lt = absurd (all next (omega arith) (lt_tells next n lt))
-    by_order false le = le_tells next n le
+    by_order true lt = absurd (all next (omega arith) (ltb-true next n lt))
+    by_order false le = ltb-false next n le
 
 at_next : (next n : ℕ) (e : Early) (rest : List Early) → AreFrom next (e ∷ rest) → AreKept next n (e ∷ rest) → n ≤ e.number → n ≤ next
 at_next next n e rest from all le = by_order (nat_lt next n) refl
   where
     by_order : (p : Bool) → nat_lt next n ≡ p → n ≤ next
-    by_order true lt = let is : e.number ≡ next = kept_next next e rest from (all next (omega arith) (lt_tells next n lt)) in let less : next < n = lt_tells next n lt in absurd (omega (arith, is, less, le))
-    by_order false e' = le_tells next n e'
+    by_order true lt = let is : e.number ≡ next = kept_next next e rest from (all next (omega arith) (ltb-true next n lt)) in let less : next < n = ltb-true next n lt in absurd (omega (arith, is, less, le))
+    by_order false e' = ltb-false next n e'
 
 pub rest_kept : (n : ℕ) (e : Early) (rest : List Early) → AreKept e.number n (e ∷ rest) → AreKept (e.number + 1) n rest
 rest_kept n e rest all m least lt = not_first (all m (omega (arith, least)) lt)
@@ -62,14 +62,14 @@ whole_over h n (e ∷ rest) t same from all = by_order (nat_lt e.number n) refl 
     by_order : (p : Bool) → nat_lt e.number n ≡ p → (AreFrom (next_of u) rest → AreKept (next_of u) n rest → brought_over h n rest u ≡ read_below_over h n rest u)
         → cond p (brought_over h n rest u) (passed h n t) ≡ cond p (read_below_over h n rest v) t
     by_order true below more =
-        let lt : e.number < n = lt_tells e.number n below in
+        let lt : e.number < n = ltb-true e.number n below in
         let is : e.number ≡ next_of t = kept_next (next_of t) e rest from (all (next_of t) (omega arith) (omega (arith, lt, from.0))) in
         let nothing : u ≡ v = ap (read_next h (e.number + 1) e.item.item) (passed_same h e.number left (omega (arith, is))) in
         let next : next_of u ≡ e.number + 1 = item_next h e left in
         more (subst (λ k. AreFrom k rest) (sym next) from.1)
         (subst (λ k. AreKept k n rest) (sym next) (rest_kept n e rest (subst (λ k. AreKept k n (e ∷ rest)) (sym is) all)))
         ∙ ap (read_below_over h n rest) nothing
-    by_order false above more = passed_same h n t (at_next (next_of t) n e rest from all (le_tells e.number n above))
+    by_order false above more = passed_same h n t (at_next (next_of t) n e rest from all (ltb-false e.number n above))
 
 pub brought_whole : (h : Heading) (n : ℕ) (t : Told) → IsOrdered t → AreKept (next_of t) n (early_of t) → brought h n t ≡ read_below h n t
 unfolding brought
@@ -83,7 +83,7 @@ first_whole_over h (e ∷ rest) t from = by_order (nat_lt (next_of t) e.number) 
     by_order : (p : Bool) → nat_lt (next_of t) e.number ≡ p
         → cond p t (item_read h e (with_early rest t)) ≡ cond p t (read_next h (e.number + 1) e.item.item (with_early rest t))
     by_order true later = refl
-    by_order false due = ap (read_next h (e.number + 1) e.item.item) (passed_same h e.number (with_early rest t) (le_tells (next_of t) e.number due))
+    by_order false due = ap (read_next h (e.number + 1) e.item.item) (passed_same h e.number (with_early rest t) (ltb-false (next_of t) e.number due))
 
 pub first_whole : (h : Heading) (t : Told) → IsOrdered t → first_read h t ≡ read_first_over h t.track.early t
 unfolding first_read
@@ -105,8 +105,8 @@ late_kept first before t low known L late m le l = by_order (nat_lt m first) ref
     not_read (inr k) = k
 
     by_order : (p : Bool) → nat_lt m first ≡ p → Kept m (early_of t)
-    by_order true lt = not_read (low m (lt_tells m first lt))
-    by_order false up = not_read (known m (late m (le_tells m first up) l))
+    by_order true lt = not_read (low m (ltb-true m first lt))
+    by_order false up = not_read (known m (late m (ltb-false m first up) l))
 
 acknowledged_whole : (h : Heading) (o : Option ℕ) (n : ℕ) (t : Told) → IsOrdered t → AreKept (next_of t) n (early_of t) → brought_if h (up_to o (Some n)) t ≡ read_below_if h (up_to o (Some n)) t
 acknowledged_whole h None n t ordered all = refl

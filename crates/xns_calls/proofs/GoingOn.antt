@@ -8,7 +8,7 @@ use Rattle.xns_dump.specs.declared.flows.flow.Flow.{Flow}
 use Rattle.xns_calls.specs.Acknowledged.{due_in}
 use Rattle.xns_calls.specs.Capture.{heading_at, new_connection, repeats_told, scene_in}
 use Rattle.xns_calls.specs.Events.{Event, acknowledged, acknowledged_event, after_event, after_events, brought_if, captured, captured_event, meanwhile, own_events, read}
-use Rattle.xns_calls.specs.Exchange.{Scene, advance_other, advance_own, after_content, after_data, after_packet, after_told, begin_track, carried, first_track, is_repeat, of_other, other_reached, own_reached, reached, seen_from_other, told_of, up_to}
+use Rattle.xns_calls.specs.Exchange.{Scene, advance_own, after_content, after_data, after_packet, after_told, begin_track, carried, first_track, is_repeat, of_other, other_reached, own_reached, reached, seen_from_other, told_of, up_to}
 use Rattle.xns_calls.specs.Held.{AreHandled, Handled, IsHandled, handled_in, with_all, with_handled}
 use Rattle.xns_calls.specs.Numbers.{most_early, near}
 use Rattle.xns_calls.specs.Over.{side_in}
@@ -28,7 +28,7 @@ use Rattle.xns_calls.proofs.Ordered.{AreFrom, Bears, IsOrdered, brought_bears, f
 use Rattle.xns_calls.proofs.Packets.{number_event, own_reached_event, packet_events, packet_other, reached_event, reached_own}
 use Rattle.xns_calls.proofs.Parts.{plain}
 use Rattle.xns_calls.proofs.Steps.{with_early}
-use Rattle.xns_calls.proofs.Unbegun.{data_new, first_early}
+use Rattle.xns_calls.proofs.Unbegun.{data_new, first_early, reached_same}
 
 -- ---- events
 
@@ -235,16 +235,12 @@ behind_begun n m q due packet f content s track at order =
     subst (GoesOn (Some track)) (sym ran.is)
     (events_go track.next ran.later (behind_told h due packet f content s track) (events_ordered acks t order) (events_past track.next acks t order (omega arith)))
 
-none_behind : (h : Heading) (number : Option ℕ) (s : Scene) → s.other.track ≡ None → other_reached h number s ≡ s
-unfolding other_reached
-none_behind h number s none = ap (λ o. advance_other h (reached o number) s) none
-
 pub behind_still : (n : Origin) (m : ℕ) (q : Bool) (due : Due) (packet : PacketModel) (f : Header) (content : List ℕ) (s : Scene) → s.other.track ≡ None
     → (handled (heading_at n m q) due packet f content s).other.track ≡ None
 behind_still n m q due packet f content s none =
     let h = heading_at n m q in
     let new = after_packet h due packet f content s in
-    let still : new.other.track ≡ None = packet_other h due packet f content s ∙ ap (λ (x : Scene). x.other.track) (none_behind h due.other s none) ∙ none in
+    let still : new.other.track ≡ None = packet_other h due packet f content s ∙ ap (λ (x : Scene). x.other.track) (reached_same h due.other s none) ∙ none in
     (other_settles n m q due.given new still).track
 
 behind_goes : (n : Origin) (m : ℕ) (q : Bool) (due : Due) (packet : PacketModel) (f : Header) (content : List ℕ) (s : Scene) → GoesOn None s.other.track

@@ -1,6 +1,7 @@
 -- What a packet does at the place of a connection, for a flow of a whole input that has begun.
 use Rattle.std.proofs.Common.{◌≡◌, ◌∙◌, ap, sym, refl, subst, inl, inr, ℕ, ◌==◌, ◌⊎◌, Bool, true, false, cond, List, [], ◌∷◌, ◌++◌, length, drop, append-nil, Option, Some, None}
 use Rattle.std.specs.Prelude.{not, slice_get, slice_set}
+use Rattle.std.proofs.lemmas.Bool.{eqb-false, eqb-true}
 use Rattle.xns_idp.specs.Packet.{PacketModel}
 use Rattle.xns_spp.specs.Header.{is_system}
 use Rattle.xns_spp.specs.declared.header.Header.{Header}
@@ -20,17 +21,16 @@ use Rattle.xns_calls.specs.declared.connection.Connection.{Connection}
 use Rattle.xns_calls.specs.declared.due.Due.{Due}
 use Rattle.xns_calls.specs.declared.track.Track.{Track}
 use Rattle.xns_calls.proofs.Fits.{fits}
-use Rattle.xns_calls.proofs.Comparing.{equal_tells}
 use Rattle.xns_calls.proofs.AtLines.{ack_at, both_at, item_at}
 use Rattle.xns_calls.proofs.Known.{events_ordered}
 use Rattle.xns_calls.proofs.Ordered.{IsOrdered}
 use Rattle.xns_calls.proofs.Numbered.{IsNumbered, numbered_taken, same_number, scene_number, set_cases}
 use Rattle.xns_calls.proofs.Others.{get_same, get_set}
-use Rattle.xns_calls.proofs.Onwards.{Says, other_settled, own_settled, settled_says}
+use Rattle.xns_calls.proofs.Onwards.{Ran, Says, other_settled, own_settled, settled_says}
 use Rattle.xns_calls.proofs.Whole.{after_append}
 use Rattle.xns_calls.proofs.Packets.{reached_event, packet_events, packet_other}
 use Rattle.xns_calls.specs.declared.origin.Origin.{Origin}
-use Rattle.xns_calls.proofs.Parts.{acknowledged_new, acknowledged_plain, behind_text, both_new, both_plain, far_text, flow_append, flow_at, number_tells, other_text, own_text, packet_parts, packet_said, packet_text, plain, reached_said, reached_text, said_text_of, scene_text, two_of}
+use Rattle.xns_calls.proofs.Parts.{acknowledged_new, acknowledged_plain, behind_text, both_new, both_plain, far_text, flow_append, flow_at, other_text, own_text, packet_parts, packet_said, packet_text, plain, reached_said, reached_text, said_text_of, scene_text, two_of}
 use Rattle.xns_calls.proofs.Begun.{IsAt, IsGone, IsOn, Stepped, nothing_step, stands_behind, stands_own, stays_gone, two_steps, unchanged}
 
 pub own_step : (n : Origin) (i : ℕ) (b : Bool) (packet : PacketModel) (f : Header) (content : List ℕ) (c : Connection) (k : Known) (t : Told) → slice_get k.connections i ≡ Some c → IsOrdered t
@@ -123,6 +123,20 @@ other_place k i j c d at there other same =
     let one : Some c ≡ Some d = sym at ∙ ap (slice_get k.connections) same ∙ there in
     let is : c ≡ d = (cc) in other (ap (λ (x : Connection). x.number) is)
 
+-- a flow of the connection at a place
+pub flow_here : (m i : ℕ) (b : Bool) (c : Connection) (k : Known) (t : Told) → IsNumbered k.connections k.count → slice_get k.connections i ≡ Some c → (a : IsAt m b k t) → m ≡ c.number
+    → ((scene_in b c k).own.track ≡ Some t.track) × (t ≡ told_of t.track (scene_in b c k))
+flow_here m i b c k t numbered there a same =
+    let place : a.place ≡ i = numbered.alone a.place i a.connection c a.there there (a.number ∙ same) in
+    let some : Some a.connection ≡ Some c = sym a.there ∙ ap (slice_get k.connections) place ∙ there in
+    let one : a.connection ≡ c = (cc) in
+    (ap (λ (x : Connection). (scene_in b x k).own.track) (sym one) ∙ a.track, a.is ∙ ap (λ (x : Connection). told_of t.track (scene_in b x k)) one)
+
+-- a flow of another connection, which stays
+pub far_stays : (m i : ℕ) (b : Bool) (c c' : Connection) (k : Known) (t : Told) → slice_get k.connections i ≡ Some c → (a : IsAt m b k t) → (m ≡ c.number → ⊥)
+    → slice_get (slice_set k.connections i c') a.place ≡ slice_get k.connections a.place
+far_stays m i b c c' k t there a far = get_set k.connections a.place i c' (other_place k a.place i a.connection c a.there there (λ same. far (sym a.number ∙ same)))
+
 -- a connection that is gone stays so where no other gets its number
 pub gone_set : (m i : ℕ) (k : Known) (c c' : Connection) (t : Told) → IsGone m k t → slice_get k.connections i ≡ Some c → c'.number ≡ c.number → (j : ℕ) (d : Connection) → slice_get (slice_set k.connections i c') j ≡ Some d → d.number ≡ m → ⊥
 gone_set m i k c c' t gone there same j d at is = by_case (set_cases k.connections i j c' d at)
@@ -146,47 +160,48 @@ taken_step n m i b q packet f content c k t numbered there on = by_number (m == 
 
     by_number : (p : Bool) → (m == c.number) ≡ p → IsOn m b k t → Goal p
     by_number true e (inl a) =
-        let place : a.place ≡ i = numbered.alone a.place i a.connection c a.there there (a.number ∙ equal_tells m c.number e) in
-        let some : Some a.connection ≡ Some c = sym a.there ∙ ap (slice_get k.connections) place ∙ there in
-        let one : a.connection ≡ c = (cc) in
-        let track : (scene_in b c k).own.track ≡ Some t.track = ap (λ (x : Connection). (scene_in b x k).own.track) (sym one) ∙ a.track in
-        let is : t ≡ told_of t.track (scene_in b c k) = a.is ∙ ap (λ (x : Connection). told_of t.track (scene_in b x k)) one in
-        subst (λ o. Stepped n m b k (taken_in n i q packet f content c k) t (near_events n m b q f content (acknowledged_in q f c) o (due_of b c))) (sym track ∙ side_track b c k)
-        (subst (λ g. Stepped n g b k (taken_in n i q packet f content c k) t (near_events n g b q f content (acknowledged_in q f c) (Some t.track) (due_of b c))) (sym (equal_tells m c.number e))
-        (near_step n i b q packet f content c k t there a.ordered track is))
-    by_number true e (inr gone) = absurd (gone.none i c there (sym (equal_tells m c.number e)))
+        let here = flow_here m i b c k t numbered there a (eqb-true m c.number e) in
+        subst (λ o. Stepped n m b k (taken_in n i q packet f content c k) t (near_events n m b q f content (acknowledged_in q f c) o (due_of b c))) (sym here.0 ∙ side_track b c k)
+        (subst (λ g. Stepped n g b k (taken_in n i q packet f content c k) t (near_events n g b q f content (acknowledged_in q f c) (Some t.track) (due_of b c))) (sym (eqb-true m c.number e))
+        (near_step n i b q packet f content c k t there a.ordered here.0 here.1))
+    by_number true e (inr gone) = absurd (gone.none i c there (sym (eqb-true m c.number e)))
     by_number false e (inl a) =
         unchanged n m b k (taken_in n i q packet f content c k) t parts (in_text n i q packet f content c k) (far_texts n m b q (due_in q f c) packet f content c.number s e) a
-        (get_set k.connections a.place i _ (other_place k a.place i a.connection c a.there there (λ same. number_tells m c.number e (sym a.number ∙ same))))
+        (far_stays m i b c _ k t there a (eqb-false m c.number e))
     by_number false e (inr gone) =
         stays_gone n m b k (taken_in n i q packet f content c k) t parts (in_text n i q packet f content c k) (far_texts n m b q (due_in q f c) packet f content c.number s e)
         (record { counted = gone.counted; none = gone_set m i k c _ t gone there (scene_number q _ f c); empty = gone.empty })
 
 -- ---- what is read then
 
+-- what is then read, by what it does to the flow
+settled_by : (n : Origin) (i : ℕ) (b q : Bool) (c : Connection) (k : Known) (t : Told) → slice_get k.connections i ≡ Some c → IsOrdered t
+    → let c' = with_scene q (settled (heading_at n c.number q) (given_in q c) (scene_in q c k)) c in
+    Ran n c.number b (scene_in b c k) (scene_in b c' (settled_there n i q (Some c) k)) t
+    → Stepped n c.number b k (settled_there n i q (Some c) k) t []
+settled_by n i b q c k t there ordered w =
+    let c' = with_scene q (settled (heading_at n c.number q) (given_in q c) (scene_in q c k)) c in
+    let k' = settled_there n i q (Some c) k in record {
+      events = w.events;
+      are = fits [] (plain w.events) w.are;
+      at = w.at;
+      stands = inl (record { place = i; connection = c'; there = get_same k.connections i c c' there; number = same_number q _ c; track = w.track; is = w.is; ordered = events_ordered w.events t ordered });
+      parts = w.parts;
+      text = sym (scene_text b c' k') ∙ w.text ∙ ap (λ z. z ++ parts_text w.parts) (scene_text b c k);
+      own = w.own;
+    }
+
 -- what is then read of the connection of the packet
 near_settled : (n : Origin) (i : ℕ) (b q : Bool) (c : Connection) (k : Known) (t : Told) → slice_get k.connections i ≡ Some c → IsOrdered t → (scene_in b c k).own.track ≡ Some t.track → t ≡ told_of t.track (scene_in b c k)
     → Stepped n c.number b k (settled_there n i q (Some c) k) t []
 near_settled n i true true c k t there ordered track is =
-    let s = scene_in true c k in
-    let w = own_settled n c.number true (given_in true c) s t track is in
-    let c' = with_scene true (settled (heading_at n c.number true) (given_in true c) s) c in
-    record { events = w.events; are = fits [] (plain w.events) w.are; at = w.at; stands = inl (record { place = i; connection = c'; there = get_same k.connections i c c' there; number = refl; track = w.track; is = w.is; ordered = events_ordered w.events t ordered }); parts = w.parts; text = w.text; own = w.own }
+    settled_by n i true true c k t there ordered (own_settled n c.number true (given_in true c) (scene_in true c k) t track is)
 near_settled n i false false c k t there ordered track is =
-    let s = scene_in false c k in
-    let w = own_settled n c.number false (given_in false c) s t track is in
-    let c' = with_scene false (settled (heading_at n c.number false) (given_in false c) s) c in
-    record { events = w.events; are = fits [] (plain w.events) w.are; at = w.at; stands = inl (record { place = i; connection = c'; there = get_same k.connections i c c' there; number = refl; track = w.track; is = w.is; ordered = events_ordered w.events t ordered }); parts = w.parts; text = w.text; own = w.own }
+    settled_by n i false false c k t there ordered (own_settled n c.number false (given_in false c) (scene_in false c k) t track is)
 near_settled n i true false c k t there ordered track is =
-    let s = scene_in false c k in
-    let w = other_settled n c.number false (given_in false c) s t track is in
-    let c' = with_scene false (settled (heading_at n c.number false) (given_in false c) s) c in
-    record { events = w.events; are = fits [] (plain w.events) w.are; at = w.at; stands = inl (record { place = i; connection = c'; there = get_same k.connections i c c' there; number = refl; track = w.track; is = w.is; ordered = events_ordered w.events t ordered }); parts = w.parts; text = w.text; own = w.own }
+    settled_by n i true false c k t there ordered (other_settled n c.number false (given_in false c) (scene_in false c k) t track is)
 near_settled n i false true c k t there ordered track is =
-    let s = scene_in true c k in
-    let w = other_settled n c.number true (given_in true c) s t track is in
-    let c' = with_scene true (settled (heading_at n c.number true) (given_in true c) s) c in
-    record { events = w.events; are = fits [] (plain w.events) w.are; at = w.at; stands = inl (record { place = i; connection = c'; there = get_same k.connections i c c' there; number = refl; track = w.track; is = w.is; ordered = events_ordered w.events t ordered }); parts = w.parts; text = w.text; own = w.own }
+    settled_by n i false true c k t there ordered (other_settled n c.number true (given_in true c) (scene_in true c k) t track is)
 
 pub settled_text : (n : Origin) (i : ℕ) (q : Bool) (c : Connection) (k : Known)
     → (settled_there n i q (Some c) k).text ≡ k.text ++ parts_text (settled_says n c.number q (given_in q c) (scene_in q c k)).parts
@@ -201,16 +216,12 @@ there_settled n m i b q c k t numbered there on = by_number (m == c.number) refl
 
     by_number : (p : Bool) → (m == c.number) ≡ p → IsOn m b k t → Stepped n m b k (settled_there n i q (Some c) k) t []
     by_number true e (inl a) =
-        let place : a.place ≡ i = numbered.alone a.place i a.connection c a.there there (a.number ∙ equal_tells m c.number e) in
-        let some : Some a.connection ≡ Some c = sym a.there ∙ ap (slice_get k.connections) place ∙ there in
-        let one : a.connection ≡ c = (cc) in
-        let track : (scene_in b c k).own.track ≡ Some t.track = ap (λ (x : Connection). (scene_in b x k).own.track) (sym one) ∙ a.track in
-        let is : t ≡ told_of t.track (scene_in b c k) = a.is ∙ ap (λ (x : Connection). told_of t.track (scene_in b x k)) one in
-        subst (λ g. Stepped n g b k (settled_there n i q (Some c) k) t []) (sym (equal_tells m c.number e)) (near_settled n i b q c k t there a.ordered track is)
-    by_number true e (inr gone) = absurd (gone.none i c there (sym (equal_tells m c.number e)))
+        let here = flow_here m i b c k t numbered there a (eqb-true m c.number e) in
+        subst (λ g. Stepped n g b k (settled_there n i q (Some c) k) t []) (sym (eqb-true m c.number e)) (near_settled n i b q c k t there a.ordered here.0 here.1)
+    by_number true e (inr gone) = absurd (gone.none i c there (sym (eqb-true m c.number e)))
     by_number false e (inl a) =
         unchanged n m b k (settled_there n i q (Some c) k) t v.parts (settled_text n i q c k) (v.far m b e) a
-        (get_set k.connections a.place i _ (other_place k a.place i a.connection c a.there there (λ same. number_tells m c.number e (sym a.number ∙ same))))
+        (far_stays m i b c _ k t there a (eqb-false m c.number e))
     by_number false e (inr gone) =
         stays_gone n m b k (settled_there n i q (Some c) k) t v.parts (settled_text n i q c k) (v.far m b e)
         (record { counted = gone.counted; none = gone_set m i k c _ t gone there (same_number q _ c); empty = gone.empty })

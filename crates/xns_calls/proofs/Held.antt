@@ -2,7 +2,7 @@
 use Rattle.std.proofs.Common.{◌≡◌, ◌∙◌, ap, sym, refl, subst, arith, inl, inr, ℕ, suc, ◌+◌, ◌-◌, ◌<◌, ◌≤◌, ◌==◌, ◌⊎◌, Bool, true, false, cond, List, [], ◌∷◌, ◌++◌, length, Option, Some, None}
 use Rattle.std.specs.Prelude.{nat_lt, max, not, option_map, slice_get}
 use Rattle.std.specs.Option.{unwrap_or}
-use Rattle.std.proofs.lemmas.Bool.Decides.{nat_tests}
+use Rattle.std.proofs.lemmas.Bool.{eqb-false, ltb-false, ltb-true}
 use Rattle.xns_spp.specs.declared.header.Header.{Header}
 use Rattle.xns_dump.specs.declared.flows.flow.Flow.{Flow}
 use Rattle.xns_calls.specs.Acknowledged.{acknowledged_of, ahead_of, aheads_in, beyond, effective, given_in, given_with, last_ahead, most_waited, nearer, new_ahead, noted_beside, waiting, with_ahead}
@@ -13,7 +13,6 @@ use Rattle.xns_calls.specs.Over.{side_in}
 use Rattle.xns_calls.specs.declared.ahead.Ahead.{Ahead}
 use Rattle.xns_calls.specs.declared.connection.Connection.{Connection}
 use Rattle.xns_calls.specs.declared.track.Track.{Track}
-use Rattle.xns_calls.proofs.Comparing.{le_tells, lt_tells}
 use Rattle.xns_calls.proofs.Histories.{with_both}
 
 -- ---- acknowledgements take effect one after the other
@@ -38,19 +37,13 @@ nearer_apart least most (a ∷ rest) apart =
       subst (λ n. Apart n most (nearer rest)) (sym next) (nearer_apart a.left most rest apart.2),
     )
 
-none_left : (n : ℕ) → (n == 0) ≡ true → n ≡ 0
-none_left n e = grind (arith, nat_tests)
-
-some_left : (n : ℕ) → (n == 0) ≡ false → 1 ≤ n
-some_left n e = grind (arith, nat_tests)
-
 waiting_apart : (most : ℕ) (xs : List Ahead) → Apart 0 most xs → Apart 1 most (waiting xs)
 waiting_apart most [] apart = tt
 waiting_apart most (a ∷ rest) apart = by_left (a.left == 0) refl
   where
     by_left : (p : Bool) → (a.left == 0) ≡ p → Apart 1 most (cond p rest (a ∷ rest))
     by_left true e = apart_from (a.left + 1) 1 most rest (omega arith) apart.2
-    by_left false e = (some_left a.left e, apart.1, apart.2)
+    by_left false e = (omega (arith, eqb-false a.left 0 e), apart.1, apart.2)
 
 pushed_apart : (least most n : ℕ) (xs : List Ahead) → least ≤ most + 1 → Apart least most xs → Apart least (most + 1) (xs ++ record { left = most + 1; number = n } ∷ [])
 pushed_apart least most n [] le apart = (le, omega arith, tt)
@@ -160,14 +153,14 @@ new_waits track field n given xs apart at =
     given' = given_with (effective (nearer xs)) given
 
     by_next : (p : Bool) → nat_lt track.next n ≡ p → n ≤ max track.next (last_ahead xs) → (n ≤ track.next) ⊎ Waits 64 n given' (stepped None xs)
-    by_next false e most = inl (le_tells track.next n e)
+    by_next false e most = inl (ltb-false track.next n e)
     by_next true e most =
-        let lt : track.next < n = lt_tells track.next n e in
+        let lt : track.next < n = ltb-true track.next n e in
         inr (waits_longer 63 64 n given' (stepped None xs) (omega arith) (step_waits 63 n given None xs (inr (last_is n 1 xs (omega (arith, lt)) (omega (arith, lt, most)) apart))))
 
     by_most : (p : Bool) → nat_lt (max track.next (last_ahead xs)) n ≡ p → (n ≤ track.next) ⊎ Waits 64 n given' (stepped (cond p (Some n) None) xs)
     by_most true e = inr (inr (pushed_ahead n (waiting (nearer xs))))
-    by_most false e = by_next (nat_lt track.next n) refl (le_tells (max track.next (last_ahead xs)) n e)
+    by_most false e = by_next (nat_lt track.next n) refl (ltb-false (max track.next (last_ahead xs)) n e)
 
 -- ---- a connection
 

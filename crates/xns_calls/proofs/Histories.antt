@@ -1,6 +1,7 @@
 -- Each connection that is known has come from a new one, by packets that were handled.
 use Rattle.std.proofs.Common.{◌≡◌, ◌∙◌, ap, sym, refl, subst, inl, inr, ℕ, ◌+◌, ◌<◌, ◌==◌, ◌⊎◌, Bool, true, false, cond, List, [], ◌∷◌, ◌++◌, length, Option, Some, None}
 use Rattle.std.specs.Prelude.{slice_get}
+use Rattle.std.proofs.lemmas.Bool.{eqb-false, eqb-true}
 use Rattle.xns_idp.specs.Packet.{PacketModel}
 use Rattle.xns_spp.specs.Header.{is_system}
 use Rattle.xns_spp.specs.declared.header.Header.{Header}
@@ -16,11 +17,9 @@ use Rattle.xns_calls.specs.Naming.{Programs}
 use Rattle.xns_calls.specs.Origins.{line_origin}
 use Rattle.xns_calls.specs.declared.connection.Connection.{Connection}
 use Rattle.xns_calls.specs.declared.origin.Origin.{Origin}
-use Rattle.xns_calls.proofs.Comparing.{equal_tells}
 use Rattle.xns_calls.proofs.Inputs.{line_is}
 use Rattle.xns_calls.proofs.Numbered.{more_cases}
 use Rattle.xns_calls.proofs.Others.{at_same, get_last, get_same, renewed_same}
-use Rattle.xns_calls.proofs.Parts.{number_tells}
 use Rattle.xns_calls.proofs.Taken.{fused}
 
 pub with_both : (xs ys : List Handled) (c : Connection) → with_all (xs ++ ys) c ≡ with_all ys (with_all xs c)
@@ -110,10 +109,10 @@ place_comes n i flow a (Some j) k packets w = by_place (i == j) refl
   where
     by_place : (p : Bool) → (i == j) ≡ p → ComesAt i (cond p (packets_there i n flow a (slice_get k.connections i) k packets) packets) (after_at n j flow a.0 a.1 a.2 (renewed n j flow a.1 k))
     by_place true e =
-        subst (λ x. ComesAt i (packets_there i n flow a (slice_get k.connections i) k packets) (after_at n x flow a.0 a.1 a.2 (renewed n x flow a.1 k))) (equal_tells i j e)
+        subst (λ x. ComesAt i (packets_there i n flow a (slice_get k.connections i) k packets) (after_at n x flow a.0 a.1 a.2 (renewed n x flow a.1 k))) (eqb-true i j e)
         (there_comes n i flow a k packets w)
     by_place false e = λ c at.
-        let other = number_tells i j e in w c (sym (at_same n i j flow a.0 a.1 a.2 (renewed n j flow a.1 k) other ∙ renewed_same n i j flow a.1 k other) ∙ at)
+        let other = eqb-false i j e in w c (sym (at_same n i j flow a.0 a.1 a.2 (renewed n j flow a.1 k) other ∙ renewed_same n i j flow a.1 k other) ∙ at)
 place_comes n i flow a None k packets w = by_system (is_system a.1)
   where
     new : Connection
@@ -129,11 +128,11 @@ place_comes n i flow a None k packets w = by_system (is_system a.1)
     first = handled_of n flow a new (with_new flow k) ∷ []
 
     by_last : (p : Bool) → (i == last) ≡ p → ComesAt i (cond p first packets) begun
-    by_last true e = subst (λ x. ComesAt x first begun) (sym (equal_tells i last e)) (at_comes n last flow a (with_new flow k) new [] (get_last k.connections new) (new_comes (k.count + 1) flow))
-    by_last false e = λ c at. by_case e c (more_cases k.connections i new c (sym (at_same n i last flow a.0 a.1 a.2 (with_new flow k) (number_tells i last e)) ∙ at))
+    by_last true e = subst (λ x. ComesAt x first begun) (sym (eqb-true i last e)) (at_comes n last flow a (with_new flow k) new [] (get_last k.connections new) (new_comes (k.count + 1) flow))
+    by_last false e = λ c at. by_case e c (more_cases k.connections i new c (sym (at_same n i last flow a.0 a.1 a.2 (with_new flow k) (eqb-false i last e)) ∙ at))
       where
         by_case : (i == last) ≡ false → (c : Connection) → ((i ≡ last) × (c ≡ new)) ⊎ ((i < last) × (slice_get k.connections i ≡ Some c)) → Comes packets c
-        by_case e c (inl (is, same)) = absurd (number_tells i last e is)
+        by_case e c (inl (is, same)) = absurd (eqb-false i last e is)
         by_case e c (inr (lt, there)) = w c there
 
     by_system : (p : Bool) → ComesAt i (cond p packets (cond (i == last) first packets)) (cond p k begun)

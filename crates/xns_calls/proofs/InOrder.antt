@@ -1,6 +1,8 @@
 -- Which item that is kept may be read.
 use Rattle.std.proofs.Common.{◌≡◌, ◌∙◌, ap, sym, refl, subst, arith, inl, inr, ℕ, zero, suc, ◌+◌, ◌<◌, ◌≤◌, ◌⊎◌, Bool, true, false, cond, List, [], ◌∷◌, Option, Some, None}
 use Rattle.std.specs.Prelude.{max, nat_lt, not, ◌&&◌, ◌||◌, ◌-◌}
+use Rattle.std.proofs.lemmas.Bool.{le-ltb, lt-ltb, ltb-false, ltb-true}
+use Rattle.std.proofs.Math.Bool.{or-true}
 use Rattle.xns_spp.specs.Ends.{most_pending}
 use Rattle.xns_calls.specs.AtEnd.{both_ended}
 use Rattle.xns_calls.specs.Exchange.{Scene}
@@ -11,7 +13,6 @@ use Rattle.xns_calls.specs.declared.early.Early.{Early}
 use Rattle.xns_calls.specs.declared.given.Given.{Given}
 use Rattle.xns_calls.specs.declared.heading.Heading.{Heading}
 use Rattle.xns_calls.specs.declared.track.Track.{Track}
-use Rattle.xns_calls.proofs.Comparing.{le_tells, lt_false, lt_tells, lt_true}
 use Rattle.xns_calls.proofs.LessAtEnd.{both_left, other_left, own_left}
 use Rattle.xns_calls.proofs.LessKept.{count, count_less}
 
@@ -24,21 +25,17 @@ behind_is next given number is = by_most (nat_lt (max next given) number) refl i
     by_most false e is = by_next (nat_lt next number) refl
       where
         by_next : (q : Bool) → nat_lt next number ≡ q → (number ≤ next) ⊎ ((number ≤ given) ⊎ (next + most_pending < number))
-        by_next false d = inl (le_tells next number d)
+        by_next false d = inl (ltb-false next number d)
         by_next true d =
-            let most = le_tells (max next given) number e in
-            let lt = lt_tells next number d in inr (inl (omega (arith, most, lt)))
-    by_most true e is = let far = lt_tells most_pending (number - next) is in inr (inr (omega (arith, far)))
-
-or_true : (p : Bool) → (p || true) ≡ true
-or_true true = refl
-or_true false = refl
+            let most = ltb-false (max next given) number e in
+            let lt = ltb-true next number d in inr (inl (omega (arith, most, lt)))
+    by_most true e is = let far = ltb-true most_pending (number - next) is in inr (inr (omega (arith, far)))
 
 is_behind_so : (next given number : ℕ) → (number ≤ next) ⊎ ((number ≤ given) ⊎ (next + most_pending < number)) → is_behind next given number ≡ true
-is_behind_so next given number (inl le) = ap (λ p. not p || nat_lt most_pending (number - next)) (lt_false (max next given) number (omega (arith, le)))
-is_behind_so next given number (inr (inl le)) = ap (λ p. not p || nat_lt most_pending (number - next)) (lt_false (max next given) number (omega (arith, le)))
+is_behind_so next given number (inl le) = ap (λ p. not p || nat_lt most_pending (number - next)) (le-ltb (max next given) number (omega (arith, le)))
+is_behind_so next given number (inr (inl le)) = ap (λ p. not p || nat_lt most_pending (number - next)) (le-ltb (max next given) number (omega (arith, le)))
 is_behind_so next given number (inr (inr far)) =
-    ap (λ p. not (nat_lt (max next given) number) || p) (lt_true most_pending (number - next) (omega (arith, far))) ∙ or_true (not (nat_lt (max next given) number))
+    ap (λ p. not (nat_lt (max next given) number) || p) (lt-ltb most_pending (number - next) (omega (arith, far))) ∙ or-true (not (nat_lt (max next given) number))
 
 free_is : (behind : Option Track) (given : ℕ) (a : Option ℕ) → waits_for_none behind given a ≡ true → WaitsForNone behind given a
 free_is None given a is = tt
@@ -63,41 +60,35 @@ can_is track behind given line is = by_early track.early refl is
             → (early : Early) × CanBeRead track behind given early
         by_next true q d f is = (cc)
         by_next false false d f is = (cc)
-        by_next false true d f is = (e, record { rest = rest; first = at; next = le_tells track.next e.number d; free = free_is behind given e.item.acknowledged f })
+        by_next false true d f is = (e, record { rest = rest; first = at; next = ltb-false track.next e.number d; free = free_is behind given e.item.acknowledged f })
 
 pub can_so : (track : Track) (behind : Option Track) (given : ℕ) (early : Early) → CanBeRead track behind given early → readable (Some track) behind given ≡ Some early.item.line
 can_so track behind given early can =
     ap (λ es. readable_first track.next behind given (first_kept es)) can.first
-    ∙ ap (λ p. cond (not p && waits_for_none behind given early.item.acknowledged) (Some early.item.line) None) (lt_false track.next early.number can.next)
+    ∙ ap (λ p. cond (not p && waits_for_none behind given early.item.acknowledged) (Some early.item.line) None) (le-ltb track.next early.number can.next)
     ∙ ap (λ p. cond p (Some early.item.line) None) (is_free_so behind given early.item.acknowledged can.free)
 
 -- ---- what is read
 
+can_read : (own behind : Option Track) (given line : ℕ) → readable own behind given ≡ Some line → (track : Track) × (own ≡ Some track) × (early : Early) × CanBeRead track behind given early
+can_read None behind given line is = (cc)
+can_read (Some track) behind given line is = let w = can_is track behind given line is in (track, refl, w.0, w.1)
+
+own_first : (a b : Option ℕ) → first_line a b ≡ Some false → (line : ℕ) × (a ≡ Some line)
+own_first None None is = (cc)
+own_first None (Some b) is = (cc)
+own_first (Some a) b is = (a, refl)
+
+other_first : (a b : Option ℕ) → first_line a b ≡ Some true → (line : ℕ) × (b ≡ Some line)
+other_first None None is = (cc)
+other_first (Some a) None is = (cc)
+other_first a (Some b) is = (b, refl)
+
 own_can : (given : Given) (own other : Option Track) → next_turn given own other ≡ Some false → (track : Track) × (own ≡ Some track) × (early : Early) × CanBeRead track other given.other early
-own_can given None other is = by_line (readable other None given.own) is
-  where
-    by_line : (b : Option ℕ) → first_line None b ≡ Some false → (track : Track) × (None ≡ Some track) × (early : Early) × CanBeRead track other given.other early
-    by_line None is = (cc)
-    by_line (Some b) is = (cc)
-own_can given (Some own) other is = let w = by_lines (readable (Some own) other given.other) (readable other (Some own) given.own) refl is in (own, refl, w.0, w.1)
-  where
-    by_lines : (a b : Option ℕ) → readable (Some own) other given.other ≡ a → first_line a b ≡ Some false → (early : Early) × CanBeRead own other given.other early
-    by_lines None None at is = (cc)
-    by_lines None (Some b) at is = (cc)
-    by_lines (Some a) b at is = can_is own other given.other a at
+own_can given own other is = let first = own_first (readable own other given.other) (readable other own given.own) is in can_read own other given.other first.0 first.1
 
 other_can : (given : Given) (own other : Option Track) → next_turn given own other ≡ Some true → (track : Track) × (other ≡ Some track) × (early : Early) × CanBeRead track own given.own early
-other_can given own None is = by_line (readable own None given.other) is
-  where
-    by_line : (a : Option ℕ) → first_line a None ≡ Some true → (track : Track) × (None ≡ Some track) × (early : Early) × CanBeRead track own given.own early
-    by_line None is = (cc)
-    by_line (Some a) is = (cc)
-other_can given own (Some other) is = let w = by_lines (readable own (Some other) given.other) (readable (Some other) own given.own) refl is in (other, refl, w.0, w.1)
-  where
-    by_lines : (a b : Option ℕ) → readable (Some other) own given.own ≡ b → first_line a b ≡ Some true → (early : Early) × CanBeRead other own given.own early
-    by_lines None None at is = (cc)
-    by_lines (Some a) None at is = (cc)
-    by_lines a (Some b) at is = can_is other own given.own b at
+other_can given own other is = let first = other_first (readable own other given.other) (readable other own given.own) is in can_read other own given.own first.0 first.1
 
 turn_first : (given : Given) (own other : Track) (a b : Early) → CanBeRead own (Some other) given.other a → CanBeRead other (Some own) given.own b
     → next_turn given (Some own) (Some other) ≡ Some (nat_lt b.item.line a.item.line)
@@ -166,8 +157,8 @@ in_turn = record {
   can = own_can;
   can_behind = other_can;
   first = λ given own other a b can can'. (
-    λ lt. turn_first given own other a b can can' ∙ ap Some (lt_true b.item.line a.item.line lt),
-    λ le. turn_first given own other a b can can' ∙ ap Some (lt_false b.item.line a.item.line le),
+    λ lt. turn_first given own other a b can can' ∙ ap Some (lt-ltb b.item.line a.item.line lt),
+    λ le. turn_first given own other a b can can' ∙ ap Some (le-ltb b.item.line a.item.line le),
   );
   left = own_left_none;
   left_behind = other_left_none;

@@ -1,12 +1,12 @@
 -- The items that are kept lie in two rows, one behind the other.
 use Rattle.std.proofs.Common.{◌≡◌, ◌∙◌, ap, sym, subst, refl, arith, ℕ, ◌+◌, ◌<◌, ◌≤◌, Bool, true, false, cond, List, [], ◌∷◌, ◌++◌, length, Option, Some, None}
 use Rattle.std.specs.Prelude.{nat_lt}
+use Rattle.std.proofs.lemmas.Bool.{le-ltb}
 use Rattle.xns_calls.specs.AtEnd.{earlier, earliest}
 use Rattle.xns_calls.specs.declared.early.Early.{Early}
 use Rattle.xns_calls.specs.declared.first_kept.FirstKept.{FirstKept}
 use Rattle.xns_calls.specs.Queue.{below}
 use Rattle.xns_calls.specs.Turns.{first_kept}
-use Rattle.xns_calls.proofs.Comparing.{lt_false}
 
 front_step : (p : Bool) (b m l : ℕ) → (b < l → m ≡ b) → cond p (1 + b) 0 < 1 + l → cond p (1 + m) 0 ≡ cond p (1 + b) 0
 front_step true b m l same lt = ap (λ k. 1 + k) (same (omega (arith, lt)))
@@ -43,7 +43,7 @@ number_or (Some first) = first.number
 pub none_below : (n : ℕ) (items : List Early) (first : FirstKept) → first_kept items ≡ Some first → n ≤ first.number → 0 ≡ below n items
 none_below n [] first same le = refl
 none_below n (e ∷ rest) first same le =
-    none_step (nat_lt e.number n) (below n rest) (lt_false e.number n (subst (λ k. n ≤ k) (sym (ap number_or same)) le))
+    none_step (nat_lt e.number n) (below n rest) (le-ltb e.number n (subst (λ k. n ≤ k) (sym (ap number_or same)) le))
 
 -- ---- which of them was captured first
 

@@ -1,14 +1,17 @@
 -- One key serves both directions of a connection.
 use Rattle.std.proofs.Common.{◌≡◌, ◌∙◌, ap, sym, refl, rules, ℕ, ◌*◌, ◌^◌, Bool, true, false, cond, ◌==◌, ◌&&◌, ◌||◌}
 use Rattle.std.proofs.Math.Bool.{and-true}
-use Rattle.std.proofs.lemmas.Bool.{eq-eqb, eqb-true}
 use Rattle.std.proofs.lemmas.Map.Lookups.{exact_unsigned}
-use Rattle.std.specs.Cmp.{Equal-is, IsTotalOrder, both_ways, tied_itself}
+use Rattle.std.specs.Cmp.{Equal-is, IsTotalOrder, both_ways, tied_itself, tied_then}
 use Rattle.std.specs.Cmp.Rules.{comparing}
 use Rattle.std.specs.Int.Bits.{bit_xor, xor_assoc, xor_self, xor_zero_l, xor_zero_r}
 use Rattle.std.specs.Ordering.{is_eq, is_gt, nat_cmp, ordering_reverse, ordering_then}
 use Rattle.std.specs.declared.cmp.Ordering.{Ordering}
 use Rattle.std.specs.declared.cmp.Ordering.TheVariants.{Less, Equal, Greater}
+use Rattle.std.proofs.lemmas.Bool.{and_parts, or_left, or_right}
+use Rattle.std.proofs.lemmas.Cmp.{nat_cmp_total}
+use Rattle.xns_dump.proofs.Numbered.{cmp_eq}
+use Rattle.xns_dump.proofs.Places.{then_equal}
 use Rattle.xns_dump.specs.Flows.{is_flow, is_place}
 use Rattle.xns_dump.specs.Flows.Numbers.{flow_cmp}
 use Rattle.xns_dump.specs.Flows.Places.{IsPlace, host_and_socket, place_cmp}
@@ -23,15 +26,12 @@ use Rattle.xns_calls.specs.declared.connection_key.ConnectionKey.{ConnectionKey}
 places_total : IsTotalOrder place_cmp
 places_total = search (comparing, rules)
 
-numbers_total : IsTotalOrder nat_cmp
-numbers_total = search (comparing, rules)
-
 tied_key : (key : ConnectionKey) → key_cmp key key ≡ Equal
 tied_key key =
-    ap (λ r. ordering_then r (ordering_then (nat_cmp key.lesser key.lesser) (ordering_then first second))) (tied_itself numbers_total key.mixed)
-    ∙ ap (λ r. ordering_then r (ordering_then first second)) (tied_itself numbers_total key.lesser)
-    ∙ ap (λ r. ordering_then r second) (tied_itself numbers_total key.lesser_identifier)
-    ∙ tied_itself numbers_total key.greater_identifier
+    ap (λ r. ordering_then r (ordering_then (nat_cmp key.lesser key.lesser) (ordering_then first second))) (tied_itself nat_cmp_total key.mixed)
+    ∙ ap (λ r. ordering_then r (ordering_then first second)) (tied_itself nat_cmp_total key.lesser)
+    ∙ ap (λ r. ordering_then r second) (tied_itself nat_cmp_total key.lesser_identifier)
+    ∙ tied_itself nat_cmp_total key.greater_identifier
   where
     first : Ordering
     first = nat_cmp key.lesser_identifier key.lesser_identifier
@@ -75,14 +75,6 @@ same_flow law a b same =
 either : (p q : Bool) (A : Type 0) → (p ≡ true → A) → (q ≡ true → A) → (p || q) ≡ true → A
 either true q A f g e = f refl
 either false q A f g e = g e
-
-or_left : (p q : Bool) → p ≡ true → (p || q) ≡ true
-or_left true q e = refl
-or_left false q e = (cc)
-
-or_right : (p q : Bool) → q ≡ true → (p || q) ≡ true
-or_right true q e = refl
-or_right false q e = e
 
 -- turned or not, one flow is one of the two
 turned_one : FlowsAreToldApart → (p q : Bool) (a b : Flow) → turned_by p a ≡ turned_by q b → (is_flow a b || is_flow a (flow_behind b)) ≡ true
@@ -149,7 +141,7 @@ all_tied Equal Equal Greater j e = (cc)
 all_tied Equal Equal Equal j e = (refl, refl, refl, e)
 
 same_number : (a b : ℕ) → a ≡ b → nat_cmp a b ≡ Equal
-same_number a b e = ap (λ n. nat_cmp n b) e ∙ tied_itself numbers_total b
+same_number a b e = ap (λ n. nat_cmp n b) e ∙ tied_itself nat_cmp_total b
 
 -- the ends of flows whose keys are equal are in no order
 ends_tied : (a b : Flow) → key_cmp (key_in a) (key_in b) ≡ Equal → ends_order a b ≡ Equal
@@ -203,30 +195,11 @@ one_key law order a b formed formed_too =
 
 -- ---- an end is told by its numbers
 
-then_equal : (r : Ordering) → ordering_then r Equal ≡ r
-then_equal Less = refl
-then_equal Equal = refl
-then_equal Greater = refl
-
-both_equal : (r s : Ordering) → is_eq (ordering_then r s) ≡ (is_eq r && is_eq s)
-both_equal Less s = refl
-both_equal Equal s = refl
-both_equal Greater s = refl
-
-and_itself : (p : Bool) → (p && p) ≡ true → p ≡ true
-and_itself true e = refl
-and_itself false e = e
-
-number_told : (x y : ℕ) → is_eq (nat_cmp x y) ≡ (x == y)
-number_told x y = both_ways (is_eq (nat_cmp x y)) (x == y)
-    (λ e. eq-eqb x y (exact_unsigned x y ((Equal-is (nat_cmp x y)).0 e)))
-    (λ e. ap is_eq (same_number x y (eqb-true x y e)))
-
 place_told : FlowsAreToldApart → (a b : Place) → is_eq (place_cmp a b) ≡ is_place a b
 place_told law a b =
     let from_a : Flow = record { source = a; target = a } in
     let from_b : Flow = record { source = b; target = a } in
-    let itself : is_place a a ≡ true = and_itself (is_place a a) (same_flow law from_a from_a refl) in
+    let itself : is_place a a ≡ true = (and_parts (is_place a a) (is_place a a) (same_flow law from_a from_a refl)).0 in
     sym (ap (λ r. is_eq (ordering_then (place_cmp a b) r)) (tied_itself places_total a) ∙ ap is_eq (then_equal (place_cmp a b)))
     ∙ law.order from_a from_b
     ∙ ap (λ p. is_place a b && p) itself ∙ and-true (is_place a b)
@@ -235,7 +208,7 @@ place_told law a b =
 pub end_told : FlowsAreToldApart → PlacesAreOrderedByNumbers → (a b : Place) → IsPlace a → IsPlace b
     → ((host_and_socket a == host_and_socket b) && (a.identifier == b.identifier)) ≡ is_place a b
 end_told law order a b formed formed_too =
-    sym (both_equal (nat_cmp (host_and_socket a) (host_and_socket b)) (nat_cmp a.identifier b.identifier)
-    ∙ ap (λ p. p && is_eq (nat_cmp a.identifier b.identifier)) (number_told (host_and_socket a) (host_and_socket b))
-    ∙ ap (λ p. (host_and_socket a == host_and_socket b) && p) (number_told a.identifier b.identifier))
+    sym (sym (tied_then (nat_cmp (host_and_socket a) (host_and_socket b)) (nat_cmp a.identifier b.identifier))
+    ∙ ap (λ p. p && is_eq (nat_cmp a.identifier b.identifier)) (cmp_eq (host_and_socket a) (host_and_socket b))
+    ∙ ap (λ p. (host_and_socket a == host_and_socket b) && p) (cmp_eq a.identifier b.identifier))
     ∙ ap is_eq (order a b formed formed_too) ∙ place_told law a b

@@ -2,6 +2,7 @@
 use Rattle.std.proofs.Common.{◌≡◌, ◌∙◌, ap, sym, refl, subst, arith, ℕ, suc, ◌+◌, ◌-◌, ◌<◌, ◌≤◌, ◌==◌, ◌⊎◌, inl, inr, Bool, true, false, cond, List, [], ◌∷◌, Option, Some, None}
 use Rattle.std.specs.Prelude.{nat_lt, ◌||◌}
 use Rattle.std.specs.List.{insert, list_any}
+use Rattle.std.proofs.lemmas.Bool.{eq-eqb, eqb-true, lt-ltb, ltb-false, ltb-true, or_left, or_right}
 use Rattle.xns_calls.specs.declared.carried.Carried.{Carried}
 use Rattle.xns_calls.specs.declared.early.Early.{Early}
 use Rattle.xns_calls.specs.declared.heading.Heading.{Heading}
@@ -11,7 +12,7 @@ use Rattle.xns_calls.specs.Numbers.{most_early}
 use Rattle.xns_calls.specs.Queue.{below, kept, last_kept_number}
 use Rattle.xns_calls.specs.Reading.{Told, brought, first_read, with_kept_item}
 use Rattle.xns_calls.proofs.Steps.{early_of, passed_early, read_early, with_early}
-use Rattle.xns_calls.proofs.Comparing.{by_test, equal_tells, equal_true, le_tells, lt_tells, lt_true, not_less, other_than}
+use Rattle.xns_calls.proofs.Comparing.{by_test, not_less, other_than}
 use Rattle.xns_calls.proofs.Ordered.{AreFrom, Bears, IsKnown, IsOrdered, Kept, brought_bears, brought_ordered, first_bears, first_ordered, item_next, known_bears, known_read, next_of, passed_next}
 
 -- ---- an item more is kept
@@ -30,8 +31,8 @@ kept_from n k item [] from le new = (le, tt)
 kept_from n k item (e ∷ rest) from le new =
     subst (AreFrom n) (sym (kept_cases (nat_lt e.number k) k item e rest refl))
     (by_test (AreFrom n) (nat_lt e.number k) (e ∷ kept k item rest) (early k item ∷ e ∷ rest)
-    (λ less. (from.0, kept_from (e.number + 1) k item rest from.1 (omega (arith, lt_tells e.number k less)) (λ old. new (inr old))))
-    (λ more. front (le_tells e.number k more)))
+    (λ less. (from.0, kept_from (e.number + 1) k item rest from.1 (omega (arith, ltb-true e.number k less)) (λ old. new (inr old))))
+    (λ more. front (ltb-false e.number k more)))
   where
     front : k ≤ e.number → AreFrom n (early k item ∷ e ∷ rest)
     front up = (le, (other_than e.number k (λ same. new (inl same)) up, from.1))
@@ -53,23 +54,15 @@ kept_has m k item (e ∷ rest) h =
 
 -- ---- what a repeat is
 
-or_true : (p q : Bool) → q ≡ true → (p || q) ≡ true
-or_true true q e = refl
-or_true false q e = e
-
-or_left : (p q : Bool) → p ≡ true → (p || q) ≡ true
-or_left true q e = refl
-or_left false q e = (cc)
-
 any_kept : (m : ℕ) (es : List Early) → Kept m es → list_any (λ early. early.number == m) es ≡ true
 any_kept m [] none = absurd none
-any_kept m (e ∷ rest) (inl is) = or_left (e.number == m) (list_any (λ early. early.number == m) rest) (equal_true e.number m is)
-any_kept m (e ∷ rest) (inr k) = or_true (e.number == m) (list_any (λ early. early.number == m) rest) (any_kept m rest k)
+any_kept m (e ∷ rest) (inl is) = or_left (e.number == m) (list_any (λ early. early.number == m) rest) (eq-eqb e.number m is)
+any_kept m (e ∷ rest) (inr k) = or_right (e.number == m) (list_any (λ early. early.number == m) rest) (any_kept m rest k)
 
 -- what is known is a repeat
 repeat_known : (m : ℕ) (t : Told) → IsKnown m t → is_repeat m t.track ≡ true
-repeat_known m t (inl lt) = or_left (nat_lt m t.track.next) (list_any (λ early. early.number == m) t.track.early) (lt_true m t.track.next lt)
-repeat_known m t (inr k) = or_true (nat_lt m t.track.next) (list_any (λ early. early.number == m) t.track.early) (any_kept m t.track.early k)
+repeat_known m t (inl lt) = or_left (nat_lt m t.track.next) (list_any (λ early. early.number == m) t.track.early) (lt-ltb m t.track.next lt)
+repeat_known m t (inr k) = or_right (nat_lt m t.track.next) (list_any (λ early. early.number == m) t.track.early) (any_kept m t.track.early k)
 
 not_known : (m : ℕ) (t : Told) → is_repeat m t.track ≡ false → IsKnown m t → ⊥
 not_known m t new known = no_both (is_repeat m t.track) new (repeat_known m t known)
@@ -83,7 +76,7 @@ any_tells m [] none = (cc)
 any_tells m (e ∷ rest) test = one_of (e.number == m) refl test (any_tells m rest)
   where
     one_of : (p : Bool) → (e.number == m) ≡ p → (p || list_any (λ early. early.number == m) rest) ≡ true → (list_any (λ early. early.number == m) rest ≡ true → Kept m rest) → Kept m (e ∷ rest)
-    one_of true is all more = inl (equal_tells e.number m is)
+    one_of true is all more = inl (eqb-true e.number m is)
     one_of false is all more = inr (more all)
 
 -- a repeat is known
@@ -91,7 +84,7 @@ known_repeat : (m : ℕ) (t : Told) → is_repeat m t.track ≡ true → IsKnown
 known_repeat m t old = one_of (nat_lt m t.track.next) refl old
   where
     one_of : (p : Bool) → nat_lt m t.track.next ≡ p → (p || list_any (λ early. early.number == m) t.track.early) ≡ true → IsKnown m t
-    one_of true lt all = inl (lt_tells m t.track.next lt)
+    one_of true lt all = inl (ltb-true m t.track.next lt)
     one_of false lt all = inr (any_tells m t.track.early all)
 
 -- what is new, and what it is brought to, lies behind the flow

@@ -1,13 +1,14 @@
 -- The last item that a flow keeps, and acknowledgements of no more than that.
 use Rattle.std.proofs.Common.{◌≡◌, ◌∙◌, ap, sym, refl, subst, arith, ℕ, suc, ◌+◌, ◌-◌, ◌<◌, ◌≤◌, cond, List, [], ◌∷◌, ◌++◌, length, Option, Some, None}
 use Rattle.std.specs.Prelude.{min, nat_lt, option_map, slice_get}
+use Rattle.std.proofs.lemmas.Bool.{lt-ltb}
 use Rattle.xns_calls.specs.Events.{Event, acknowledged, acknowledged_event, after_events, brought_if, captured, meanwhile, read}
 use Rattle.xns_calls.specs.Exchange.{behind_last, up_to}
 use Rattle.xns_calls.specs.Queue.{last_kept_number}
 use Rattle.xns_calls.specs.Reading.{Told, brought, brought_over, item_read, passed}
 use Rattle.xns_calls.specs.declared.early.Early.{Early}
 use Rattle.xns_calls.specs.declared.heading.Heading.{Heading}
-use Rattle.xns_calls.proofs.Comparing.{by_test, lt_true}
+use Rattle.xns_calls.proofs.Comparing.{by_test}
 use Rattle.xns_calls.proofs.Ordered.{AreFrom, IsOrdered, next_of}
 use Rattle.xns_calls.proofs.Steps.{early_of, passed_early, read_early, with_early}
 
@@ -23,7 +24,7 @@ over_empty : (h : Heading) (n : ℕ) (es : List Early) (t : Told) → early_of t
 over_empty h n [] t same below = passed_early h n t ∙ same
 over_empty h n (e ∷ rest) t same below =
     let u = item_read h e (with_early rest t) in
-    ap (λ p. early_of (cond p (brought_over h n rest u) (passed h n t))) (lt_true e.number n below.0) ∙ over_empty h n rest u (read_early h e (with_early rest t)) below.1
+    ap (λ p. early_of (cond p (brought_over h n rest u) (passed h n t))) (lt-ltb e.number n below.0) ∙ over_empty h n rest u (read_early h e (with_early rest t)) below.1
 
 last_more : (e g : Early) (rest : List Early) → last_kept_number (e ∷ g ∷ rest) ≡ last_kept_number (g ∷ rest)
 last_more e g rest =

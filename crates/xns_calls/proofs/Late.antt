@@ -1,6 +1,7 @@
 -- An item that comes next of its flow is not kept longer than 64 packets of its connection.
 use Rattle.std.proofs.Common.{◌≡◌, ◌∙◌, ap, sym, refl, subst, arith, inl, inr, ℕ, ◌<◌, ◌≤◌, ◌⊎◌, Bool, true, false, List, [], ◌∷◌, ◌++◌, length, Option, Some, None}
 use Rattle.std.specs.Prelude.{nat_lt, not}
+use Rattle.std.proofs.lemmas.Bool.{ltb-false, ltb-true}
 use Rattle.xns_idp.specs.Packet.{PacketModel}
 use Rattle.xns_spp.specs.declared.header.Header.{Header}
 use Rattle.xns_dump.specs.declared.flows.flow.Flow.{Flow}
@@ -10,11 +11,10 @@ use Rattle.xns_calls.specs.Exchange.{Scene, after_packet}
 use Rattle.xns_calls.specs.Held.{AreHandled, CameWith, Handled, IsHandled, NextItemsAreNotHeldLonger, acknowledges, behind_all, handled_by, handled_packets, scene_behind, track_behind, with_all, with_handled}
 use Rattle.xns_calls.specs.InOrder.{WaitsForNone}
 use Rattle.xns_calls.specs.Over.{side_in}
-use Rattle.xns_calls.specs.Turns.{first_line, readable}
+use Rattle.xns_calls.specs.Turns.{readable}
 use Rattle.xns_calls.specs.declared.connection.Connection.{Connection}
 use Rattle.xns_calls.specs.declared.origin.Origin.{Origin}
 use Rattle.xns_calls.specs.declared.track.Track.{Track}
-use Rattle.xns_calls.proofs.Comparing.{le_tells, lt_tells}
 use Rattle.xns_calls.proofs.GoingOn.{GoesOn, all_go, goes_order, new_order}
 use Rattle.xns_calls.proofs.Histories.{both_handled, handled_there, known_come, with_both}
 use Rattle.xns_calls.proofs.InOrder.{can_so, settled_left}
@@ -22,6 +22,8 @@ use Rattle.xns_calls.specs.declared.carried.Carried.{Carried}
 use Rattle.xns_calls.specs.declared.early.Early.{Early}
 use Rattle.xns_calls.proofs.Bringers.{first_stands}
 use Rattle.xns_calls.proofs.Held.{given_of, given_other, given_then}
+use Rattle.xns_calls.proofs.LessAtEnd.{first_none}
+use Rattle.xns_calls.proofs.Renewals.{none_new}
 
 -- ---- an item that comes next
 
@@ -50,12 +52,6 @@ given_there n false packet f content c s = refl
 abbrev IsRead : Connection → Type 0
 IsRead c = (d : Bool) → readable (side_in d c).track (side_in (not d) c).track (given_of (not d) c) ≡ None
 
-no_lines : (a b : Option ℕ) → first_line a b ≡ None → (a ≡ None) × (b ≡ None)
-no_lines None None is = (refl, refl)
-no_lines None (Some b) is = (cc)
-no_lines (Some a) None is = (cc)
-no_lines (Some a) (Some b) is = (cc)
-
 packet_read : (packet : Handled) (c : Connection) → IsHandled packet c → IsRead (with_handled packet c)
 packet_read packet c w = subst (λ x. IsRead (with_handled x c)) (sym w.is) (by_flow packet.is_behind)
   where
@@ -69,7 +65,7 @@ packet_read packet c w = subst (λ x. IsRead (with_handled x c)) (sym w.is) (by_
     none q =
         let given = (due_in q f c).given in
         let s = scene_in q c (repeats_told packet.origin q f c w.known) in
-        no_lines (readable (left q).own.track (left q).other.track given.other) (readable (left q).other.track (left q).own.track given.own)
+        first_none (readable (left q).own.track (left q).other.track given.other) (readable (left q).other.track (left q).own.track given.own)
         (settled_left (heading_at packet.origin c.number q) given (after_packet (heading_at packet.origin c.number q) (due_in q f c) packet.sent f packet.content s))
 
     by_flow : (q : Bool) → IsRead (with_handled (handled_by packet.origin q packet.sent f packet.content (left q)) c)
@@ -110,10 +106,6 @@ never_held number flow before more packet track early rest are long is at first 
     sym (can_so track (side_in (not b) last).track (given_of (not b) last) early (record { rest = rest; first = first; next = next; free = free }))
     ∙ ap (λ o. readable o (side_in (not b) last).track (given_of (not b) last)) (sym at) ∙ none in (cc)
 
-new_none : (d : Bool) (number : ℕ) (flow : Flow) → (side_in d (new_connection number flow)).track ≡ None
-new_none true number flow = refl
-new_none false number flow = refl
-
 came_late : (number : ℕ) (flow : Flow) (packets : List Handled) (d : Bool) (track : Track) (early : Early) (rest : List Early) → AreHandled packets (new_connection number flow)
     → (side_in d (behind_all number flow packets)).track ≡ Some track → track.early ≡ early ∷ rest → early.number ≤ track.next
     → (came : CameWith d packets (new_connection number flow) early.item) × (length came.more < most_waited)
@@ -123,12 +115,12 @@ came_late number flow packets d track early rest are at first next = (x, by_coun
     start = new_connection number flow
 
     x : CameWith d packets start early.item
-    x = first_stands d packets start track early rest are (new_none d number flow) at first
+    x = first_stands d packets start track early rest are (none_new d number flow) at first
 
     by_count : (p : Bool) → nat_lt (length x.more) most_waited ≡ p → length x.more < most_waited
-    by_count true few = lt_tells (length x.more) most_waited few
+    by_count true few = ltb-true (length x.more) most_waited few
     by_count false long =
-        absurd (never_held number flow x.before x.more x.packet track early rest (subst (λ ps. AreHandled ps start) x.are are) (le_tells (length x.more) most_waited long) (ap (λ (y : Carried). y.acknowledged) x.brought)
+        absurd (never_held number flow x.before x.more x.packet track early rest (subst (λ ps. AreHandled ps start) x.are are) (ltb-false (length x.more) most_waited long) (ap (λ (y : Carried). y.acknowledged) x.brought)
         (ap (λ b. (side_in b (with_all (x.before ++ x.packet ∷ x.more) start)).track) x.own ∙ ap (λ ps. (side_in d (with_all ps start)).track) (sym x.are) ∙ at) first next)
 
 pub not_held_longer : NextItemsAreNotHeldLonger

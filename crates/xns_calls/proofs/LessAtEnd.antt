@@ -1,7 +1,8 @@
 -- How what two flows keep is read at the end, item by item.
 use Rattle.std.proofs.Common.{◌≡◌, ◌∙◌, ap, sym, refl, subst, arith, ℕ, zero, suc, ◌+◌, ◌<◌, ◌≤◌, Bool, true, false, cond, List, [], ◌∷◌, length, Option, Some, None}
 use Rattle.std.specs.Prelude.{nat_lt, option_map}
-use Rattle.xns_calls.specs.AtEnd.{both_ended, earliest, end_line, end_turn, ended_of, ended_times, first_at_end, first_in, one_ended, other_ended, own_ended, read_behind}
+use Rattle.std.proofs.lemmas.Bool.{lt-ltb}
+use Rattle.xns_calls.specs.AtEnd.{both_ended, earliest, end_line, end_turn, ended_of, ended_times, first_at_end, first_in, one_ended, own_ended, read_behind}
 use Rattle.xns_calls.specs.Exchange.{Scene, advance_other, advance_track, advanced, of_other, other_reached, reached, seen_from_other, told_of}
 use Rattle.xns_calls.specs.Read.{kept_item_count}
 use Rattle.xns_calls.specs.Reading.{Told, brought, brought_over, item_read, passed}
@@ -10,7 +11,7 @@ use Rattle.xns_calls.specs.declared.early.Early.{Early}
 use Rattle.xns_calls.specs.declared.first_kept.FirstKept.{FirstKept}
 use Rattle.xns_calls.specs.declared.heading.Heading.{Heading}
 use Rattle.xns_calls.specs.declared.track.Track.{Track}
-use Rattle.xns_calls.proofs.Comparing.{by_test, lt_true}
+use Rattle.xns_calls.proofs.Comparing.{by_test}
 use Rattle.xns_calls.proofs.Kept.{earliest_number}
 use Rattle.xns_calls.proofs.LessKept.{count}
 use Rattle.xns_calls.proofs.Packets.{advanced_other, reached_own}
@@ -37,7 +38,7 @@ first_less h e rest t at =
     let u = item_read h e (with_early rest t) in
     let n = e.number + 1 in
     let read : brought_over h n (early_of t) t ≡ brought_over h n rest u =
-    ap (λ es. brought_over h n es t) at ∙ ap (λ p. cond p (brought_over h n rest u) (passed h n t)) (lt_true e.number n (omega arith)) in
+    ap (λ es. brought_over h n es t) at ∙ ap (λ p. cond p (brought_over h n rest u) (passed h n t)) (lt-ltb e.number n (omega arith)) in
     subst (λ (x : Told). length (early_of x) ≤ length rest) (sym read) (over_less h n rest u (read_early h e (with_early rest t)))
 
 advanced_less : (h : Heading) (n : ℕ) (s : Scene) → kept_item_count (advanced h n s).own.track ≤ kept_item_count s.own.track
@@ -89,7 +90,7 @@ own_less h s line is = by_track s.own.track refl is
 count_less : (h : Heading) (turn : Bool) (s : Scene) → end_turn s.own.track s.other.track ≡ Some turn → count (ended_of h (Some turn) s) < count s
 count_less h turn s is = by_lines (end_line s.own.track) (end_line s.other.track) turn refl refl is
   where
-    other_less : (line : ℕ) → end_line s.other.track ≡ Some line → count (other_ended h s) < count s
+    other_less : (line : ℕ) → end_line s.other.track ≡ Some line → count (ended_of h (Some true) s) < count s
     other_less line e = let one = own_less (of_other h) (seen_from_other s) line e in omega (arith, one)
 
     by_lines : (a b : Option ℕ) (turn : Bool) → end_line s.own.track ≡ a → end_line s.other.track ≡ b → first_line a b ≡ Some turn → count (ended_of h (Some turn) s) < count s
@@ -170,7 +171,7 @@ line_none track is = by_early track.early is
     by_early [] is = refl
     by_early (e ∷ rest) is = (cc)
 
-first_none : (a b : Option ℕ) → first_line a b ≡ None → (a ≡ None) × (b ≡ None)
+pub first_none : (a b : Option ℕ) → first_line a b ≡ None → (a ≡ None) × (b ≡ None)
 first_none None None is = (refl, refl)
 first_none (Some a) None is = (cc)
 first_none None (Some b) is = (cc)

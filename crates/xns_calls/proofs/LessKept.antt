@@ -1,6 +1,7 @@
 -- How what two flows keep is read, item by item.
 use Rattle.std.proofs.Common.{◌≡◌, ◌∙◌, ap, sym, refl, arith, ℕ, zero, suc, ◌+◌, ◌<◌, ◌≤◌, Bool, true, false, cond, List, [], ◌∷◌, length, Option, Some, None}
 use Rattle.std.specs.Prelude.{nat_lt, not, ◌&&◌}
+use Rattle.std.proofs.lemmas.Bool.{ltb-false}
 use Rattle.xns_calls.specs.Exchange.{Scene, of_other, seen_from_other, told_of}
 use Rattle.xns_calls.specs.Read.{kept_item_count, one_read, own_read, read_in_track, read_of, read_times, settled}
 use Rattle.xns_calls.specs.Reading.{Told, first_read}
@@ -9,7 +10,6 @@ use Rattle.xns_calls.specs.declared.early.Early.{Early}
 use Rattle.xns_calls.specs.declared.given.Given.{Given}
 use Rattle.xns_calls.specs.declared.heading.Heading.{Heading}
 use Rattle.xns_calls.specs.declared.track.Track.{Track}
-use Rattle.xns_calls.proofs.Comparing.{le_tells}
 use Rattle.xns_calls.proofs.Packets.{read_other}
 use Rattle.xns_calls.proofs.Steps.{first_some, read_early, with_early}
 
@@ -20,7 +20,7 @@ first_due next behind given e rest line is = by_test (nat_lt next e.number) refl
   where
     by_test : (p : Bool) → nat_lt next e.number ≡ p → cond (not p && waits_for_none behind given e.item.acknowledged) (Some e.item.line) None ≡ Some line → e.number ≤ next
     by_test true test is = (cc)
-    by_test false test is = le_tells next e.number test
+    by_test false test is = ltb-false next e.number test
 
 less_in : (h : Heading) (given : ℕ) (o : Option Track) (line : ℕ) (s : Scene) → readable o s.other.track given ≡ Some line → kept_item_count o ≡ suc (kept_item_count (read_in_track h o s).own.track)
 less_in h given None line s is = (cc)

@@ -1,6 +1,9 @@
 -- A connection that no end has closed is kept, whatever comes.
 use Rattle.std.proofs.Common.{◌≡◌, ◌∙◌, ap, sym, refl, subst, ℕ, ◌+◌, Bool, true, false, cond, ◌&&◌, ◌||◌, List, [], ◌∷◌, Option, Some, None}
 use Rattle.std.specs.Prelude.{◌==◌, option_map, slice_get}
+use Rattle.std.proofs.lemmas.Bool.{eqb-false, eqb-true}
+use Rattle.std.proofs.Math.Bool.{and-false}
+use Rattle.std.proofs.lemmas.Option.{slice_get_within}
 use Rattle.xns_idp.specs.Packet.{PacketModel}
 use Rattle.xns_spp.specs.declared.header.Header.{Header}
 use Rattle.xns_dump.specs.Flows.{flow_of}
@@ -20,13 +23,11 @@ use Rattle.xns_calls.specs.declared.closing.Closing.{Closing}
 use Rattle.xns_calls.specs.declared.closing.Closing.TheVariants.{Open, End, EndReply}
 use Rattle.xns_calls.specs.declared.connection.Connection.{Connection}
 use Rattle.xns_calls.specs.declared.origin.Origin.{Origin}
-use Rattle.xns_calls.proofs.Comparing.{equal_tells}
 use Rattle.xns_calls.proofs.Inputs.{line_is}
-use Rattle.xns_calls.proofs.Parts.{number_tells}
 use Rattle.xns_calls.proofs.Numbered.{same_number, scene_number}
 use Rattle.xns_calls.proofs.Others.{get_same, others_same}
 use Rattle.xns_calls.proofs.Standing.{after_there as after_there_at}
-use Rattle.xns_calls.proofs.Whole.{get_below}
+use Rattle.xns_calls.proofs.Taken.{read_there}
 
 Stays : ℕ → ℕ → Known → Type 0
 Stays i number k = (c : Connection) × (slice_get k.connections i ≡ Some c) × (c.number ≡ number) × (is_answered c ≡ false)
@@ -42,7 +43,7 @@ other_item : (stream : ℕ) → (stream ≡ 255 → ⊥) → (stream == 255) ≡
 other_item stream other = by_test (stream == 255) refl
   where
     by_test : (p : Bool) → (stream == 255) ≡ p → p ≡ false
-    by_test true e = absurd (other (equal_tells stream 255 e))
+    by_test true e = absurd (other (eqb-true stream 255 e))
     by_test false e = refl
 
 closed_replies : (stream : ℕ) (closing : Closing) → (stream ≡ 255 → ⊥) → has_replied (closed_with stream closing) ≡ has_replied closing
@@ -63,21 +64,13 @@ still_answered : (q : Bool) (s : Scene) (c : Connection) → is_answered (with_s
 still_answered true s c = refl
 still_answered false s c = refl
 
-settled_with : (n : Origin) (i : ℕ) (q : Bool) (k : Known) (c : Connection) → slice_get k.connections i ≡ Some c → settled_at n i q k ≡ settled_there n i q (Some c) k
-unfolding settled_at
-settled_with n i q k c there = ap (λ o. settled_there n i q o k) there
-
 -- ---- a connection that is not answered is not over
-
-and_false : (p : Bool) → (p && false) ≡ false
-and_false true = refl
-and_false false = refl
 
 never_anew : (f : Header) (c : Connection) → is_answered c ≡ false → begins_anew f c ≡ false
 never_anew f c e =
     let first = has_ended c.first c.first_closing in
     let second = has_ended c.second c.second_closing in
-    ap (λ p. begins_items f && ((first && second) && p)) e ∙ ap (λ p. begins_items f && p) (and_false (first && second)) ∙ and_false (begins_items f)
+    ap (λ p. begins_items f && ((first && second) && p)) e ∙ ap (λ p. begins_items f && p) (and-false (first && second)) ∙ and-false (begins_items f)
 
 -- ---- a packet
 
@@ -93,7 +86,7 @@ own_stays n i number flow packet f content k other (c, there, is, quiet) =
     let there' : slice_get k'.connections i ≡ Some c' = get_same k.connections i c c' there in
     let z = settled (heading_at n c'.number q) (given_in q c') (scene_in q c' k') in
     let c'' = with_scene q z c' in
-    let reads : settled_at n i q k' ≡ settled_there n i q (Some c') k' = settled_with n i q k' c' there' in
+    let reads : settled_at n i q k' ≡ settled_there n i q (Some c') k' = read_there n i q k' c' there' in
     let same : renewed_there n i flow f (slice_get k.connections i) k ≡ k =
     ap (λ o. renewed_there n i flow f o k) there ∙ ap (λ p. cond p (forgotten n i flow c k) k) (never_anew f c quiet) in
     let takes : after_there n i flow packet f content (slice_get k.connections i) k ≡ after_in n i q packet f content c k = ap (λ o. after_there n i flow packet f content o k) there in
@@ -104,14 +97,14 @@ other_stays : (n : Origin) (i number : ℕ) (packet : PacketModel) (f : Header) 
     → Stays i number (after_sequenced n packet f content k)
 unfolding Stays
 other_stays n i number packet f content k other (c, there, is, quiet) =
-    (c, others_same n packet f content k i (get_below k.connections i c there) other ∙ there, is, quiet)
+    (c, others_same n packet f content k i (slice_get_within k.connections i c there) other ∙ there, is, quiet)
 
 packet_stays : (n : Origin) (i number : ℕ) (packet : PacketModel) (f : Header) (content : List ℕ) (k : Known) → (place_of (flow_of packet f) k.connections ≡ Some i → f.stream ≡ 255 → ⊥) → Stays i number k
     → Stays i number (after_sequenced n packet f content k)
 packet_stays n i number packet f content k quiet stays = by_place (place_of (flow_of packet f) k.connections) refl
   where
     some_tells : (a b : ℕ) → (a == b) ≡ false → Some b ≡ Some a → ⊥
-    some_tells a b e is = number_tells a b e (let same : a ≡ b = (cc) in same)
+    some_tells a b e is = eqb-false a b e (let same : a ≡ b = (cc) in same)
 
     by_place : (o : Option ℕ) → place_of (flow_of packet f) k.connections ≡ o → Stays i number (after_sequenced n packet f content k)
     by_place None at = other_stays n i number packet f content k (λ found. let wrong : None ≡ Some i = sym at ∙ found in (cc)) stays
@@ -120,7 +113,7 @@ packet_stays n i number packet f content k quiet stays = by_place (place_of (flo
         by_number : (p : Bool) → (i == j) ≡ p → Stays i number (after_sequenced n packet f content k)
         by_number false e = other_stays n i number packet f content k (λ found. some_tells i j e (sym at ∙ found)) stays
         by_number true e =
-            let here : place_of (flow_of packet f) k.connections ≡ Some i = at ∙ ap (λ x. Some x) (sym (equal_tells i j e)) in
+            let here : place_of (flow_of packet f) k.connections ≡ Some i = at ∙ ap (λ x. Some x) (sym (eqb-true i j e)) in
             subst (Stays i number) (sym (after_there_at n packet f content k (flow_of packet f) i refl here)) (own_stays n i number (flow_of packet f) packet f content k (quiet here) stays)
 
 -- ---- all lines

@@ -1,13 +1,14 @@
 -- What a flow keeps stays in order, from its next number on, where it is brought on and where its first item is read.
 use Rattle.std.proofs.Common.{◌≡◌, ◌∙◌, ap, sym, refl, subst, arith, ℕ, ◌+◌, ◌<◌, ◌≤◌, ◌==◌, ◌⊎◌, inl, inr, Bool, true, false, cond, List, [], ◌∷◌}
 use Rattle.std.specs.Prelude.{nat_lt, max}
+use Rattle.std.proofs.lemmas.Bool.{le-ltb, ltb-false, ltb-true}
 use Rattle.xns_spp.specs.declared.item.Item.{Item}
 use Rattle.xns_calls.specs.declared.early.Early.{Early}
 use Rattle.xns_calls.specs.declared.heading.Heading.{Heading}
 use Rattle.xns_calls.specs.Queue.{kept}
 use Rattle.xns_calls.specs.Reading.{Told, brought, brought_over, first_read, first_read_over, item_read, passed, past, read_next, said_item, after_heard}
 use Rattle.xns_calls.proofs.Steps.{early_of, passed_early, passed_same, read_early, with_early}
-use Rattle.xns_calls.proofs.Comparing.{by_test, le_tells, lt_false, lt_tells}
+use Rattle.xns_calls.proofs.Comparing.{by_test}
 
 -- ---- what is kept, in order
 
@@ -42,7 +43,7 @@ none_below n m (e ∷ rest) h lt (inr k) = none_below (e.number + 1) m rest h.1 
 pub passed_next : (h : Heading) (n : ℕ) (t : Told) → next_of (passed h n t) ≡ max (next_of t) n
 unfolding passed
 passed_next h n t = by_test (λ (u : Told). u.track.next ≡ max t.track.next n) (nat_lt t.track.next n) (past h n t) t
-    (λ e. omega (arith, lt_tells t.track.next n e)) (λ e. omega (arith, le_tells t.track.next n e))
+    (λ e. omega (arith, ltb-true t.track.next n e)) (λ e. omega (arith, ltb-false t.track.next n e))
 
 cond_next : (p : Bool) (t u : Told) → next_of t ≡ next_of u → next_of (cond p t u) ≡ next_of u
 cond_next true t u e = e
@@ -69,7 +70,7 @@ over_bears P h n bears (e ∷ rest) t same from p =
     let u = item_read h e (with_early rest t) in
     by_test P (nat_lt e.number n) (brought_over h n rest u) (passed h n t)
     (λ due. over_bears P h n bears rest u (read_early h e (with_early rest t)) (subst (λ k. AreFrom k rest) (sym (item_next h e (with_early rest t))) from.1)
-    (bears.reads e rest t same from.0 (lt_tells e.number n due) p))
+    (bears.reads e rest t same from.0 (ltb-true e.number n due) p))
     (λ later. bears.passes t p)
 
 pub brought_bears : (P : Told → Type 0) (h : Heading) (n : ℕ) (t : Told) → Bears P h n → AreFrom (next_of t) (early_of t) → P t → P (brought h n t)
@@ -100,7 +101,7 @@ over_ordered h n (e ∷ rest) t same from =
     by_test IsOrdered (nat_lt e.number n) (brought_over h n rest u) (passed h n t)
     (λ due. over_ordered h n rest u (read_early h e (with_early rest t)) (subst (λ k. AreFrom k rest) (sym (item_next h e (with_early rest t))) from.1))
     (λ later.
-    let le : n ≤ e.number = le_tells e.number n later in
+    let le : n ≤ e.number = ltb-false e.number n later in
     subst (λ k. AreFrom k (early_of (passed h n t))) (sym (passed_next h n t))
     (subst (AreFrom (max (next_of t) n)) (sym (passed_early h n t ∙ same)) (omega (arith, le, from.0), from.1)))
 
@@ -141,5 +142,5 @@ brought_same h n t ordered le = same_over t.track.early ordered
     same_over : (es : List Early) → AreFrom (next_of t) es → brought_over h n es t ≡ t
     same_over [] from = passed_same h n t le
     same_over (e ∷ rest) from =
-        ap (λ p. cond p (brought_over h n rest (item_read h e (with_early rest t))) (passed h n t)) (lt_false e.number n (omega (arith, le, from.0)))
+        ap (λ p. cond p (brought_over h n rest (item_read h e (with_early rest t))) (passed h n t)) (le-ltb e.number n (omega (arith, le, from.0)))
         ∙ passed_same h n t le

@@ -1,5 +1,6 @@
 -- What a packet does to a flow are its events.
 use Rattle.std.proofs.Common.{◌≡◌, ◌∙◌, ap, sym, refl, ℕ, ◌%◌, ◌+◌, ◌<◌, ◌≤◌, Bool, true, false, cond, List, [], Option, Some, None}
+use Rattle.std.proofs.lemmas.Bool.{le-ltb}
 use Rattle.xns_idp.specs.Packet.{PacketModel}
 use Rattle.xns_spp.specs.Header.{is_system}
 use Rattle.xns_spp.specs.Laws.{NearestNumberIsReadBack}
@@ -17,7 +18,6 @@ use Rattle.xns_calls.specs.Queue.{last_kept_number}
 use Rattle.xns_calls.specs.Read.{own_read, read_in_track}
 use Rattle.xns_calls.specs.Reading.{first_read}
 use Rattle.xns_calls.proofs.Whole.{after_append}
-use Rattle.xns_calls.proofs.Comparing.{lt_false}
 use Rattle.xns_calls.proofs.ItemEvents.{item_event}
 
 -- a flow that is put back as it was
@@ -111,14 +111,18 @@ own_reached_event h number s track e = ap (λ o. advance_own h (reached o number
     of_number None = ap (λ o. advance_own h o s) (up_to_none (last_kept_number track.early)) ∙ own_event h None s track e
     of_number (Some n) = own_event h (up_to (last_kept_number track.early) (Some n)) s track e
 
--- where nothing does, the flow behind stays
+-- where nothing does, both flows stay
+none_reached : (o : Option Track) → reached o None ≡ None
+none_reached None = refl
+none_reached (Some track) = up_to_none (last_kept_number track.early)
+
+pub none_own : (h : Heading) (s : Scene) → own_reached h None s ≡ s
+unfolding own_reached
+none_own h s = ap (λ o. advance_own h o s) (none_reached s.own.track)
+
 pub none_other : (h : Heading) (s : Scene) → other_reached h None s ≡ s
 unfolding other_reached
-none_other h s = by_track s.other.track
-  where
-    by_track : (o : Option Track) → advance_other h (reached o None) s ≡ s
-    by_track None = refl
-    by_track (Some track) = ap (λ o. advance_other h o s) (up_to_none (last_kept_number track.early))
+none_other h s = ap (λ o. advance_other h o s) (none_reached s.other.track)
 
 -- ---- the item of a packet
 
@@ -193,4 +197,4 @@ read_none h s e = ap (λ o. read_in_track h o s) e
 
 pub read_back : NearestNumberIsReadBack → (next number : ℕ) → next ≤ most_items → next ≤ number + half_round → number < next + half_round → near next (number % field_round) ≡ Some number
 read_back law next number most least below =
-    ap (λ p. cond p None (nearest next (number % field_round))) (lt_false most_items next most) ∙ law.back next number least below
+    ap (λ p. cond p None (nearest next (number % field_round))) (le-ltb most_items next most) ∙ law.back next number least below

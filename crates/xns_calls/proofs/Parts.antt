@@ -1,10 +1,10 @@
 -- The parts of a text, and what they say of a flow.
-use Rattle.std.proofs.Common.{◌≡◌, ◌∙◌, ap, sym, refl, subst, arith, ℕ, ◌<◌, ◌==◌, Bool, true, false, cond, List, [], ◌∷◌, ◌++◌, length, drop, append_assoc, append-nil, Option, Some, None}
+use Rattle.std.proofs.Common.{◌≡◌, ◌∙◌, ap, sym, refl, subst, ℕ, ◌==◌, Bool, true, false, cond, List, [], ◌∷◌, ◌++◌, length, drop, append_assoc, append-nil, Option, Some, None}
 use Rattle.std.specs.Prelude.{not}
 use Rattle.std.specs.List.{flat_map}
-use Rattle.std.proofs.lemmas.Bool.Decides.{nat_tests}
 use Rattle.std.proofs.lemmas.Grind.{flat_map-append}
-use Rattle.std.proofs.Math.Seq.{drop-append_seam}
+use Rattle.std.proofs.Math.Seq.{drop-append_seam, drop-length}
+use Rattle.std.proofs.lemmas.Bool.{eq-eqb}
 use Rattle.xns_idp.specs.Packet.{PacketModel}
 use Rattle.xns_spp.specs.declared.header.Header.{Header}
 use Rattle.xns_spp.specs.declared.item.Item.{Item}
@@ -24,26 +24,23 @@ use Rattle.xns_calls.specs.declared.origin.Origin.{Origin}
 
 -- ---- texts
 
-pub drop_all : (xs : List ℕ) → drop (length xs) xs ≡ []
-drop_all xs = ap (drop (length xs)) (sym (append-nil xs)) ∙ drop-append_seam xs []
-
 pub added : (h : Heading) (a b : List ℕ) → (x : Adds h a b) → drop (length a) b ≡ said_texts h x.said
 added h a b x = ap (drop (length a)) x.is ∙ drop-append_seam a (said_texts h x.said)
 
 -- what an event prints is what is new in the text
 pub captured_new : (h : Heading) (o : Option ℕ) (item : Carried) (t : Told)
     → flow_text (captured_event h o item) t ≡ drop (length t.text) (after_events (captured_event h o item) t).text
-captured_new h None item t = sym (drop_all t.text)
+captured_new h None item t = sym (drop-length t.text)
 captured_new h (Some n) item t = append-nil (new_text (captured h n item) t)
 
 pub acknowledged_new : (h : Heading) (o : Option ℕ) (t : Told)
     → flow_text (acknowledged_event h o) t ≡ drop (length t.text) (after_events (acknowledged_event h o) t).text
-acknowledged_new h None t = sym (drop_all t.text)
+acknowledged_new h None t = sym (drop-length t.text)
 acknowledged_new h (Some n) t = append-nil (new_text (acknowledged h n) t)
 
 pub item_new : (p : Bool) (h : Heading) (o : Option ℕ) (item : Carried) (t : Told)
     → flow_text (cond p [] (captured_event h o item)) t ≡ drop (length t.text) (after_events (cond p [] (captured_event h o item)) t).text
-item_new true h o item t = sym (drop_all t.text)
+item_new true h o item t = sym (drop-length t.text)
 item_new false h o item t = captured_new h o item t
 
 pub flow_append : (xs ys : List Event) (t : Told) → flow_text (xs ++ ys) t ≡ flow_text xs t ++ flow_text ys (after_events xs t)
@@ -140,35 +137,22 @@ acknowledged_plain h (Some n) others none = ap (λ z. acknowledged h n ∷ (z ++
 
 -- ---- lists
 
-pub same_number : (i : ℕ) → (i == i) ≡ true
-same_number i = grind (arith, nat_tests)
-
-pub other_number : (i j : ℕ) → i < j → (i == j) ≡ false
-other_number i j lt = grind (arith, nat_tests)
-
-pub number_tells : (i j : ℕ) → (i == j) ≡ false → i ≡ j → ⊥
-number_tells i j e same = no_both (i == j) e (subst (λ k. (i == k) ≡ true) same (same_number i))
-  where
-    no_both : (p : Bool) → p ≡ false → p ≡ true → ⊥
-    no_both true a b = (cc)
-    no_both false a b = (cc)
-
 -- ---- parts
 
 abbrev pub flow_at : ℕ → Bool → FlowName
 flow_at m b = record { connection = m; is_behind = b }
 
 pub own_text : (n : Origin) (i : ℕ) (b : Bool) (said : List FlowSaid) → text_in (flow_at i b) (told n (flow_at i b) said) ≡ said_texts (heading_at n i b) said
-own_text n i true said = ap (λ p. cond p (said_texts (heading_at n i true) said) []) (same_number i)
-own_text n i false said = ap (λ p. cond p (said_texts (heading_at n i false) said) []) (same_number i)
+own_text n i true said = ap (λ p. cond p (said_texts (heading_at n i true) said) []) (eq-eqb i i refl)
+own_text n i false said = ap (λ p. cond p (said_texts (heading_at n i false) said) []) (eq-eqb i i refl)
 
 pub other_text : (n : Origin) (i : ℕ) (b : Bool) (said : List FlowSaid) → text_in (flow_at i b) (told n (flow_at i (not b)) said) ≡ []
-other_text n i true said = ap (λ (p : Bool). cond p [] []) (same_number i)
-other_text n i false said = ap (λ (p : Bool). cond p [] []) (same_number i)
+other_text n i true said = ap (λ (p : Bool). cond p [] []) (eq-eqb i i refl)
+other_text n i false said = ap (λ (p : Bool). cond p [] []) (eq-eqb i i refl)
 
 pub behind_text : (n : Origin) (i : ℕ) (q : Bool) (said : List FlowSaid) → text_in (flow_at i (not q)) (told n (flow_at i q) said) ≡ []
-behind_text n i true said = ap (λ (p : Bool). cond p [] []) (same_number i)
-behind_text n i false said = ap (λ (p : Bool). cond p [] []) (same_number i)
+behind_text n i true said = ap (λ (p : Bool). cond p [] []) (eq-eqb i i refl)
+behind_text n i false said = ap (λ (p : Bool). cond p [] []) (eq-eqb i i refl)
 
 pub far_text : (n : Origin) (i j : ℕ) (b q : Bool) (said : List FlowSaid) → (i == j) ≡ false → text_in (flow_at i b) (told n (flow_at j q) said) ≡ []
 far_text n i j b q said e = ap (λ (p : Bool). cond p (cond (is_same b q) (said_texts (heading_at n j q) said) []) []) e

@@ -4,10 +4,12 @@ use Rattle.std.specs.Prelude.{nat_lt, ◌||◌, slice_get}
 use Rattle.std.specs.List.{insert, list_any}
 use Rattle.std.proofs.lemmas.Bool.Decides.{nat_tests}
 use Rattle.std.proofs.lemmas.Option.{slice_get_past, slice_get_read}
+use Rattle.std.proofs.lemmas.Bool.{ltb-false, ltb-true, ne_eqb, or_from}
+use Rattle.std.proofs.Math.Nat.{ne_of_gt, ne_of_lt}
 use Rattle.xns_calls.specs.declared.carried.Carried.{Carried}
 use Rattle.xns_calls.specs.declared.early.Early.{Early}
 use Rattle.xns_calls.specs.Queue.{AreOrdered, below, kept}
-use Rattle.xns_calls.proofs.Comparing.{by_test, le_tells, lt_tells}
+use Rattle.xns_calls.proofs.Comparing.{by_test}
 use Rattle.xns_calls.proofs.Known.{kept_cases}
 
 least_ordered : (n m : ℕ) (es : List Early) → AreOrdered n es → m ≤ n → AreOrdered m es
@@ -23,8 +25,8 @@ kept_from n k item [] ordered le = (le, tt)
 kept_from n k item (e ∷ rest) ordered le =
     subst (AreOrdered n) (sym (kept_cases (nat_lt e.number k) k item e rest refl))
     (by_test (AreOrdered n) (nat_lt e.number k) (e ∷ kept k item rest) (record { number = k; item = item } ∷ e ∷ rest)
-    (λ less. (ordered.0, kept_from e.number k item rest ordered.1 (omega (arith, lt_tells e.number k less))))
-    (λ more. (le, (le_tells e.number k more, ordered.1))))
+    (λ less. (ordered.0, kept_from e.number k item rest ordered.1 (omega (arith, ltb-true e.number k less))))
+    (λ more. (le, (ltb-false e.number k more, ordered.1))))
 
 -- one item more is kept
 pub kept_ordered : (k : ℕ) (item : Carried) (es : List Early) → AreOrdered 0 es → AreOrdered 0 (kept k item es)
@@ -46,24 +48,14 @@ kept_or_same false k item es seen now ordered same none is = subst (AreOrdered 0
 
 -- ---- whether one has a number
 
-not_equal : (a b : ℕ) → b < a → (a == b) ≡ false
-not_equal a b lt = grind (arith, nat_tests)
-
-not_equal_less : (a b : ℕ) → a < b → (a == b) ≡ false
-not_equal_less a b lt = grind (arith, nat_tests)
-
 above : (a b : ℕ) → b ≤ a → (a == b) ≡ false → b < a
 above a b le other = grind (arith, nat_tests)
-
-neither : (p q : Bool) → p ≡ false → q ≡ false → (p || q) ≡ false
-neither true q e f = (cc)
-neither false q e f = f
 
 -- no item has a number below the first one's
 none_has : (n m : ℕ) (es : List Early) → AreOrdered n es → m < n → list_any (λ early. early.number == m) es ≡ false
 none_has n m [] ordered lt = refl
 none_has n m (e ∷ rest) ordered lt =
-    neither (e.number == m) (list_any (λ early. early.number == m) rest) (not_equal e.number m (omega (arith, lt, ordered.0)))
+    or_from (e.number == m) (list_any (λ early. early.number == m) rest) (ne_eqb e.number m (ne_of_gt (omega (arith, lt, ordered.0))))
     (none_has e.number m rest ordered.1 (omega (arith, lt, ordered.0)))
 
 abbrev is_number : ℕ → Option Early → Bool
@@ -79,12 +71,12 @@ has_first : (m : ℕ) (e : Early) (rest : List Early) (p : Bool) → AreOrdered 
     → (e.number == m || list_any (λ early. early.number == m) rest) ≡ is_number m (slice_get (e ∷ rest) (cond p (1 + below m rest) 0))
 has_first m e rest true ordered less has_rest =
     let one : 1 + below m rest ≡ suc (below m rest) = omega arith in
-    ap (λ p. p || list_any (λ early. early.number == m) rest) (not_equal_less e.number m (lt_tells e.number m less))
+    ap (λ p. p || list_any (λ early. early.number == m) rest) (ne_eqb e.number m (ne_of_lt (ltb-true e.number m less)))
     ∙ has_rest
     ∙ ap (λ i. is_number m (slice_get (e ∷ rest) i)) (sym one)
 has_first m e rest false ordered more has_rest =
     first_or_none (e.number == m) (list_any (λ early. early.number == m) rest)
-    (λ other. none_has e.number m rest ordered (above e.number m (le_tells e.number m more) other))
+    (λ other. none_has e.number m rest ordered (above e.number m (ltb-false e.number m more) other))
 
 has_in : (n m : ℕ) (es : List Early) → AreOrdered n es → list_any (λ early. early.number == m) es ≡ is_number m (slice_get es (below m es))
 has_in n m [] ordered = refl

@@ -1,6 +1,9 @@
 -- A packet that begins a connection, or begins one anew, for a flow of a whole input that has begun; and with that any packet.
 use Rattle.std.proofs.Common.{◌≡◌, ◌∙◌, ap, sym, refl, subst, arith, inl, inr, ℕ, ◌+◌, ◌<◌, ◌≤◌, ◌==◌, ◌⊎◌, Bool, true, false, cond, List, [], ◌∷◌, ◌++◌, length, Option, Some, None}
 use Rattle.std.specs.Prelude.{not, slice_get}
+use Rattle.std.proofs.lemmas.Bool.{eqb-false, eqb-true, ne_eqb}
+use Rattle.std.proofs.lemmas.Option.{slice_get_within}
+use Rattle.std.proofs.Math.Nat.{ne_of_lt}
 use Rattle.xns_idp.specs.Packet.{PacketModel}
 use Rattle.xns_spp.specs.Header.{is_system}
 use Rattle.xns_spp.specs.declared.header.Header.{Header}
@@ -18,18 +21,16 @@ use Rattle.xns_calls.specs.Reading.{Told}
 use Rattle.xns_calls.specs.declared.connection.Connection.{Connection}
 use Rattle.xns_calls.proofs.EndReads.{ends_say, flow_ends, flow_left}
 use Rattle.xns_calls.proofs.Fits.{acks_fit}
-use Rattle.xns_calls.proofs.Comparing.{equal_tells}
 use Rattle.xns_calls.proofs.Ordered.{IsOrdered}
 use Rattle.xns_calls.proofs.LastKept.{all_below, bound_of}
 use Rattle.xns_calls.proofs.Numbered.{IsNumbered, fresh_number, more_cases, numbered_more, numbered_renewed, set_cases}
-use Rattle.xns_calls.proofs.Others.{get_front, get_last, get_same, get_set}
+use Rattle.xns_calls.proofs.Others.{get_front, get_last, get_same}
 use Rattle.xns_calls.proofs.Places.{place_there}
 use Rattle.xns_calls.proofs.Onwards.{Says}
-use Rattle.xns_calls.proofs.Whole.{get_below}
 use Rattle.xns_calls.specs.declared.origin.Origin.{Origin}
-use Rattle.xns_calls.proofs.Parts.{flow_at, number_tells, other_number, plain}
+use Rattle.xns_calls.proofs.Parts.{flow_at, plain}
 use Rattle.xns_calls.proofs.Begun.{IsGone, IsOn, Stepped, nothing_step, stays_gone, two_steps, unchanged}
-use Rattle.xns_calls.proofs.Happenings.{at_step, near_events, other_place, side_track}
+use Rattle.xns_calls.proofs.Happenings.{at_step, far_stays, flow_here, near_events, side_track}
 
 -- ---- the end of a connection that begins anew
 
@@ -38,7 +39,7 @@ forgotten_parts n c k = (ends_say n c.number false (scene_in false c k)).parts
 
 -- the number of the next connection is none of these
 pub next_other : (m n : ℕ) → m ≤ n → (m == n + 1) ≡ false
-next_other m n le = other_number m (n + 1) (omega (arith, le))
+next_other m n le = ne_eqb m (n + 1) (ne_of_lt (omega (arith, le)))
 
 pub gone_now : (k : Known) (i : ℕ) (flow : Flow) (n : Origin) (c : Connection) (u : Told) → IsNumbered k.connections k.count → slice_get k.connections i ≡ Some c → u.track.early ≡ [] → IsGone c.number (forgotten n i flow c k) u
 gone_now k i flow n c u numbered there empty = record {
@@ -88,17 +89,13 @@ forget_step n m i b flow c k t numbered there on = by_number (m == c.number) ref
 
     by_number : (p : Bool) → (m == c.number) ≡ p → IsOn m b k t → Stepped n m b k (forgotten n i flow c k) t (cond p (acknowledged_event (heading_at n m b) (behind_last (side_in b c).track)) [])
     by_number true e (inl a) =
-        let place : a.place ≡ i = numbered.alone a.place i a.connection c a.there there (a.number ∙ equal_tells m c.number e) in
-        let some : Some a.connection ≡ Some c = sym a.there ∙ ap (slice_get k.connections) place ∙ there in
-        let one : a.connection ≡ c = (cc) in
-        let track : (scene_in b c k).own.track ≡ Some t.track = ap (λ (x : Connection). (scene_in b x k).own.track) (sym one) ∙ a.track in
-        let is : t ≡ told_of t.track (scene_in b c k) = a.is ∙ ap (λ (x : Connection). told_of t.track (scene_in b x k)) one in
-        subst (λ g. Stepped n g b k (forgotten n i flow c k) t (acknowledged_event (heading_at n g b) (behind_last (side_in b c).track))) (sym (equal_tells m c.number e))
-        (forget_near n i b flow c k t numbered there a.ordered track is)
-    by_number true e (inr gone) = absurd (gone.none i c there (sym (equal_tells m c.number e)))
+        let here = flow_here m i b c k t numbered there a (eqb-true m c.number e) in
+        subst (λ g. Stepped n g b k (forgotten n i flow c k) t (acknowledged_event (heading_at n g b) (behind_last (side_in b c).track))) (sym (eqb-true m c.number e))
+        (forget_near n i b flow c k t numbered there a.ordered here.0 here.1)
+    by_number true e (inr gone) = absurd (gone.none i c there (sym (eqb-true m c.number e)))
     by_number false e (inl a) =
         unchanged n m b k (forgotten n i flow c k) t (forgotten_parts n c k) ended.text (ended.far m b e) a
-        (get_set k.connections a.place i _ (other_place k a.place i a.connection c a.there there (λ same. number_tells m c.number e (sym a.number ∙ same))))
+        (far_stays m i b c _ k t there a (eqb-false m c.number e))
     by_number false e (inr gone) =
         stays_gone n m b k (forgotten n i flow c k) t (forgotten_parts n c k) ended.text (ended.far m b e)
         (gone_renewed m i flow n c k t gone)
@@ -149,7 +146,7 @@ with_more m b flow k t (inl a) =
     let same = scene_more b flow a.connection k in inl (record {
       place = a.place;
       connection = a.connection;
-      there = get_front k.connections (new_connection (k.count + 1) flow ∷ []) a.place (get_below k.connections a.place a.connection a.there) ∙ a.there;
+      there = get_front k.connections (new_connection (k.count + 1) flow ∷ []) a.place (slice_get_within k.connections a.place a.connection a.there) ∙ a.there;
       number = a.number;
       track = ap (λ (s : Scene). s.own.track) same ∙ a.track;
       is = a.is ∙ ap (λ (s : Scene). told_of t.track s) (sym same);

@@ -1,20 +1,14 @@
 -- The line that tells of repeats is printed once.
 use Rattle.std.proofs.Common.{◌≡◌, ◌∙◌, ap, refl, arith, inl, inr, ℕ, ◌+◌, ◌<◌, ◌⊎◌, ◌&&◌, ◌||◌, Bool, true, false, cond, List, [], ◌∷◌}
 use Rattle.std.specs.Prelude.{nat_lt, not}
-use Rattle.std.proofs.lemmas.Bool.Decides.{nat_tests}
+use Rattle.std.proofs.lemmas.Bool.{ltb-true}
+use Rattle.std.proofs.Math.Bool.{or-true}
 use Rattle.xns_calls.specs.Repeats.{has_row, in_a_row, one_repeat_more, repeats_of, row_ended, tells_next}
 use Rattle.xns_calls.specs.declared.repeats.Repeats.TheVariants.{InARow, Told}
 
 -- a flow was told of, or so many repeats are its last items
 Keeps : List Bool → Type 0
 Keeps items = ((has_row items ≡ true) × (repeats_of items ≡ Told)) ⊎ ((has_row items ≡ false) × (repeats_of items ≡ InARow (in_a_row items)) × (in_a_row items < 64))
-
-or_true : (p : Bool) → (p || true) ≡ true
-or_true true = refl
-or_true false = refl
-
-less_true : (a : ℕ) → nat_lt a 64 ≡ true → a < 64
-less_true a e = grind (arith, nat_tests)
 
 keeps : (items : List Bool) → Keeps items
 unfolding Keeps
@@ -26,11 +20,11 @@ keeps (true ∷ items) = by_row (keeps items)
 
     by_count : (p : Bool) → nat_lt so_far 64 ≡ p → has_row items ≡ false → repeats_of items ≡ InARow (in_a_row items) → Keeps (true ∷ items)
     by_count true e none is =
-        inr (ap (λ p. not p || has_row items) e ∙ none, ap one_repeat_more is ∙ ap (λ p. cond p (InARow so_far) Told) e, less_true so_far e)
+        inr (ap (λ p. not p || has_row items) e ∙ none, ap one_repeat_more is ∙ ap (λ p. cond p (InARow so_far) Told) e, ltb-true so_far 64 e)
     by_count false e none is = inl (ap (λ p. not p || has_row items) e, ap one_repeat_more is ∙ ap (λ p. cond p (InARow so_far) Told) e)
 
     by_row : Keeps items → Keeps (true ∷ items)
-    by_row (inl (told, is)) = inl (ap (λ p. not (nat_lt so_far 64) || p) told ∙ or_true (not (nat_lt so_far 64)), ap one_repeat_more is)
+    by_row (inl (told, is)) = inl (ap (λ p. not (nat_lt so_far 64) || p) told ∙ or-true (not (nat_lt so_far 64)), ap one_repeat_more is)
     by_row (inr (none, is, few)) = by_count (nat_lt so_far 64) refl none is
 keeps (false ∷ items) = by_row (keeps items)
   where

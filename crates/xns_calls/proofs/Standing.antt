@@ -1,6 +1,8 @@
 -- A packet, by where its flow stands.
-use Rattle.std.proofs.Common.{◌≡◌, ◌∙◌, ap, sym, refl, inl, inr, ℕ, ◌+◌, ◌&&◌, ◌||◌, Bool, true, false, cond, List, length, Option, Some, None}
+use Rattle.std.proofs.Common.{◌≡◌, ◌∙◌, ap, sym, refl, inl, inr, ℕ, ◌+◌, ◌&&◌, Bool, true, false, cond, List, length, Option, Some, None}
 use Rattle.std.specs.Prelude.{not, slice_get, ◌==◌}
+use Rattle.std.proofs.lemmas.Bool.{or_left}
+use Rattle.std.proofs.Math.Bool.{and-false}
 use Rattle.xns_idp.specs.Packet.{PacketModel}
 use Rattle.xns_lines.specs.declared.page.Page.{Page}
 use Rattle.xns_spp.specs.Header.{is_system}
@@ -13,10 +15,6 @@ use Rattle.xns_calls.specs.Over.{closes, is_closed_both_ways}
 use Rattle.xns_calls.specs.declared.connection.Connection.{Connection}
 use Rattle.xns_calls.specs.declared.origin.Origin.{Origin}
 use Rattle.xns_calls.proofs.Others.{get_last}
-
-or_left : (p q : Bool) → p ≡ true → (p || q) ≡ true
-or_left true q e = refl
-or_left false q e = (cc)
 
 -- a flow whose connection is at a place
 pub after_there : (n : Origin) (packet : PacketModel) (f : Header) (content : List ℕ) (k : Known) (flow : Flow) (at : ℕ) → flow ≡ flow_of packet f
@@ -70,10 +68,6 @@ anew_wants at flow f k e = by_connection (slice_get k.connections at) e
     by_connection (Some c) is = or_left (begins_anew f c) (wants_in (is_behind_in flow c) f c k) is
 
 -- a connection that has just begun does not begin anew
-and_false : (p : Bool) → (p && false) ≡ false
-and_false true = refl
-and_false false = refl
-
 pub new_same : (n : Origin) (flow : Flow) (f : Header) (k : Known) → renewed n (length k.connections) flow f (with_new flow k) ≡ with_new flow k
 unfolding renewed
 new_same n flow f k =
@@ -81,7 +75,7 @@ new_same n flow f k =
     let K = with_new flow k in
     let i = length k.connections in
     ap (λ o. renewed_there n i flow f o K) (get_last k.connections c)
-    ∙ ap (λ p. cond p (forgotten n i flow c K) K) (and_false (not (is_system f) && f.sequence == 0 && not (closes f.stream)))
+    ∙ ap (λ p. cond p (forgotten n i flow c K) K) (and-false (not (is_system f) && f.sequence == 0 && not (closes f.stream)))
 
 -- a flow without a connection
 pub after_nowhere : (n : Origin) (packet : PacketModel) (f : Header) (content : List ℕ) (k : Known) (flow : Flow) → flow ≡ flow_of packet f

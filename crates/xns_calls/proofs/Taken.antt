@@ -5,7 +5,7 @@ use Rattle.xns_idp.specs.Packet.{PacketModel}
 use Rattle.xns_lines.specs.declared.page.Page.{Page}
 use Rattle.xns_spp.specs.declared.header.Header.{Header}
 use Rattle.xns_dump.specs.declared.flows.flow.Flow.{Flow}
-use Rattle.xns_calls.specs.Acknowledged.{due_in, noted_beside}
+use Rattle.xns_calls.specs.Acknowledged.{due_in, given_in, noted_beside}
 use Rattle.xns_calls.specs.Capture.{Known, after_at, after_in, after_scene, after_there, heading_at, is_behind_in, known, repeats_told, scene_in, settled_at, settled_there, taken_in, wants_at, wants_in, with_scene}
 use Rattle.xns_calls.specs.Read.{handled, settled}
 use Rattle.xns_calls.specs.Repeats.{repeats_text, tells_repeats}
@@ -23,9 +23,19 @@ set_set (x ∷ cs) zero c d = refl
 set_set (x ∷ cs) (suc i) c d = ap (λ xs. x ∷ xs) (set_set cs i c d)
 
 -- what is read at a connection's place is read of that connection
-read_there : (n : Origin) (i : ℕ) (b : Bool) (k : Known) (c : Connection) → slice_get k.connections i ≡ Some c → settled_at n i b k ≡ settled_there n i b (Some c) k
+pub read_there : (n : Origin) (i : ℕ) (b : Bool) (k : Known) (c : Connection) → slice_get k.connections i ≡ Some c → settled_at n i b k ≡ settled_there n i b (Some c) k
 unfolding settled_at
 read_there n i b k c there = ap (λ o. settled_there n i b o k) there
+
+-- what is read where a scene was put
+settled_again : (n : Origin) (i : ℕ) (b : Bool) (c : Connection) (s : Scene) (k : Known)
+    → settled_there n i b (Some (with_scene b s c)) (after_scene i b c s k) ≡ after_scene i b c (settled (heading_at n c.number b) (given_in b c) s) k
+settled_again n i true c s k =
+    let z = settled (heading_at n c.number true) (given_in true c) s in
+    ap (λ cs. record k { connections = cs; text = z.text; is_refused = z.is_refused }) (set_set k.connections i (with_scene true s c) (with_scene true z c))
+settled_again n i false c s k =
+    let z = settled (heading_at n c.number false) (given_in false c) s in
+    ap (λ cs. record k { connections = cs; text = z.text; is_refused = z.is_refused }) (set_set k.connections i (with_scene false s c) (with_scene false z c))
 
 pub fused : (n : Origin) (i : ℕ) (b : Bool) (packet : PacketModel) (f : Header) (content : List ℕ) (c : Connection) (k : Known) → slice_get k.connections i ≡ Some c
     → after_in n i b packet f content c k
@@ -34,16 +44,12 @@ fused n i true packet f content c k there =
     let told = repeats_told n true f c k in
     let s = after_packet (heading_at n c.number true) (due_in true f c) packet f content (scene_in true c told) in
     let c' = with_scene true s (noted_beside true f c) in
-    let z = settled (heading_at n c.number true) (due_in true f c).given s in
-    read_there n i true (taken_in n i true packet f content c told) c' (get_same k.connections i c c' there)
-    ∙ ap (λ cs. record k { connections = cs; text = z.text; is_refused = z.is_refused }) (set_set k.connections i c' (with_scene true z (noted_beside true f c)))
+    read_there n i true (taken_in n i true packet f content c told) c' (get_same k.connections i c c' there) ∙ settled_again n i true (noted_beside true f c) s told
 fused n i false packet f content c k there =
     let told = repeats_told n false f c k in
     let s = after_packet (heading_at n c.number false) (due_in false f c) packet f content (scene_in false c told) in
     let c' = with_scene false s (noted_beside false f c) in
-    let z = settled (heading_at n c.number false) (due_in false f c).given s in
-    read_there n i false (taken_in n i false packet f content c told) c' (get_same k.connections i c c' there)
-    ∙ ap (λ cs. record k { connections = cs; text = z.text; is_refused = z.is_refused }) (set_set k.connections i c' (with_scene false z (noted_beside false f c)))
+    read_there n i false (taken_in n i false packet f content c told) c' (get_same k.connections i c c' there) ∙ settled_again n i false (noted_beside false f c) s told
 
 -- the line that tells of repeats is printed first, if there is one
 told_is : (n : Origin) (b : Bool) (f : Header) (c : Connection) (cs : List Connection) (count : ℕ) (page page' : Page)
@@ -81,44 +87,44 @@ side_taken n i flow packet f content cs count page page' c note due s b there si
     ∙ ap (λ p. after_in n i p packet f content c k) side
     ∙ sym (ap (λ o. after_there n i flow packet f content o k) there)
 
-pub behind_taken : (n : Origin) (i : ℕ) (flow : Flow) (packet : PacketModel) (f : Header) (content : List ℕ) (cs : List Connection) (count : ℕ) (page page' page'' : Page) (c note : Connection) (due : Due) (first second : Side) (b : Bool)
-    → slice_get cs i ≡ Some c → b ≡ is_behind_in flow c → b ≡ true
+-- the connection that a packet leaves, of its second flow (true) or of its first
+abbrev pub FlowTaken : Bool → Type 0
+FlowTaken q = (n : Origin) (i : ℕ) (flow : Flow) (packet : PacketModel) (f : Header) (content : List ℕ) (cs : List Connection) (count : ℕ) (page page' page'' : Page) (c note : Connection) (due : Due) (first second : Side) (b : Bool)
+    → slice_get cs i ≡ Some c → b ≡ is_behind_in flow c → b ≡ q
     → page'.text.line ≡ page.text.line ++ repeats_text (heading_at n c.number b) (tells_repeats b f c) → page'.is_refused ≡ page.is_refused
     → note ≡ noted_beside b f c → due ≡ due_in b f c
-    → scene second first page'' ≡ handled (heading_at n c.number b) due packet f content (scene note.second note.first page')
+    → scene_in q (record note { first = first; second = second }) (known cs count page'') ≡ handled (heading_at n c.number b) due packet f content (scene_in q note (known cs count page'))
     → known (slice_set cs i (record note { first = first; second = second })) count page'' ≡ after_at n i flow packet f content (known cs count page)
+
+pub behind_taken : FlowTaken true
 behind_taken n i flow packet f content cs count page page' page'' c note due first second false there side is text refused noted_is due_is e = (cc)
 behind_taken n i flow packet f content cs count page page' page'' c note due first second true there side is text refused noted_is due_is e =
     side_taken n i flow packet f content cs count page page' c note due (scene second first page'') true there side text refused noted_is due_is e
 
-pub first_taken : (n : Origin) (i : ℕ) (flow : Flow) (packet : PacketModel) (f : Header) (content : List ℕ) (cs : List Connection) (count : ℕ) (page page' page'' : Page) (c note : Connection) (due : Due) (first second : Side) (b : Bool)
-    → slice_get cs i ≡ Some c → b ≡ is_behind_in flow c → b ≡ false
-    → page'.text.line ≡ page.text.line ++ repeats_text (heading_at n c.number b) (tells_repeats b f c) → page'.is_refused ≡ page.is_refused
-    → note ≡ noted_beside b f c → due ≡ due_in b f c
-    → scene first second page'' ≡ handled (heading_at n c.number b) due packet f content (scene note.first note.second page')
-    → known (slice_set cs i (record note { first = first; second = second })) count page'' ≡ after_at n i flow packet f content (known cs count page)
+pub first_taken : FlowTaken false
 first_taken n i flow packet f content cs count page page' page'' c note due first second true there side is text refused noted_is due_is e = (cc)
 first_taken n i flow packet f content cs count page page' page'' c note due first second false there side is text refused noted_is due_is e =
     side_taken n i flow packet f content cs count page page' c note due (scene first second page'') false there side text refused noted_is due_is e
+
+-- a packet of a flow wants memory, whichever of the two flows that is
+side_wants : (i : ℕ) (flow : Flow) (f : Header) (cs : List Connection) (count : ℕ) (page : Page) (c note : Connection) (due : Due) (b : Bool)
+    → slice_get cs i ≡ Some c → b ≡ is_behind_in flow c → note ≡ noted_beside b f c → due ≡ due_in b f c
+    → wants_memory due f (scene_in b note (known cs count page)) ≡ true → wants_at i flow f (known cs count page) ≡ true
+side_wants i flow f cs count page c note due b there side noted_is due_is wants =
+    let k = known cs count page in
+    let before : wants_memory due f (scene_in b note k) ≡ wants_memory (due_in b f c) f (scene_in b c k) =
+    ap (λ d. wants_memory d f (scene_in b note k)) due_is ∙ ap (λ (x : Connection). wants_memory (due_in b f c) f (scene_in b x k)) noted_is
+    ∙ ap (wants_memory (due_in b f c) f) (noted_scene b f c k) in
+    in_wants i flow f c k there (sym (ap (λ p. wants_in p f c k) side) ∙ memory_wants b f c k (sym before ∙ wants))
 
 pub behind_packet_wants : (i : ℕ) (flow : Flow) (f : Header) (cs : List Connection) (count : ℕ) (page : Page) (c note : Connection) (due : Due) (b : Bool)
     → slice_get cs i ≡ Some c → b ≡ is_behind_in flow c → b ≡ true → note ≡ noted_beside b f c → due ≡ due_in b f c
     → wants_memory due f (scene note.second note.first page) ≡ true → wants_at i flow f (known cs count page) ≡ true
 behind_packet_wants i flow f cs count page c note due false there side is noted_is due_is wants = (cc)
-behind_packet_wants i flow f cs count page c note due true there side is noted_is due_is wants =
-    let k = known cs count page in
-    let before : wants_memory due f (scene note.second note.first page) ≡ wants_memory (due_in true f c) f (scene_in true c k) =
-    ap (λ d. wants_memory d f (scene note.second note.first page)) due_is
-    ∙ ap (λ (x : Connection). wants_memory (due_in true f c) f (scene x.second x.first page)) noted_is in
-    in_wants i flow f c k there (sym (ap (λ p. wants_in p f c k) side) ∙ memory_wants true f c k (sym before ∙ wants))
+behind_packet_wants i flow f cs count page c note due true there side is noted_is due_is wants = side_wants i flow f cs count page c note due true there side noted_is due_is wants
 
 pub first_packet_wants : (i : ℕ) (flow : Flow) (f : Header) (cs : List Connection) (count : ℕ) (page : Page) (c note : Connection) (due : Due) (b : Bool)
     → slice_get cs i ≡ Some c → b ≡ is_behind_in flow c → b ≡ false → note ≡ noted_beside b f c → due ≡ due_in b f c
     → wants_memory due f (scene note.first note.second page) ≡ true → wants_at i flow f (known cs count page) ≡ true
 first_packet_wants i flow f cs count page c note due true there side is noted_is due_is wants = (cc)
-first_packet_wants i flow f cs count page c note due false there side is noted_is due_is wants =
-    let k = known cs count page in
-    let before : wants_memory due f (scene note.first note.second page) ≡ wants_memory (due_in false f c) f (scene_in false c k) =
-    ap (λ d. wants_memory d f (scene note.first note.second page)) due_is
-    ∙ ap (λ (x : Connection). wants_memory (due_in false f c) f (scene x.first x.second page)) noted_is in
-    in_wants i flow f c k there (sym (ap (λ p. wants_in p f c k) side) ∙ memory_wants false f c k (sym before ∙ wants))
+first_packet_wants i flow f cs count page c note due false there side is noted_is due_is wants = side_wants i flow f cs count page c note due false there side noted_is due_is wants

@@ -1,6 +1,8 @@
 -- A packet at the place of its connection, for a flow of a whole input that has not begun: the flow begins with its first data packet.
 use Rattle.std.proofs.Common.{◌≡◌, ◌∙◌, ap, sym, refl, subst, ℕ, ◌==◌, ◌⊎◌, inl, inr, Bool, true, false, cond, List, [], ◌∷◌, ◌++◌, length, drop, append_assoc, append-nil, Option, Some, None}
 use Rattle.std.specs.Prelude.{nat_lt, not, slice_get}
+use Rattle.std.proofs.lemmas.Bool.{eqb-false, eqb-true}
+use Rattle.std.proofs.Math.Seq.{drop-length}
 use Rattle.xns_spp.specs.Ends.{most_pending}
 use Rattle.courier_messages.specs.Conversation.{opening}
 use Rattle.xns_calls.specs.declared.speech.Speech.TheVariants.{Hearing, Waiting}
@@ -10,11 +12,10 @@ use Rattle.xns_spp.specs.declared.header.Header.{Header}
 use Rattle.xns_calls.specs.Acknowledged.{acknowledged_in, aheads_in, due_in, due_of, effective, if_begun, nearer, noted_beside}
 use Rattle.xns_calls.specs.Capture.{Known, heading_at, scene_in, taken_in, with_scene}
 use Rattle.xns_calls.specs.Events.{Event, acknowledged_event, after_events, captured_event}
-use Rattle.xns_calls.specs.Exchange.{Scene, advance_other, advance_own, after_content, after_data, after_packet, after_told, begin_track, begun, carried, first_track, new_number, of_other, other_reached, own_reached, reached, take_number, told_of}
+use Rattle.xns_calls.specs.Exchange.{Scene, advance_other, after_content, after_data, after_packet, after_told, begin_track, begun, carried, first_track, new_number, of_other, other_reached, own_reached, reached, take_number, told_of}
 use Rattle.xns_calls.specs.Input.{Part, begins, events_between, field_between, is_same, item_events, parts_text, said_texts, text_in, texts_in, told}
 use Rattle.xns_calls.specs.Numbers.{near}
 use Rattle.xns_calls.specs.Over.{side_in}
-use Rattle.xns_calls.specs.Queue.{last_kept_number}
 use Rattle.xns_calls.specs.Reading.{Told}
 use Rattle.xns_calls.specs.Texts.{flow_line}
 use Rattle.xns_calls.specs.Whole.{flow_text}
@@ -25,14 +26,13 @@ use Rattle.xns_calls.specs.declared.track.Track.{Track}
 use Rattle.xns_calls.proofs.Adding.{number_adds}
 use Rattle.xns_calls.proofs.AtLines.{AreAt, captured_at}
 use Rattle.xns_calls.proofs.Fits.{Fits, fits}
-use Rattle.xns_calls.proofs.Comparing.{equal_tells}
 use Rattle.xns_calls.proofs.Known.{events_ordered, new_ordered}
 use Rattle.xns_calls.proofs.Ordered.{IsOrdered}
 use Rattle.xns_calls.proofs.Begun.{IsOn, stands_own}
 use Rattle.xns_calls.proofs.Happenings.{far_texts, in_text, near_events, side_track}
-use Rattle.xns_calls.proofs.Parts.{reached_is, reached_said, reached_text, added, behind_text, captured_new, captured_plain, drop_all, flow_at, number_tells, other_text, own_text, packet_parts, packet_said, plain, said_text_of, scene_text, two_of, two_texts}
+use Rattle.xns_calls.proofs.Parts.{reached_is, reached_said, reached_text, added, behind_text, captured_new, captured_plain, flow_at, other_text, own_text, packet_parts, packet_said, plain, said_text_of, scene_text, two_of, two_texts}
 use Rattle.xns_calls.proofs.Numbered.{AllKeep, keep_set, scene_number}
-use Rattle.xns_calls.proofs.Packets.{number_event, packet_other, reached_own, up_to_none}
+use Rattle.xns_calls.proofs.Packets.{none_own, number_event, packet_other, reached_own}
 use Rattle.xns_calls.specs.declared.origin.Origin.{Origin}
 
 -- ---- a packet, for a flow that has not begun
@@ -92,14 +92,6 @@ track_behind false f c s = refl
 none_due_of : (b : Bool) (c : Connection) → (side_in b c).track ≡ None → due_of b c ≡ None
 none_due_of b c none = ap (λ o. if_begun o (effective (nearer (aheads_in b c)))) none
 
-none_reached : (h : Heading) (s : Scene) → own_reached h None s ≡ s
-unfolding own_reached
-none_reached h s = by_track s.own.track
-  where
-    by_track : (o : Option Track) → advance_own h (reached o None) s ≡ s
-    by_track None = refl
-    by_track (Some track) = ap (λ o. advance_own h o s) (up_to_none (last_kept_number track.early))
-
 abbrev item_field : Header → Option ℕ
 item_field f = cond (is_system f) None (Some f.sequence)
 
@@ -108,7 +100,7 @@ system_same : (h : Heading) (due : Due) (packet : PacketModel) (f : Header) (con
 unfolding after_packet after_content
 system_same h due packet f content s nothing e =
     let known = other_reached h due.other s in
-    ap (λ p. own_reached h due.own (cond p known (after_data h due.acknowledged packet f content known))) e ∙ ap (λ o. own_reached h o known) nothing ∙ none_reached h known
+    ap (λ p. own_reached h due.own (cond p known (after_data h due.acknowledged packet f content known))) e ∙ ap (λ o. own_reached h o known) nothing ∙ none_own h known
 
 own_waits : (n : Origin) (i : ℕ) (b : Bool) (packet : PacketModel) (f : Header) (content : List ℕ) (c : Connection) (k : Known) → AllKeep c.number b k.connections None → (scene_in b c k).own.track ≡ None → is_system f ≡ true
     → Awaits c.number b k.text (taken_in n i b packet f content c k) (item_events (heading_at n c.number b) f content (acknowledged_in b f c) None ++ acknowledged_event (heading_at n c.number b) (due_of b c)) (item_field f)
@@ -129,7 +121,7 @@ own_waits n i b packet f content c k all none e =
       text = in_text n i b packet f content c k;
       own = two_of (text_in (flow_at m b) (told n (flow_at m (not b)) (reached_said n m b due s))) (text_in (flow_at m b) (told n (flow_at m b) (packet_said n m b due packet f content s))) [] []
           (other_text n m b (reached_said n m b due s))
-          (own_text n m b (packet_said n m b due packet f content s) ∙ sym (said_text_of n m b due packet f content s) ∙ ap (λ (x : Scene). drop (length known.text) x.text) same ∙ drop_all known.text);
+          (own_text n m b (packet_said n m b due packet f content s) ∙ sym (said_text_of n m b due packet f content s) ∙ ap (λ (x : Scene). drop (length known.text) x.text) same ∙ drop-length known.text);
     }
 
 -- a data packet of its own, with which the flow begins
@@ -143,7 +135,7 @@ unfolding after_packet after_content
 packet_new h due packet f content s nothing none e =
     let known = other_reached h due.other s in
     ap (λ p. own_reached h due.own (cond p known (after_data h due.acknowledged packet f content known))) e ∙ ap (λ o. own_reached h o (after_data h due.acknowledged packet f content known)) nothing
-    ∙ none_reached h (after_data h due.acknowledged packet f content known) ∙ data_new h due.acknowledged packet f content known (reached_own h due.other s ∙ none)
+    ∙ none_own h (after_data h due.acknowledged packet f content known) ∙ data_new h due.acknowledged packet f content known (reached_own h due.other s ∙ none)
 
 own_starts : (n : Origin) (i : ℕ) (b : Bool) (packet : PacketModel) (f : Header) (content : List ℕ) (c : Connection) (k : Known) → slice_get k.connections i ≡ Some c → (scene_in b c k).own.track ≡ None → is_system f ≡ false
     → Starts n c.number b k.text (taken_in n i b packet f content c k) (item_events (heading_at n c.number b) f content (acknowledged_in b f c) None ++ acknowledged_event (heading_at n c.number b) (due_of b c)) (item_field f)
@@ -200,7 +192,7 @@ own_meets n i b packet f content c k there all none = by_system (is_system f) re
     by_system false e = inr (own_starts n i b packet f content c k there none e)
 
 -- a packet of the flow behind
-reached_same : (h : Heading) (number : Option ℕ) (s : Scene) → s.other.track ≡ None → other_reached h number s ≡ s
+pub reached_same : (h : Heading) (number : Option ℕ) (s : Scene) → s.other.track ≡ None → other_reached h number s ≡ s
 unfolding other_reached
 reached_same h number s none = ap (λ o. advance_other h (reached o number) s) none
 
@@ -225,7 +217,7 @@ behind_waits n i q packet f content c k all none =
       parts = packet_parts n m q due packet f content s;
       text = in_text n i q packet f content c k;
       own = two_of (text_in P (told n P (reached_said n m q due s))) (text_in P (told n (flow_at m q) (packet_said n m q due packet f content s))) [] []
-          (own_text n m (not q) (reached_said n m q due s) ∙ sym (reached_text n m q due s) ∙ ap (λ (x : Scene). drop (length s.text) x.text) same ∙ drop_all s.text)
+          (own_text n m (not q) (reached_said n m q due s) ∙ sym (reached_text n m q due s) ∙ ap (λ (x : Scene). drop (length s.text) x.text) same ∙ drop-length s.text)
           (behind_text n m q (packet_said n m q due packet f content s));
     }
 
@@ -259,9 +251,9 @@ taken_meets n m i b q packet f content c k there all = by_number (m == c.number)
     by_number : (p : Bool) → (m == c.number) ≡ p
         → Met n m b k.text (taken_in n i q packet f content c k) (cond p (near_events n m b q f content (acknowledged_in q f c) (side_in b c).track (due_of b c)) []) (cond p (near_field b q f) None)
     by_number true e =
-        let same : m ≡ c.number = equal_tells m c.number e in
+        let same : m ≡ c.number = eqb-true m c.number e in
         let none : (side_in b c).track ≡ None = all i c there (sym same) in
         subst (λ o. Met n m b k.text (taken_in n i q packet f content c k) (near_events n m b q f content (acknowledged_in q f c) o (due_of b c)) (near_field b q f)) (sym none)
         (subst (λ g. Met n g b k.text (taken_in n i q packet f content c k) (near_events n g b q f content (acknowledged_in q f c) None (due_of b c)) (near_field b q f)) (sym same)
         (near_meets n i b q packet f content c k there (subst (λ g. AllKeep g b k.connections None) same all) (side_track b c k ∙ none)))
-    by_number false e = inl (far_waits n m i b q packet f content c k e (number_tells m c.number e) all)
+    by_number false e = inl (far_waits n m i b q packet f content c k e (eqb-false m c.number e) all)

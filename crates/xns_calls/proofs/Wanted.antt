@@ -2,6 +2,7 @@
 use Rattle.std.proofs.Common.{◌≡◌, ◌∙◌, ap, sym, refl, ℕ, Bool, true, false, cond, List, Option, Some, None, Result, Ok, Err}
 use Rattle.std.specs.Option.{is_some}
 use Rattle.std.specs.Prelude.{OnErr, not, slice_get, ◌||◌, ◌&&◌}
+use Rattle.std.proofs.lemmas.Bool.{or_left, or_parts, or_right}
 use Rattle.xns_idp.specs.Packet.{PacketModel}
 use Rattle.xns_lines.specs.declared.page.Page.{Page}
 use Rattle.xns_spp.specs.Header.{is_system}
@@ -21,6 +22,7 @@ use Rattle.xns_calls.specs.declared.heading.Heading.{Heading}
 use Rattle.xns_calls.specs.declared.side.Side.{Side}
 use Rattle.xns_calls.specs.declared.track.Track.{Track}
 use Rattle.xns_calls.proofs.Packets.{content_other, reached_own}
+pub use Rattle.xns_spp.proofs.Steps.{on_err}
 
 -- a flow that has not begun does so
 pub none_brings : (own : Side) (field : ℕ) → own.track ≡ None → brings_new own.track field ≡ true
@@ -40,14 +42,6 @@ begun_brings h packet f own own' page page' number e new = by_track own.track re
     by_track (Some track) at =
         let same : own'.track ≡ Some track = ap (λ (x : Scene). x.own.track) (e own ∙ ap (λ o. begin_track h packet f o s) at) ∙ at in
         ap is_some (ap (λ o. new_number o f.sequence) (sym same) ∙ new)
-
-or_left : (p q : Bool) → p ≡ true → (p || q) ≡ true
-or_left true q e = refl
-or_left false q e = (cc)
-
-or_right : (p q : Bool) → q ≡ true → (p || q) ≡ true
-or_right true q e = refl
-or_right false q e = e
 
 -- the flow behind is brought to a number
 pub other_wants : (due : Due) (f : Header) (own other : Side) (page : Page) → is_some (reached other.track due.other) ≡ true → wants_to_take due f (scene own other page) ≡ true
@@ -132,42 +126,30 @@ own_wants h due packet f content own other own' other' own'' other'' page page' 
 
 -- ---- where an item can be read
 
-left_false : (p q : Bool) → (p || q) ≡ false → p ≡ false
-left_false true q e = (cc)
-left_false false q e = refl
-
-right_false : (p q : Bool) → (p || q) ≡ false → q ≡ false
-right_false true q e = (cc)
-right_false false q e = e
+pub no_number : (o : Option ℕ) → is_some o ≡ false → o ≡ None
+no_number None e = refl
+no_number (Some n) e = (cc)
 
 none_reached_own : (h : Heading) (number : Option ℕ) (s : Scene) → is_some (reached s.own.track number) ≡ false → own_reached h number s ≡ s
 unfolding own_reached
-none_reached_own h number s e = by_number (reached s.own.track number) e
-  where
-    by_number : (o : Option ℕ) → is_some o ≡ false → advance_own h o s ≡ s
-    by_number None e = refl
-    by_number (Some n) e = (cc)
+none_reached_own h number s e = ap (λ o. advance_own h o s) (no_number (reached s.own.track number) e)
 
 none_reached_other : (h : Heading) (number : Option ℕ) (s : Scene) → is_some (reached s.other.track number) ≡ false → other_reached h number s ≡ s
 unfolding other_reached
-none_reached_other h number s e = by_number (reached s.other.track number) e
-  where
-    by_number : (o : Option ℕ) → is_some o ≡ false → advance_other h o s ≡ s
-    by_number None e = refl
-    by_number (Some n) e = (cc)
+none_reached_other h number s e = ap (λ o. advance_other h o s) (no_number (reached s.other.track number) e)
 
 -- a packet that wants no memory leaves what is kept of both flows
 packet_stays : (h : Heading) (due : Due) (packet : PacketModel) (f : Header) (content : List ℕ) (s : Scene) → wants_to_take due f s ≡ false
     → ((after_packet h due packet f content s).own.track ≡ s.own.track) × ((after_packet h due packet f content s).other.track ≡ s.other.track)
 unfolding after_packet
 packet_stays h due packet f content s e =
-    let on = left_false (brings_on due s) (brings_data f s.own.track) e in
-    let new = right_false (brings_on due s) (brings_data f s.own.track) e in
-    let first : other_reached h due.other s ≡ s = none_reached_other h due.other s (left_false (is_some (reached s.other.track due.other)) (is_some (reached s.own.track due.own)) on) in
+    let neither = or_parts (brings_on due s) (brings_data f s.own.track) e in
+    let unreached = or_parts (is_some (reached s.other.track due.other)) (is_some (reached s.own.track due.own)) neither.0 in
+    let first : other_reached h due.other s ≡ s = none_reached_other h due.other s unreached.0 in
     let u = after_content h due.acknowledged packet f content s in
-    let own : u.own.track ≡ s.own.track = content_stays h due.acknowledged packet f content s new in
+    let own : u.own.track ≡ s.own.track = content_stays h due.acknowledged packet f content s neither.1 in
     let other : u.other.track ≡ s.other.track = content_other h due.acknowledged packet f content s in
-    let last : own_reached h due.own u ≡ u = none_reached_own h due.own u (ap (λ o. is_some (reached o due.own)) own ∙ right_false (is_some (reached s.other.track due.other)) (is_some (reached s.own.track due.own)) on) in
+    let last : own_reached h due.own u ≡ u = none_reached_own h due.own u (ap (λ o. is_some (reached o due.own)) own ∙ unreached.1) in
     let all : own_reached h due.own (after_content h due.acknowledged packet f content (other_reached h due.other s)) ≡ u =
     ap (λ x. own_reached h due.own (after_content h due.acknowledged packet f content x)) first ∙ last in
     (ap (λ (x : Scene). x.own.track) all ∙ own, ap (λ (x : Scene). x.other.track) all ∙ other)
@@ -198,10 +180,6 @@ data_wants due f own other page plain new =
 
 pub take_wants : (due : Due) (f : Header) (s : Scene) → wants_to_take due f s ≡ true → wants_memory due f s ≡ true
 take_wants due f s e = or_left (wants_to_take due f s) (is_some (next_turn due.given s.own.track s.other.track)) e
-
-pub on_err : {T E : Type 0} (r : Result T E) (A : Type 0) → A → OnErr r A
-on_err (Ok x) A a = tt
-on_err (Err x) A a = a
 
 pub on_err_with : {T E : Type 0} (r : Result T E) (A B : Type 0) → OnErr r A → (A → B) → OnErr r B
 on_err_with (Ok x) A B a f = tt

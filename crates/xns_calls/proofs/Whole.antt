@@ -6,6 +6,7 @@ use Rattle.std.proofs.lemmas.Grind.{flat_map-append}
 use Rattle.std.proofs.lemmas.List.{map-append}
 use Rattle.std.proofs.lemmas.List.Elements.{filter-append}
 use Rattle.std.proofs.Math.Seq.{drop-append_seam}
+use Rattle.std.proofs.lemmas.Bool.{ltb-false, ltb-true}
 use Rattle.xns_spp.specs.declared.item.Item.{Item}
 use Rattle.courier_messages.specs.Conversation.{Phase, conversation, ending, opening}
 use Rattle.courier_messages.specs.Laws.{OneItemMore, SignsRunOn}
@@ -30,7 +31,7 @@ use Rattle.xns_calls.specs.declared.speech.Speech.{Speech}
 use Rattle.xns_calls.specs.declared.speech.Speech.TheVariants.{Hearing, Waiting}
 use Rattle.xns_calls.specs.declared.track.Track.{Track}
 use Rattle.xns_calls.specs.Unanswered.{UnansweredCalls}
-use Rattle.xns_calls.proofs.Comparing.{by_both, by_test, le_tells, lt_tells, not_less}
+use Rattle.xns_calls.proofs.Comparing.{by_both, by_test, not_less}
 use Rattle.xns_calls.proofs.Gaps.{AreKept, event_whole, kept_next, late_kept, rest_kept}
 use Rattle.xns_calls.proofs.Known.{captured_in_known, event_ordered, kept_cases, known_step, event_known, new_ordered}
 use Rattle.xns_calls.proofs.Ordered.{AreFrom, IsKnown, IsOrdered, Kept, next_of, read_next_of}
@@ -156,7 +157,7 @@ below_went items h n [] t hs same all from are s = stayed items t hs (subst (Are
 below_went items h n (e ∷ rest) t hs same all from are s =
     by_both (λ u told. Went items t u hs told) (nat_lt e.number n) (read_below_over h n rest u) t (one ++ heard_below h n rest u) []
     (λ below.
-    let lt : e.number < n = lt_tells e.number n below in
+    let lt : e.number < n = ltb-true e.number n below in
     let is : e.number ≡ next_of t = kept_next (next_of t) e rest from (all (next_of t) (omega arith) (omega (arith, lt, from.0))) in
     let w = one_went items h e rest t hs same is are s in
     let next : next_of u ≡ e.number + 1 = read_next_of h (e.number + 1) e.item.item left in
@@ -182,7 +183,7 @@ first_went items h [] t hs same from are s = stayed items t hs (subst (AreItems 
 first_went items h (e ∷ rest) t hs same from are s =
     by_both (λ u told. Went items t u hs told) (nat_lt (next_of t) e.number) t (read_next h (e.number + 1) e.item.item (with_early rest t)) [] (heard_with h e.item.item t)
     (λ later. stayed items t hs (subst (AreItems items) (sym same) are) s)
-    (λ due. let le : e.number ≤ next_of t = le_tells (next_of t) e.number due in one_went items h e rest t hs same (omega (arith, le, from.0)) are s)
+    (λ due. let le : e.number ≤ next_of t = ltb-false (next_of t) e.number due in one_went items h e rest t hs same (omega (arith, le, from.0)) are s)
 
 kept_items : (items : List Item) (k : ℕ) (item : Carried) (es : List Early) → slice_get items k ≡ Some item.item → AreItems items es → AreItems items (kept k item es)
 kept_items items k item [] is are = (is, tt)
@@ -283,11 +284,6 @@ take_over [] zero le = refl
 take_over [] (suc n) le = refl
 take_over (x ∷ xs) zero le = absurd (omega (arith, le))
 take_over (x ∷ xs) (suc n) le = ap (λ t. x ∷ t) (take_over xs n (omega (arith, le)))
-
-pub get_below : {A : Type 0} (xs : List A) (i : ℕ) (x : A) → slice_get xs i ≡ Some x → i < length xs
-get_below [] i x e = (cc)
-get_below (y ∷ xs) zero x e = omega arith
-get_below (y ∷ xs) (suc i) x e = let lt = get_below xs i x e in omega (arith, lt)
 
 pub first_of : (field : ℕ) (t : Told) → field < 64 → t.track ≡ first_track field → t.track ≡ record { next = 0; early = []; speech = start }
 first_of field t small at =

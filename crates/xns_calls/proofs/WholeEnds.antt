@@ -2,6 +2,7 @@
 use Rattle.std.proofs.Common.{◌≡◌, ◌∙◌, ap, sym, refl, subst, arith, ℕ, zero, suc, ◌+◌, ◌-◌, ◌<◌, ◌≤◌, List, [], ◌∷◌, ◌++◌, length, append-nil, Option, Some, None}
 use Rattle.std.specs.Prelude.{IfSome, option_map, slice_get}
 use Rattle.std.proofs.lemmas.Grind.{flat_map-append}
+use Rattle.std.proofs.lemmas.Option.{slice_get_within}
 use Rattle.xns_spp.specs.declared.item.Item.{Item}
 use Rattle.courier_messages.specs.Conversation.{conversation, ending, opening}
 use Rattle.courier_messages.specs.Laws.{OneItemMore, SignsRunOn}
@@ -20,7 +21,7 @@ use Rattle.xns_calls.proofs.Known.{events_ordered, new_ordered}
 use Rattle.xns_calls.proofs.LastKept.{AreAcks, AreBelow, end_empty}
 use Rattle.xns_calls.proofs.Parts.{plain, plain_one}
 use Rattle.xns_calls.proofs.Steps.{early_of}
-use Rattle.xns_calls.proofs.Whole.{AreItems, after_append, first_of, get_below, start, whole_printed, whole_said}
+use Rattle.xns_calls.proofs.Whole.{AreItems, after_append, first_of, start, whole_printed, whole_said}
 
 -- an acknowledgement of no more than all items leaves the flow whole
 whole_with : (items : List Item) (events : List Event) (h : Heading) (o : Option ℕ) → IsWhole items events → IfSome o (λ n. n ≤ length items) → IsWhole items (events ++ acknowledged_event h o)
@@ -48,7 +49,7 @@ whole_with items events h (Some last) w bound = record {
 
 last_item : (items : List Item) (es : List Early) (i last : ℕ) → AreItems items es → option_map (λ (e : Early). e.number) (slice_get es i) ≡ Some last → last < length items
 last_item items [] i last are is = (cc)
-last_item items (e ∷ es) zero last are is = let same : e.number ≡ last = (cc) in subst (λ n. n < length items) same (get_below items e.number e.item.item are.0)
+last_item items (e ∷ es) zero last are is = let same : e.number ≡ last = (cc) in subst (λ n. n < length items) same (slice_get_within items e.number e.item.item are.0)
 last_item items (e ∷ es) (suc i) last are is = last_item items es i last are.1 is
 
 end_bound : (items : List Item) (events : List Event) (t : Told) → t.track ≡ record { next = 0; early = []; speech = start } → IsWhole items events
@@ -79,7 +80,7 @@ whole_end_said runs law messages ends items events field t h small at w =
 
 kept_below : (items : List Item) (es : List Early) → AreItems items es → AreBelow (length items) es
 kept_below items [] are = tt
-kept_below items (e ∷ rest) are = (get_below items e.number e.item.item are.0, kept_below items rest are.1)
+kept_below items (e ∷ rest) are = (slice_get_within items e.number e.item.item are.0, kept_below items rest are.1)
 
 pub whole_below : (items : List Item) (events : List Event) (t : Told) → t.track ≡ record { next = 0; early = []; speech = start } → IsWhole items events
     → AreBelow (length items) (early_of (after_events events t))

@@ -1,7 +1,7 @@
 -- How what a connection keeps is read at the end of the input.
-use Rattle.std.specs.Prelude.{ℕ, zero, suc, ◌+◌, nat_lt, Bool, true, false, if◌then◌else◌, List, [], ◌∷◌, Option, Some, None, option_map}
-use Rattle.xns_calls.specs.Exchange.{Scene, advanced, of_other, other_reached, seen_from_other}
-use Rattle.xns_calls.specs.Read.{kept_item_count}
+use Rattle.std.specs.Prelude.{ℕ, ◌+◌, nat_lt, Bool, if◌then◌else◌, List, [], ◌∷◌, Option, Some, None, option_map}
+use Rattle.xns_calls.specs.Exchange.{Scene, advanced, other_reached}
+use Rattle.xns_calls.specs.Read.{in_turn, kept_item_count, times}
 use Rattle.xns_calls.specs.Turns.{first_kept, first_line}
 use Rattle.xns_calls.specs.declared.early.Early.{Early}
 use Rattle.xns_calls.specs.declared.first_kept.FirstKept.{FirstKept}
@@ -42,21 +42,15 @@ read_behind heading (Some first) s = advanced heading (first.number + 1) (other_
 unfoldable pub own_ended : Heading → Scene → Scene
 own_ended heading s = read_behind heading (first_in s.own.track) s
 
--- the flow behind reads its first item, as at the end
-abbrev pub other_ended : Heading → Scene → Scene
-other_ended heading s = seen_from_other (own_ended (of_other heading) (seen_from_other s))
-
+-- the flow whose turn it is reads its first item, as at the end
 abbrev pub ended_of : Heading → Option Bool → Scene → Scene
-ended_of heading None s = s
-ended_of heading (Some false) s = own_ended heading s
-ended_of heading (Some true) s = other_ended heading s
+ended_of = in_turn own_ended
 
 abbrev pub one_ended : Heading → Scene → Scene
 one_ended heading s = ended_of heading (end_turn s.own.track s.other.track) s
 
 abbrev pub ended_times : ℕ → Heading → Scene → Scene
-ended_times zero heading s = s
-ended_times (suc n) heading s = ended_times n heading (one_ended heading s)
+ended_times n heading = times n (one_ended heading)
 
 -- all that two flows keep is read, in the order in which it was captured, each item behind those before it and those that its packet
 -- acknowledges

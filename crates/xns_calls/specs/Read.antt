@@ -22,22 +22,26 @@ read_in_track heading (Some track) s = after_told (first_read heading (told_of t
 unfoldable pub own_read : Heading → Scene → Scene
 own_read heading s = read_in_track heading s.own.track s
 
--- the first item that the flow behind keeps is read, if it comes next
-abbrev pub other_read : Heading → Scene → Scene
-other_read heading s = seen_from_other (own_read (of_other heading) (seen_from_other s))
+-- the flow whose turn it is does something: the scene's own, or the one behind it (true)
+abbrev pub in_turn : (Heading → Scene → Scene) → Heading → Option Bool → Scene → Scene
+in_turn does heading None s = s
+in_turn does heading (Some false) s = does heading s
+in_turn does heading (Some true) s = seen_from_other (does (of_other heading) (seen_from_other s))
 
+abbrev pub times : ℕ → (Scene → Scene) → Scene → Scene
+times zero does s = s
+times (suc n) does s = times n does (does s)
+
+-- the first item is read of the flow whose turn it is, if it comes next
 abbrev pub read_of : Heading → Option Bool → Scene → Scene
-read_of heading None s = s
-read_of heading (Some false) s = own_read heading s
-read_of heading (Some true) s = other_read heading s
+read_of = in_turn own_read
 
 -- an item is read, if one of the two flows has one that can be
 abbrev pub one_read : Heading → Given → Scene → Scene
 one_read heading given s = read_of heading (next_turn given s.own.track s.other.track) s
 
 abbrev pub read_times : ℕ → Heading → Given → Scene → Scene
-read_times zero heading given s = s
-read_times (suc n) heading given s = read_times n heading given (one_read heading given s)
+read_times n heading given = times n (one_read heading given)
 
 abbrev pub kept_item_count : Option Track → ℕ
 kept_item_count None = 0
