@@ -1,111 +1,31 @@
--- From every world some events hand up all that was accepted, and have it acknowledged; so do their small steps.
-use Rattle.std.proofs.Common.{◌≡◌, ℕ, zero, suc, ◌+◌, ◌-◌, ◌*◌, ◌<◌, ◌≤◌, Bool, true, false, List, [], ◌∷◌, ◌++◌, length, take, nat_lt, Option, Some, None, refl, sym, ◌∙◌, ap, subst, arith, append-nil, length-append}
+-- From every world some events hand up all that was accepted, and have it acknowledged.
+use Rattle.std.proofs.Common.{◌≡◌, ℕ, zero, suc, ◌+◌, ◌-◌, ◌*◌, ◌<◌, ◌≤◌, Bool, true, false, List, [], ◌∷◌, ◌++◌, length, take, nat_lt, refl, sym, ◌∙◌, ap, subst, arith, append-nil, length-append}
 use Rattle.std.specs.Prelude.{All, ◌||◌}
 use Rattle.xns_spp.specs.Acceptance.{is_backlog_full}
 use Rattle.xns_spp.specs.Numbers.{most_items}
-use Rattle.std.specs.Option.{option_to_list}
-use Rattle.std.proofs.Math.Nat.{le_refl}
+use Rattle.std.proofs.Math.Nat.{le_refl, le_trans}
 use Rattle.std.proofs.lemmas.Bool.{ltb-true, ltb-false, ne_eqb}
 use Rattle.std.proofs.lemmas.List.{length-take}
-use Rattle.std.proofs.lemmas.List.Elements.{All-nil, All-append, All-weaker, All-head, All-tail}
+use Rattle.std.proofs.lemmas.List.Elements.{All-nil, All-append, All-weaker}
 use Rattle.std.proofs.lemmas.List.Sums.{fold-append}
 use Rattle.xns_spp.specs.Growth.{Begins}
-use Rattle.xns_spp.specs.Receiving.{receive_answer, after_receive}
-use Rattle.xns_spp.specs.Sending.{is_full, after_tick, tick_answer, handing, take_answer, after_take, after_flush, flush_answer}
+use Rattle.xns_spp.specs.Sending.{is_full}
 use Rattle.xns_spp.specs.State.{State, IsState, numbers_of}
 use Rattle.xns_spp.specs.declared.item.Item.{Item}
 use Rattle.item_world.proofs.Later.{run_later}
 use Rattle.item_world.proofs.Onward.{Kept, longer}
-use Rattle.item_world.proofs.Sides.{each_end, same_marked, has_landed}
-use Rattle.item_world.specs.EndLaws.{EndLaws}
-use Rattle.item_world.specs.Events.{SmallStep, IsStep, stepped, all_stepped, IsEvent, steps_of, happens, world_after}
+use Rattle.item_world.specs.Events.{happens, world_after}
 use Rattle.item_world.specs.Later.{Later}
 use Rattle.item_world.specs.Invariant.{Holds}
-use Rattle.item_world.specs.Landing.{with_arrival, landing}
-use Rattle.item_world.specs.Progress.{IsDone, pending, Linked, IsFurther, FinishesByEvents}
+use Rattle.item_world.specs.Progress.{IsDone, pending, IsFurther, FinishesByEvents}
 use Rattle.item_world.specs.Side.{other}
-use Rattle.item_world.specs.World.{World, start, end_at, moved, marked_delivered, sent_at, handed_at, flushes}
-use Rattle.item_world.specs.declared.emitted.Emitted.{Emitted}
-use Rattle.item_world.specs.declared.setup.Setup.{Setup}
+use Rattle.item_world.specs.World.{World, end_at, sent_at, handed_at}
 use Rattle.item_world.specs.declared.side.Side.{Side}
 use Rattle.item_world.specs.declared.side.Side.TheVariants.{A, B}
 use Rattle.item_world.proofs.Deliveries.{AdvancesBy, advances_by, SettlesBy, settles_by}
-use Rattle.item_world.proofs.Kept.{flushed, delivers_lands, steps_fit}
+use Rattle.item_world.proofs.Going.{Both, GoesOn, events_go_on}
 use Rattle.item_world.specs.declared.event.Event.{Event}
 use Rattle.item_world.specs.declared.event.Event.TheVariants.{Deliver, Rest, Tick, Foreign, Send, Take}
-
--- ---- what plain steps leave
-
--- an end goes on with nothing accepted, and no less handed up and acknowledged
-pub record Works (s t : State) : Type 0 where
-  pub accepted : t.accepted ≡ s.accepted
-  pub handed : s.handed ≤ t.handed
-  pub acknowledged : s.acknowledged ≤ t.acknowledged
-
-pub works_itself : (s : State) → Works s s
-works_itself s = record { accepted = refl; handed = omega arith; acknowledged = omega arith }
-
-pub works_then : (s t u : State) → Works s t → Works t u → Works s u
-works_then s t u a b = record { accepted = b.accepted ∙ a.accepted; handed = omega (arith, a.handed, b.handed); acknowledged = omega (arith, a.acknowledged, b.acknowledged) }
-
-abbrev pub Ongoing : World → World → Type 0
-Ongoing w v = (side : Side) → Works (end_at w side) (end_at v side)
-
-pub moved_works : (w : World) (side : Side) (s : State) (bs : List (List ℕ)) → Works (end_at w side) s
-    → Ongoing w (moved w side s bs)
-moved_works w side s bs h t = each_end w side s bs (λ u y. Works (end_at w u) y) h t (works_itself (end_at w t))
-
-pub handing_works : (s : State) (o : Option Item) → Works s (handing o s)
-handing_works s None = works_itself s
-handing_works s (Some x) = record { accepted = refl; handed = omega arith; acknowledged = omega arith }
-
-pub same_works : (s t : State) → t ≡ s → Works s t
-same_works s t e = subst (Works s) (sym e) (works_itself s)
-
-pub land_works : EndLaws → (w : World) (k : ℕ) (l : Side × World) → landing w k ≡ Some l → Ongoing w l.1
-land_works laws w k l e =
-    let i = has_landed w k l e in
-    let x : Emitted = i.packet in
-    let v : World = marked_delivered w k x in
-    let s : State = end_at v (other x.side) in
-    let stays = laws.stays.receive s x.bytes in
-    let more : Ongoing v (with_arrival w k x) = moved_works v (other x.side) (after_receive s x.bytes) (option_to_list (receive_answer s x.bytes).reply) (record { accepted = stays.accepted; handed = omega (arith, stays.handed); acknowledged = (laws.grows.receive s x.bytes).acknowledged }) in
-    subst (λ (m : Side × World). Ongoing w m.1) i.leads (λ t. works_then (end_at w t) (end_at v t) (end_at (with_arrival w k x) t) (same_works (end_at w t) (end_at v t) (same_marked w k x t)) (more t))
-
-flush_works : EndLaws → (s : State) → Works s (after_flush s)
-flush_works laws s = record { accepted = (laws.stays.flush s).accepted; handed = omega (arith, (laws.stays.flush s).handed); acknowledged = omega (arith, (laws.hears.flush s).acknowledged) }
-
-arrival_works : EndLaws → (w : World) (k : ℕ) (o : Option (Side × World)) → landing w k ≡ o → Ongoing w (flushed w o)
-arrival_works laws w k None e t = works_itself (end_at w t)
-arrival_works laws w k (Some l) e t =
-    let v : World = l.1 in
-    works_then (end_at w t) (end_at v t) (end_at (flushes v l.0) t) (land_works laws w k l e t)
-    (moved_works v l.0 (after_flush (end_at v l.0)) (flush_answer (end_at v l.0)) (flush_works laws (end_at v l.0)) t)
-
-step_works : EndLaws → (n : ℕ) (w : World) (e : Event) → IsFurther n e → Ongoing w (happens w e)
-step_works laws n w (Deliver k) h = subst (λ (v : World). Ongoing w v) (sym (delivers_lands w k)) (arrival_works laws w k (landing w k) refl)
-step_works laws n w Rest h = absurd h
-step_works laws n w (Tick side) h =
-    let stays = laws.stays.tick (end_at w side) in
-    moved_works w side (after_tick (end_at w side)) (tick_answer (end_at w side))
-    (record { accepted = stays.accepted; handed = omega (arith, stays.handed); acknowledged = omega (arith, (laws.hears.tick (end_at w side)).acknowledged) })
-step_works laws n w (Foreign side bytes) h = absurd h
-step_works laws n w (Send side x) h = absurd h
-step_works laws n w (Take side) h = moved_works w side (after_take (end_at w side)) [] (handing_works (end_at w side) (take_answer (end_at w side)))
-
-all_work : EndLaws → (n : ℕ) (w : World) (ss : List Event) → All (IsFurther n) ss → Ongoing w (world_after w ss)
-all_work laws n w [] h t = works_itself (end_at w t)
-all_work laws n w (s ∷ ss) h t =
-    works_then (end_at w t) (end_at (happens w s) t) (end_at (world_after (happens w s) ss) t) (step_works laws n w s (All-head (IsFurther n) s ss h) t)
-    (all_work laws n (happens w s) ss (All-tail (IsFurther n) s ss h) t)
-
-plain_steps : (n : ℕ) (e : Event) → IsFurther n e → IsEvent e
-plain_steps n (Deliver k) h = tt
-plain_steps n Rest h = tt
-plain_steps n (Tick side) h = tt
-plain_steps n (Foreign side bytes) h = tt
-plain_steps n (Send side x) h = absurd h
-plain_steps n (Take side) h = tt
 
 pub further_before : (m n : ℕ) (e : Event) → m ≤ n → IsFurther n e → IsFurther m e
 further_before m n (Deliver k) le h = omega (arith, h)
@@ -114,25 +34,6 @@ further_before m n (Tick side) le h = tt
 further_before m n (Foreign side bytes) le h = absurd h
 further_before m n (Send side x) le h = absurd h
 further_before m n (Take side) le h = tt
-
--- what always holds of a world
-pub record Both (w : World) : Type 0 where
-  pub holds : Holds w
-  pub linked : Linked w
-
-pub both_after : Kept → (w : World) (ss : List SmallStep) → All IsStep ss → Both w → Both (all_stepped w ss)
-both_after k w [] fits b = b
-both_after k w (s ∷ ss) fits b =
-    let step = All-head IsStep s ss fits in
-    both_after k (stepped w s) ss (All-tail IsStep s ss fits) (record { holds = k.order.each w s step b.holds; linked = k.links w s step b.holds b.linked })
-
-pub events_after : Kept → (w : World) (es : List Event) → All IsEvent es → Both w → Both (world_after w es)
-events_after k w [] fits b = b
-events_after k w (e ∷ es) fits b =
-    events_after k (happens w e) es (All-tail IsEvent e es fits) (both_after k w (steps_of w e) (steps_fit w e (All-head IsEvent e es fits)) b)
-
-both_plain : Kept → (n : ℕ) (w : World) (ss : List Event) → All (IsFurther n) ss → Both w → Both (world_after w ss)
-both_plain k n w ss h b = events_after k w ss (All-weaker (IsFurther n) IsEvent (plain_steps n) ss h) b
 
 -- ---- events one after another
 
@@ -154,11 +55,8 @@ leads_then k u v w m n a b =
       is = fold-append happens u a.steps b.steps ∙ (ap (λ (x : World). world_after x b.steps) a.is ∙ b.is);
     }
 
-leads_both : Kept → (u v : World) (n : ℕ) → Leads u v n → Both u → Both v
-leads_both k u v n l b = subst Both l.is (both_plain k (length u.bag) u l.steps l.plain b)
-
-leads_works : EndLaws → (u v : World) (n : ℕ) → Leads u v n → Ongoing u v
-leads_works laws u v n l = subst (λ (x : World). Ongoing u x) l.is (all_work laws (length u.bag) u l.steps l.plain)
+leads_on : Kept → (u v : World) (n : ℕ) → Leads u v n → Both u → GoesOn u v
+leads_on k u v n l b = subst (λ (x : World). GoesOn u x) l.is (events_go_on k (length u.bag) u l.steps l.plain b)
 
 -- ---- one way
 
@@ -181,9 +79,9 @@ reaches k (suc d) w side true e h le =
     let a : AdvancesBy w side (end_at w (other side)).handed = advances_by k w side h.holds h.linked (ltb-true (end_at w (other side)).handed (length (end_at w side).accepted) e) in
     let v : World = world_after w a.steps in
     let l : Leads w v 6 = record { steps = a.steps; plain = a.plain; few = a.few; is = refl } in
-    let works : Ongoing w v = leads_works k.laws w v 6 l in
-    let left : length (end_at v side).accepted ≤ (end_at v (other side)).handed + d = omega (arith, ap length (works side).accepted, a.more, le) in
-    let r : Reaches v side d = reaches k d v side (nat_lt (end_at v (other side)).handed (length (end_at v side).accepted)) refl (leads_both k w v 6 l h) left in
+    let on : GoesOn w v = leads_on k w v 6 l h in
+    let left : length (end_at v side).accepted ≤ (end_at v (other side)).handed + d = omega (arith, ap length (on.ahead.ends side).accepted, a.more, le) in
+    let r : Reaches v side d = reaches k d v side (nat_lt (end_at v (other side)).handed (length (end_at v side).accepted)) refl on.ahead.both left in
     let count : 6 + 6 * d ≡ 6 * suc d = omega arith in
     record { then = r.then; leads = subst (λ (n : ℕ). Leads w r.then n) count (leads_then k w v r.then 6 (6 * d) l r.leads); all = r.all }
 
@@ -217,28 +115,27 @@ not_full s fits all less =
     ∙ ne_eqb (length s.accepted - s.acknowledged) s.ends.backlog (λ e. omega (arith, e, all, fits.ends.backlog_least))
 
 -- all is done once each way is handed up and acknowledged
-pub all_done : Kept → (w v : World) → Both v → Ongoing w v
+pub all_done : Kept → (w v : World) → GoesOn w v
     → ((side : Side) → length (end_at w side).accepted ≤ (end_at v (other side)).handed)
     → ((side : Side) → length (end_at w side).accepted ≤ (end_at v side).acknowledged)
     → IsDone w v
-all_done k w v both works handed acknowledged =
-    let count : (side : Side) → length (end_at v side).accepted ≡ length (end_at w side).accepted = λ side. ap length (works side).accepted in
+all_done k w v on handed acknowledged =
+    let both = on.ahead.both in
+    let ends = on.ahead.ends in
+    let count : (side : Side) → length (end_at v side).accepted ≡ length (end_at w side).accepted = λ side. ap length (ends side).accepted in
     let all : (side : Side) → (end_at v side).acknowledged ≡ length (end_at v side).accepted = λ side.
     let b = (both.holds.ends side).fits.bounds in omega (arith, acknowledged side, count side, b.acknowledged_sent, b.sent_accepted) in
     record {
-      accepted = λ side. (works side).accepted;
-      handed = λ side. done_at k v both.holds side (omega (arith, count side, handed side)) ∙ (works side).accepted;
+      accepted = λ side. (ends side).accepted;
+      handed = λ side. done_at k v both.holds side (omega (arith, count side, handed side)) ∙ (ends side).accepted;
       acknowledged = λ side. all side ∙ count side;
       free = λ side less. not_full (end_at v side) (both.holds.ends side).fits (all side) (omega (arith, count side, less));
     }
 
-pub few_enough : (m n c : ℕ) → c ≤ 0 + 6 * m + 6 * n + 3 + 3 → c ≤ 6 * (m + n + 1)
+few_enough : (m n c : ℕ) → c ≤ 0 + 6 * m + 6 * n + 3 + 3 → c ≤ 6 * (m + n + 1)
 few_enough m n c h = omega arith
 
-pub le_then : (a b c : ℕ) → a ≤ b → b ≤ c → a ≤ c
-le_then a b c h i = omega arith
-
-pub still_left : (n h i : ℕ) → h ≤ i → n ≤ i + (n - h)
+still_left : (n h i : ℕ) → h ≤ i → n ≤ i + (n - h)
 still_left n h i a = omega arith
 
 -- at most n events lead from w, by way of v, to a world in which all that this side of w had accepted is handed up at
@@ -246,44 +143,45 @@ still_left n h i a = omega arith
 record Handed (w v : World) (side : Side) (n : ℕ) : Type 0 where
   then : World
   leads : Leads w then n
-  since : Ongoing v then
+  since : GoesOn v then
   all : length (end_at w side).accepted ≤ (end_at then (other side)).handed
 
 hands_over : Kept → (w v : World) (side : Side) (c d : ℕ) → Both w → Leads w v c
     → length (end_at w side).accepted ≤ (end_at v (other side)).handed + d → Handed w v side (c + 6 * d)
 hands_over k w v side c d h l le =
-    let now : Both v = leads_both k w v c l h in
-    let before : length (end_at v side).accepted ≡ length (end_at w side).accepted = ap length (leads_works k.laws w v c l side).accepted in
-    let r : Reaches v side d = reaches_all k v side d (omega (arith, before, le)) now in
-    let since : Ongoing v r.then = leads_works k.laws v r.then (6 * d) r.leads in
+    let on : GoesOn w v = leads_on k w v c l h in
+    let before : length (end_at v side).accepted ≡ length (end_at w side).accepted = ap length (on.ahead.ends side).accepted in
+    let r : Reaches v side d = reaches_all k v side d (omega (arith, before, le)) on.ahead.both in
+    let since : GoesOn v r.then = leads_on k v r.then (6 * d) r.leads on.ahead.both in
     record {
       then = r.then;
       leads = leads_then k w v r.then c (6 * d) l r.leads;
       since = since;
-      all = omega (arith, before, ap length (since side).accepted, r.all);
+      all = omega (arith, before, ap length (since.ahead.ends side).accepted, r.all);
     }
 
 record Acknowledged (w v : World) (side : Side) (n : ℕ) : Type 0 where
   then : World
   leads : Leads w then n
-  since : Ongoing v then
+  since : GoesOn v then
   all : length (end_at w side).accepted ≤ (end_at then side).acknowledged
 
 learns_all : Kept → (w v : World) (side : Side) (c : ℕ) → Both w → Leads w v c
     → length (end_at w side).accepted ≤ (end_at v (other side)).handed → Acknowledged w v side (c + 3)
 learns_all k w v side c h l le =
-    let now : Both v = leads_both k w v c l h in
-    let before : length (end_at v side).accepted ≡ length (end_at w side).accepted = ap length (leads_works k.laws w v c l side).accepted in
+    let on : GoesOn w v = leads_on k w v c l h in
+    let now : Both v = on.ahead.both in
+    let before : length (end_at v side).accepted ≡ length (end_at w side).accepted = ap length (on.ahead.ends side).accepted in
     let r : SettlesBy v side (length (end_at v side).accepted) = settles_by k v side now.holds now.linked (omega (arith, before, le)) in
     let u : World = world_after v r.steps in
-    let on : Leads v u 3 = record { steps = r.steps; plain = r.plain; few = r.few; is = refl } in
-    record { then = u; leads = leads_then k w v u c 3 l on; since = leads_works k.laws v u 3 on; all = omega (arith, before, r.all) }
+    let more : Leads v u 3 = record { steps = r.steps; plain = r.plain; few = r.few; is = refl } in
+    record { then = u; leads = leads_then k w v u c 3 l more; since = leads_on k v u 3 more now; all = omega (arith, before, r.all) }
 
 by_sides : Kept → (w v : World) (n : ℕ) → Both w → Leads w v n → length (end_at w A).accepted ≤ (end_at v B).handed
     → length (end_at w B).accepted ≤ (end_at v A).handed → length (end_at w A).accepted ≤ (end_at v A).acknowledged
     → length (end_at w B).accepted ≤ (end_at v B).acknowledged → IsDone w v
 by_sides k w v n h l to_b to_a at_a at_b =
-    all_done k w v (leads_both k w v n l h) (leads_works k.laws w v n l)
+    all_done k w v (leads_on k w v n l h)
     (λ side. elim side as (λ t. length (end_at w t).accepted ≤ (end_at v (other t)).handed) [ A ↦ to_b | B ↦ to_a ])
     (λ side. elim side as (λ t. length (end_at w t).accepted ≤ (end_at v t).acknowledged) [ A ↦ at_a | B ↦ at_b ])
 
@@ -294,9 +192,9 @@ last_done : Kept → (w v2 : World) (m n : ℕ) → Both w → Leads w v2 (0 + 6
     → IsDone w d.then
 last_done k w v2 m n h l to_b to_a c d =
     by_sides k w d.then (0 + 6 * m + 6 * n + 3 + 3) h d.leads
-    (le_then (length (end_at w A).accepted) (end_at c.then B).handed (end_at d.then B).handed (le_then (length (end_at w A).accepted) (end_at v2 B).handed (end_at c.then B).handed to_b (c.since B).handed) (d.since B).handed)
-    (le_then (length (end_at w B).accepted) (end_at c.then A).handed (end_at d.then A).handed (le_then (length (end_at w B).accepted) (end_at v2 A).handed (end_at c.then A).handed to_a (c.since A).handed) (d.since A).handed)
-    (le_then (length (end_at w A).accepted) (end_at c.then A).acknowledged (end_at d.then A).acknowledged c.all (d.since A).acknowledged)
+    (le_trans (le_trans to_b (c.since.ahead.ends B).grows.handed) (d.since.ahead.ends B).grows.handed)
+    (le_trans (le_trans to_a (c.since.ahead.ends A).grows.handed) (d.since.ahead.ends A).grows.handed)
+    (le_trans c.all (d.since.ahead.ends A).grows.acknowledged)
     d.all
 
 -- each end asks until it knows
@@ -307,7 +205,7 @@ asks_both : Kept → (w v : World) (m n : ℕ) → Both w → Leads w v (0 + 6 *
 asks_both k w v m n h l to_b to_a is_m is_n =
     let c : Acknowledged w v A (0 + 6 * m + 6 * n + 3) = learns_all k w v A (0 + 6 * m + 6 * n) h l to_b in
     let d : Acknowledged w c.then B (0 + 6 * m + 6 * n + 3 + 3) =
-    learns_all k w c.then B (0 + 6 * m + 6 * n + 3) h c.leads (le_then (length (end_at w B).accepted) (end_at v A).handed (end_at c.then A).handed to_a (c.since A).handed) in
+    learns_all k w c.then B (0 + 6 * m + 6 * n + 3) h c.leads (le_trans to_a (c.since.ahead.ends A).grows.handed) in
     record {
       more = d.leads.steps;
       further = d.leads.plain;
@@ -317,19 +215,11 @@ asks_both k w v m n h l to_b to_a is_m is_n =
     }
 
 -- first one way, then the other
-pub finishes_by : Kept → (w : World) → Holds w → Linked w → FinishesByEvents w
-finishes_by k w holds linked =
-    let h : Both w = record { holds = holds; linked = linked } in
+pub finishes_by : Kept → (w : World) → Both w → FinishesByEvents w
+finishes_by k w h =
     let none : Leads w w 0 = record { steps = []; plain = All-nil (IsFurther (length w.bag)); few = omega arith; is = refl } in
     let a : Handed w w A (0 + 6 * pending w A) = hands_over k w w A 0 (pending w A) h none (still_left (length (end_at w A).accepted) (end_at w B).handed (end_at w B).handed (le_refl (end_at w B).handed)) in
     let b : Handed w a.then B (0 + 6 * pending w A + 6 * pending w B) =
-    hands_over k w a.then B (0 + 6 * pending w A) (pending w B) h a.leads (still_left (length (end_at w B).accepted) (end_at w A).handed (end_at a.then A).handed (a.since A).handed) in
+    hands_over k w a.then B (0 + 6 * pending w A) (pending w B) h a.leads (still_left (length (end_at w B).accepted) (end_at w A).handed (end_at a.then A).handed (a.since.ahead.ends A).grows.handed) in
     asks_both k w b.then (pending w A) (pending w B) h b.leads
-    (le_then (length (end_at w A).accepted) (end_at a.then B).handed (end_at b.then B).handed a.all (b.since B).handed) b.all refl refl
-
--- whatever was before
-pub always_finishes_by : Kept → (setup : Setup) (events : List Event) → Holds (start setup) → Linked (start setup)
-    → All IsEvent events → FinishesByEvents (world_after (start setup) events)
-always_finishes_by k setup events h l fits =
-    let b : Both (world_after (start setup) events) = events_after k (start setup) events fits (record { holds = h; linked = l }) in
-    finishes_by k (world_after (start setup) events) b.holds b.linked
+    (le_trans a.all (b.since.ahead.ends B).grows.handed) b.all refl refl

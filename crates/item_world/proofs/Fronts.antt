@@ -1,7 +1,6 @@
 -- A list that goes on with another.
 use Rattle.std.proofs.Common.{refl, ◌<◌, length, arith, ◌≡◌, ℕ, zero, suc, List, [], ◌∷◌, ◌++◌, Some, sym, subst}
-use Rattle.std.specs.Prelude.{slice_get, All}
-use Rattle.std.proofs.lemmas.Option.{get_or_from_slice_get, slice_get_within}
+use Rattle.std.specs.Prelude.{slice_get}
 use Rattle.xns_spp.specs.Growth.{Begins}
 use Rattle.xns_spp.specs.Fronts.{begins_itself}
 
@@ -21,6 +20,3 @@ pub element : {X : Type 0} (xs : List X) (k : ℕ) → k < length xs → (x : X)
 element [] k l = absurd (omega arith)
 element (y ∷ xs) zero l = (y, refl)
 element (y ∷ xs) (suc k) l = element xs k (omega arith)
-
-pub all_get : {X : Type 0} (P : X → Type 0) (xs : List X) (k : ℕ) (x : X) → All P xs → slice_get xs k ≡ Some x → P x
-all_get P xs k x all is = subst P (get_or_from_slice_get xs k x x is) (all k x (slice_get_within xs k x is))

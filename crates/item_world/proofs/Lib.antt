@@ -9,6 +9,7 @@ pub mod Quiet
 pub mod Channels
 pub mod Plays
 pub mod Onward
+pub mod Going
 pub mod Finishing
 pub mod SmallSteps
 pub mod Deliveries

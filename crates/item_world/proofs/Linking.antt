@@ -3,6 +3,7 @@ use Rattle.std.proofs.Common.{◌≡◌, ◌⊎◌, inl, inr, ℕ, Bool, true, f
 use Rattle.std.specs.Prelude.{slice_get, All, is_ok}
 use Rattle.std.specs.Option.{option_to_list}
 use Rattle.std.proofs.lemmas.List.Elements.{All-nil, All-cons, All-append, All-map, All-set, All-weaker, All-head, All-tail}
+use Rattle.xns_spp.proofs.Lists.{All-slice_get}
 use Rattle.xns_spp.specs.Growth.{IsOwnPacket}
 use Rattle.xns_spp.specs.Header.{reply_control}
 use Rattle.xns_spp.specs.Packet.{SppPacketModel, IsSppPacket, spelled, spp_packet_spelling, spp_packet_of}
@@ -14,7 +15,6 @@ use Rattle.xns_spp.specs.Telling.{resend_packet, resend_answer, after_resend, to
 use Rattle.xns_spp.specs.declared.ends.Ends.{Ends}
 use Rattle.xns_spp.specs.declared.item.Item.{Item}
 use Rattle.xns_spp.specs.declared.role.Role.TheVariants.{Responder}
-use Rattle.item_world.proofs.Fronts.{all_get}
 use Rattle.item_world.proofs.Onward.{KeepsLinks}
 use Rattle.item_world.proofs.Sides.{same_end, same_marked, other_other, each_side, has_landed, noise_changes_nothing}
 use Rattle.item_world.specs.EndLaws.{EndLaws}
@@ -37,6 +37,15 @@ pub record SameNames (e f : Ends) : Type 0 where
   pub own : f.own ≡ e.own
   pub id : f.id ≡ e.id
   pub role : f.role ≡ e.role
+
+pub same_names : (e f : Ends) → f ≡ e → SameNames e f
+same_names e f is = record { own = ap (λ (x : Ends). x.own) is; id = ap (λ (x : Ends). x.id) is; role = ap (λ (x : Ends). x.role) is }
+
+pub names_then : (d e f : Ends) → SameNames d e → SameNames e f → SameNames d f
+names_then d e f a b = record { own = b.own ∙ a.own; id = b.id ∙ a.id; role = b.role ∙ a.role }
+
+pub names_back : (e f : Ends) → SameNames e f → SameNames f e
+names_back e f a = record { own = sym a.own; id = sym a.id; role = sym a.role }
 
 from_on : (e f : Ends) (b : List ℕ) → SameNames e f → IsFrom e b → IsFrom f b
 from_on e f b n h p is = let was = h p is in (was.0 ∙ sym n.own, was.1 ∙ sym n.id)
@@ -141,14 +150,14 @@ reply_from laws s b (Some r) e fits n =
     let q : SppPacketModel = system_packet t reply_control in
     let is : r ≡ spp_packet_spelling q = laws.goes_out.reply s b r e in
     let from : IsFrom t.ends (spp_packet_spelling q) = named_from laws t.ends q (laws.packets.system_packet t reply_control fits (lit< tt)) (laws.peers.system t reply_control) in
-    let back : SameNames t.ends s.ends = record { own = sym n.own; id = sym n.id; role = sym n.role } in
+    let back : SameNames t.ends s.ends = names_back s.ends t.ends n in
     All-cons (IsFrom s.ends) r [] (subst (IsFrom s.ends) (sym is) (from_on t.ends s.ends (spp_packet_spelling q) back from)) (All-nil (IsFrom s.ends))
 
 marked_links : (w : World) (k : ℕ) (x : Emitted) → slice_get w.bag k ≡ Some x → Linked w → Linked (marked_delivered w k x)
 marked_links w k x is l =
     let v : World = marked_delivered w k x in
     let P : World → Emitted → Type 0 = λ u y. IsFrom (end_at u y.side).ends y.bytes in
-    let there : P w x = all_get (P w) w.bag k x l.bag is in
+    let there : P w x = All-slice_get (P w) w.bag k x l.bag is in
     record {
       ends = λ side. elim side as (λ t. IsLinked (end_at v t).ends (end_at v (other t)).ends) [ A ↦ l.ends A | B ↦ l.ends B ];
       bag = All-weaker (P w) (P v) (λ y h. subst (λ (t : State). IsFrom t.ends y.bytes) (sym (same_marked w k x y.side)) h) v.bag (All-set (P w) w.bag k (record x { delivered = true }) there l.bag);
@@ -169,7 +178,7 @@ answered_links laws w k x is fits l =
     let t : State = after_receive s x.bytes in
     let d : Ends = (end_at v (other side)).ends in
     let P : Emitted → Type 0 = λ y. IsFrom (end_at w y.side).ends y.bytes in
-    let there : P x = all_get P w.bag k x l.bag is in
+    let there : P x = All-slice_get P w.bag k x l.bag is in
     let from : IsFrom d x.bytes = from_peer v x.side x.bytes (subst (λ (y : State). IsFrom y.ends x.bytes) (sym (same_marked w k x x.side)) there) in
     let e : Hears s.ends t.ends d = hears laws s d x.bytes from (m.ends side) in
     let o : Option (List ℕ) = (receive_answer s x.bytes).reply in

@@ -3,6 +3,7 @@ use Rattle.std.proofs.Common.{◌≡◌, inl, inr, ℕ, ◌<◌, ◌≤◌, Bool
 use Rattle.std.specs.Option.{option_to_list}
 use Rattle.std.specs.Prelude.{All, slice_get}
 use Rattle.std.proofs.lemmas.List.Elements.{All-nil, All-cons, All-weaker}
+use Rattle.xns_spp.proofs.Growing.{grows_itself}
 use Rattle.xns_spp.specs.Growth.{Begins, Grows, HearsNothing, IsOwnPacket}
 use Rattle.xns_spp.specs.Header.{system_bit, has_bit}
 use Rattle.xns_spp.specs.Item.{IsItem, item_in}
@@ -16,7 +17,7 @@ use Rattle.item_world.specs.EndLaws.{EndLaws}
 use Rattle.item_world.specs.Invariant.{IsClose, IsCloseTo, IsSoundPacket, StandsBesidePeer}
 use Rattle.item_world.specs.World.{moment}
 use Rattle.item_world.specs.declared.moment.Moment.{Moment}
-use Rattle.xns_spp.specs.Fronts.{begins_itself, begins_length}
+use Rattle.xns_spp.specs.Fronts.{begins_length}
 use Rattle.item_world.proofs.Fronts.{begins_get}
 
 -- a packet that is sent
@@ -170,17 +171,6 @@ pub resend_sends : EndLaws → (s peer : State) → StandsBesidePeer s peer → 
 resend_sends laws s peer k =
     sends_one laws s (after_resend s) peer (resend_packet s) _ (laws.goes_out.resend_bytes s) (laws.bounds.resend s k.fits) (laws.grows.resend s) (laws.hears.resend s) (laws.goes_out.resend s) k
 
-pub same_grows : (s : State) → Grows s s
-same_grows s = record {
-  accepted = begins_itself s.accepted;
-  acknowledged = omega arith;
-  sent = omega arith;
-  allowed = omega arith;
-  taken = begins_itself s.taken;
-  handed = omega arith;
-  top = omega arith;
-}
-
 pub told_sends : EndLaws → (s peer : State) (asks : Bool) → StandsBesidePeer s peer → Sends s s peer (option_to_list (told_answer s asks))
 told_sends laws s peer asks k =
-    sends_one laws s s peer (told_packet s asks) _ (laws.goes_out.told_bytes s asks) k.fits (same_grows s) (record { taken = refl; early = refl; acknowledged = refl }) (laws.goes_out.told s asks) k
+    sends_one laws s s peer (told_packet s asks) _ (laws.goes_out.told_bytes s asks) k.fits (grows_itself s) (record { taken = refl; early = refl; acknowledged = refl }) (laws.goes_out.told s asks) k

@@ -1,4 +1,5 @@
 -- Two ends of a world: one asks, the other replies, and the next item goes over.
+use Rattle.xns_spp.proofs.Lists.{All-slice_get}
 use Rattle.xns_spp.specs.declared.ends.Ends.{Ends}
 use Rattle.std.proofs.Common.{◌≡◌, ℕ, ◌+◌, ◌-◌, ◌<◌, ◌≤◌, Bool, true, false, List, [], ◌∷◌, ◌++◌, length, map, nat_lt, Option, Some, None, refl, sym, ◌∙◌, ap, subst, arith, append-nil, lit<}
 use Rattle.std.specs.Prelude.{slice_get, if◌then◌else◌, ◌||◌}
@@ -7,7 +8,7 @@ use Rattle.std.proofs.lemmas.List.{length-set, length-map}
 use Rattle.xns_spp.specs.Ends.{is_open, is_ours_at}
 use Rattle.xns_spp.specs.Fronts.{begins_length}
 use Rattle.xns_spp.specs.Growth.{IsOwnPacket}
-use Rattle.xns_spp.specs.Header.{reply_control}
+use Rattle.xns_spp.specs.Header.{wants_reply, brings_item, reply_control}
 use Rattle.xns_spp.specs.Meant.{Meant, own_meant}
 use Rattle.xns_spp.specs.Packet.{SppPacketModel, spelled, spp_packet_spelling, spp_packet_of}
 use Rattle.xns_spp.specs.Peers.{IsLinked, IsHeard, Counts, Asks, IsNamed}
@@ -16,7 +17,7 @@ use Rattle.xns_spp.specs.Sending.{data_packet, system_packet, tick_packets, tick
 use Rattle.xns_spp.specs.State.{State, window_top, send_limit}
 use Rattle.xns_spp.specs.declared.item.Item.{Item}
 use Rattle.item_world.proofs.Arrivals.{read_as_meant}
-use Rattle.item_world.proofs.Fronts.{element, all_get, front_get}
+use Rattle.item_world.proofs.Fronts.{element, front_get}
 use Rattle.item_world.proofs.Moves.{IsProper, IsProperAs, as_proper, system_proper_as, item_proper_as, own_proper}
 use Rattle.item_world.proofs.Sides.{same_end, same_other, same_marked, other_other}
 use Rattle.item_world.specs.EndLaws.{EndLaws}
@@ -174,6 +175,83 @@ proper_heard laws t p q m to back i ours =
       behind = omega (arith, i.sound.acknowledges, to.went_out);
     }
 
+-- ---- the first packet of a tick
+
+-- the first packet of an end's tick is q, which means m
+pub record IsFirst (s p : State) (q : SppPacketModel) (m : Meant) : Type 0 where
+  pub at : slice_get (tick_packets s) 0 ≡ Some q
+  pub named : IsNamed s.ends q
+  pub proper : IsProperAs (moment (after_tick s) p) (after_tick s) q m
+
+-- what else is so of each first packet: it is in the bag after the tick, and is heard by the peer
+pub tick_new : Kept → (w : World) (side : Side) (s p : State) (q : SppPacketModel) (m : Meant) → Pair w side s p → IsFirst s p q m
+    → IsNew (ticks w side) side (after_tick s) p (length w.bag) (spp_packet_spelling q)
+tick_new k w side s p q m x f =
+    let t : State = after_tick s in
+    record { at = moment t p; is = ticked_packet k w side s p q x f.at; alive = is_alive (moment t p) (length t.taken) (length p.taken) refl refl }
+
+tick_heard : Kept → (w : World) (side : Side) (s p : State) (q : SppPacketModel) (m : Meant) → Pair w side s p → IsFirst s p q m
+    → IsHeard p (spp_packet_spelling q) q m
+tick_heard k w side s p q m x f =
+    let t : State = after_tick s in
+    let v : World = ticks w side in
+    let y : Pair v side t p = ticked k w side s p x in
+    let now : StandsBesidePeer t p = stands v side t p y in
+    let back : StandsBesidePeer p t = stands v (other side) p t (flip v side t p y) in
+    let ours : is_ours_at p.ends q ≡ true =
+    k.laws.peers.ours s.ends p.ends q (stands w side s p x).fits.ends back.fits.ends (links w side s p x) (links w (other side) p s (flip w side s p x)) f.named in
+    proper_heard k.laws t p q m now back f.proper ours
+
+-- an end with an item that is not acknowledged asks
+pub record TickAsks (s p : State) : Type 0 where
+  pub packet : SppPacketModel
+  pub meant : Meant
+  pub first : IsFirst s p packet meant
+  pub asks : wants_reply packet.header ≡ true
+
+pub tick_asks : Kept → (w : World) (side : Side) (s p : State) → Pair w side s p → s.acknowledged < length s.accepted → TickAsks s p
+tick_asks k w side s p x left =
+    let laws : EndLaws = k.laws in
+    let a : Asks s = laws.asks.asks s left in
+    let q : SppPacketModel = a.packet in
+    let t : State = after_tick s in
+    let own : IsOwnPacket s t q = All-slice_get (IsOwnPacket s t) (tick_packets s) 0 q (laws.goes_out.tick s) a.first in
+    let before : StandsBesidePeer s p = stands w side s p x in
+    let now : StandsBesidePeer t p = stands (ticks w side) side t p (ticked k w side s p x) in
+    let proper : IsProper (moment t p) t q = own_proper laws s t p q before now (laws.grows.tick s before.fits) (laws.hears.tick s).taken own in
+    record {
+      packet = q;
+      meant = proper.meant;
+      first = record { at = a.first; named = laws.peers.own s t q own; proper = as_proper (moment t p) t q proper };
+      asks = a.asks;
+    }
+
+-- an open end sends the first item that is not acknowledged, where it may go out
+pub record TickSends (s p : State) : Type 0 where
+  pub packet : SppPacketModel
+  pub first : IsFirst s p packet (own_meant s s.acknowledged)
+  pub brings : brings_item packet.header ≡ true
+
+pub tick_sends : Kept → (w : World) (side : Side) (s p : State) → Pair w side s p → is_open s.ends ≡ true
+    → s.acknowledged < send_limit s → s.acknowledged < length s.accepted → TickSends s p
+tick_sends k w side s p x ready may left =
+    let laws : EndLaws = k.laws in
+    let n : ℕ = s.acknowledged in
+    let there = element s.accepted n left in
+    let t : State = after_tick s in
+    let before : StandsBesidePeer s p = stands w side s p x in
+    let now : StandsBesidePeer t p = stands (ticks w side) side t p (ticked k w side s p x) in
+    record {
+      packet = data_packet s n there.0;
+      first = record {
+        at = laws.first_again.packet s there.0 ready there.1 may;
+        named = laws.peers.item s n there.0;
+        proper = item_proper_as laws s t p n there.0 before now (laws.grows.tick s before.fits) (laws.hears.tick s).taken there.1
+            (omega arith) (omega (arith, laws.asks.sent s ready may, may));
+      };
+      brings = laws.says.brings s n there.0 ready;
+    }
+
 -- ---- an end asks, and is told
 
 -- after a tick of an end, the first packet of the tick comes to the peer, which replies to the packet
@@ -188,23 +266,13 @@ pub record Asked (w : World) (side : Side) (s p : State) : Type 0 where
 pub asked : Kept → (w : World) (side : Side) (s p : State) → Pair w side s p → s.acknowledged < length s.accepted
     → Asked w side s p
 asked k w side s p x left =
-    let laws : EndLaws = k.laws in
-    let a : Asks s = laws.asks.asks s left in
-    let q : SppPacketModel = a.packet in
+    let a : TickAsks s p = tick_asks k w side s p x left in
     let t : State = after_tick s in
     let v : World = ticks w side in
     let y : Pair v side t p = ticked k w side s p x in
-    let own : IsOwnPacket s t q = all_get (IsOwnPacket s t) (tick_packets s) 0 q (laws.goes_out.tick s) a.first in
-    let before : StandsBesidePeer s p = stands w side s p x in
-    let now : StandsBesidePeer t p = stands v side t p y in
-    let back : StandsBesidePeer p t = stands v (other side) p t (flip v side t p y) in
-    let proper : IsProper (moment t p) t q = own_proper laws s t p q before now (laws.grows.tick s before.fits) (laws.hears.tick s).taken own in
-    let ours : is_ours_at p.ends q ≡ true =
-    laws.peers.ours s.ends p.ends q before.fits.ends back.fits.ends (links w side s p x) (links w (other side) p s (flip w side s p x)) (laws.peers.own s t q own) in
-    let heard = proper_heard laws t p q proper.meant now back (as_proper (moment t p) t q proper) ours in
-    let bytes : List ℕ = spp_packet_spelling q in
-    let reply = (laws.counts p bytes q proper.meant heard).reply a.asks in
-    let new : IsNew v side t p (length w.bag) bytes = record { at = moment t p; is = ticked_packet k w side s p q x a.first; alive = is_alive (moment t p) (length t.taken) (length p.taken) refl refl } in
+    let bytes : List ℕ = spp_packet_spelling a.packet in
+    let new : IsNew v side t p (length w.bag) bytes = tick_new k w side s p a.packet a.meant x a.first in
+    let reply = (k.laws.counts p bytes a.packet a.meant (tick_heard k w side s p a.packet a.meant x a.first)).reply a.asks in
     record {
       bytes = bytes;
       new = new;
@@ -231,35 +299,21 @@ pub record Goes (w : World) (side : Side) (s p : State) : Type 0 where
 pub goes : Kept → (w : World) (side : Side) (s p : State) → Knows w side s p → p.handed ≡ length p.taken
     → length p.taken < length s.accepted → Goes w side s p
 goes k w side s p knows none left =
-    let laws : EndLaws = k.laws in
     let x : Pair w side s p = knows.pair in
     let before : StandsBesidePeer s p = stands w side s p x in
     let here : StandsBesidePeer p s = stands w (other side) p s (flip w side s p x) in
     let n : ℕ = s.acknowledged in
     let next : n ≡ length p.taken = omega (arith, knows.acknowledged, before.acknowledged) in
     let room : length p.taken ≤ window_top p = omega (arith, none, here.fits.ends.window_least, before.fits.bounds.accepted_most, left) in
-    let may : n < send_limit s = omega (arith, next, room, knows.allowed, left) in
-    let there = element s.accepted n (omega (arith, next, left)) in
-    let item : Item = there.0 in
-    let q : SppPacketModel = data_packet s n item in
-    let first : slice_get (tick_packets s) 0 ≡ Some q = laws.first_again.packet s item knows.ready there.1 may in
-    let t : State = after_tick s in
-    let v : World = ticks w side in
-    let y : Pair v side t p = ticked k w side s p x in
-    let now : StandsBesidePeer t p = stands v side t p y in
-    let back : StandsBesidePeer p t = stands v (other side) p t (flip v side t p y) in
-    let out : t.sent ≡ send_limit s = laws.asks.sent s knows.ready may in
-    let proper : IsProperAs (moment t p) t q (own_meant s n) = item_proper_as laws s t p n item before now (laws.grows.tick s before.fits) (laws.hears.tick s).taken there.1 (omega arith) (omega (arith, out, may)) in
-    let ours : is_ours_at p.ends q ≡ true =
-    laws.peers.ours s.ends p.ends q before.fits.ends here.fits.ends (links w side s p x) (links w (other side) p s (flip w side s p x)) (laws.peers.item s n item) in
+    let a : TickSends s p = tick_sends k w side s p x knows.ready (omega (arith, next, room, knows.allowed, left)) (omega (arith, next, left)) in
+    let q : SppPacketModel = a.packet in
     let bytes : List ℕ = spp_packet_spelling q in
-    let heard : IsHeard p bytes q (own_meant s n) = proper_heard laws t p q (own_meant s n) now back proper ours in
-    let new : IsNew v side t p (length w.bag) bytes = record { at = moment t p; is = ticked_packet k w side s p q x first; alive = is_alive (moment t p) (length t.taken) (length p.taken) refl refl } in
+    let new : IsNew (ticks w side) side (after_tick s) p (length w.bag) bytes = tick_new k w side s p q (own_meant s n) x a.first in
     record {
       bytes = bytes;
       new = new;
-      pair = arrived k v side t p (length w.bag) bytes y new;
-      takes = (laws.counts p bytes q (own_meant s n) heard).takes (laws.says.brings s n item knows.ready) next room;
+      pair = arrived k (ticks w side) side (after_tick s) p (length w.bag) bytes (ticked k w side s p x) new;
+      takes = (k.laws.counts p bytes q (own_meant s n) (tick_heard k w side s p q (own_meant s n) x a.first)).takes a.brings next room;
     }
 
 -- ---- one item more is handed up

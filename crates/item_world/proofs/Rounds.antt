@@ -9,13 +9,13 @@ use Rattle.xns_spp.specs.Receiving.{after_receive}
 use Rattle.xns_spp.specs.Header.{reply_control}
 use Rattle.xns_spp.specs.Sending.{system_packet, after_flush, after_tick, tick_answer}
 use Rattle.xns_spp.specs.State.{State}
-use Rattle.item_world.proofs.Finishing.{Both}
+use Rattle.item_world.proofs.Going.{EndGoes, goes_then, Both, Ahead, ahead_itself, ahead_then, fold_ahead, tick_ahead, take_ahead}
 use Rattle.item_world.proofs.Fronts.{front_get}
 use Rattle.item_world.proofs.Kept.{deliveries}
-use Rattle.item_world.proofs.Onward.{Kept, Pair, flip, handing_one, longer}
-use Rattle.item_world.proofs.Rests.{EndGoes, goes_then, Ahead, ahead_itself, ahead_then, fold_ahead, tick_ahead, take_ahead, rested, Visit, visit}
+use Rattle.item_world.proofs.Onward.{Kept, Pair, flip, handing_one, longer, TickAsks, tick_asks}
+use Rattle.item_world.proofs.Rests.{rested, Visit, visit}
 use Rattle.item_world.proofs.Sides.{same_end, same_other, other_other}
-use Rattle.item_world.proofs.Ways.{OnItsWay, way_on, Comes, comes, Replies, replies, TickAsks, tick_asks}
+use Rattle.item_world.proofs.Ways.{OnItsWay, way_on, Comes, comes, Replies, replies, tick_way}
 use Rattle.item_world.specs.Events.{delivers, undelivered, world_after}
 use Rattle.item_world.specs.Progress.{round}
 use Rattle.item_world.specs.Side.{other}
@@ -73,7 +73,7 @@ taken_ahead : Kept → (v : World) → Both v → Ahead 2 v (taken_both v)
 taken_ahead kept v b =
     let first = take_ahead kept v A b in ahead_then 1 1 v (takes v A) (taken_both v) first (take_ahead kept (takes v A) B first.both)
 
-rested_ahead : Kept → (w : World) → Both w → Ahead 0 w (rested (ticked_both w))
+pub rested_ahead : Kept → (w : World) → Both w → Ahead 0 w (rested (ticked_both w))
 rested_ahead kept w b =
     let first = ticked_ahead kept w b in
     let u : World = ticked_both w in ahead_then 0 0 w u (rested u) first (fold_ahead kept u (undelivered 0 u.bag) first.both)
@@ -157,14 +157,15 @@ ask kept w side b left n m is_n is_m =
     let left_here : s.acknowledged < length s.accepted =
     subst (λ (y : State). y.acknowledged < length y.accepted) (sym t.here) left in
     let x : Pair w1 side s p = both_pair w1 side t.ahead.both in
-    let a : TickAsks w1 side s p = tick_asks kept w1 side s p x left_here in
+    let a : TickAsks s p = tick_asks kept w1 side s p x left_here in
+    let out = tick_way kept w1 side s p a.packet a.meant x a.first in
     let k : ℕ = length w1.bag in
     let tick : World = ticks w1 side in
     let here : EndGoes 0 (after_tick s) (end_at w2 side) =
     subst (λ (y : State). EndGoes 0 y (end_at w2 side)) (same_end w1 side (after_tick s) (tick_answer s)) (t.after.ends side) in
     let there : EndGoes 0 p (end_at w2 (other side)) =
     subst (λ (y : State). EndGoes 0 y (end_at w2 (other side))) (same_other w1 side (after_tick s) (tick_answer s)) (t.after.ends (other side)) in
-    let way = way_on tick.bag w2.bag side (after_tick s) (end_at w2 side) p (end_at w2 (other side)) k a.packet a.meant s.handed p.handed 0 here there a.way (t.keeps k (emitted side a.way.at (spp_packet_spelling a.packet)) a.way.is) in
+    let way = way_on tick.bag w2.bag side (after_tick s) (end_at w2 side) p (end_at w2 (other side)) k a.packet a.meant s.handed p.handed 0 here there out (t.keeps k (emitted side out.at (spp_packet_spelling a.packet)) out.is) in
     let both : Both w2 = t.after.both in
     let c : Came w2 side k a.packet a.meant =
     rest_comes kept w2 side (end_at w2 side) (end_at w2 (other side)) k a.packet a.meant s.handed p.handed both (both_pair w2 side both) way

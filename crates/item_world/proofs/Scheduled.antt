@@ -1,6 +1,5 @@
 -- In three rounds an item more is handed up, so some rounds finish.
 use Rattle.std.proofs.Common.{◌≡◌, ℕ, zero, suc, ◌+◌, ◌*◌, ◌<◌, ◌≤◌, Bool, true, false, List, length, nat_lt, refl, sym, ◌∙◌, ap, subst, arith}
-use Rattle.std.specs.Prelude.{All}
 use Rattle.std.proofs.lemmas.Bool.{ltb-true, ltb-false}
 use Rattle.xns_spp.specs.Fronts.{begins_length}
 use Rattle.xns_spp.specs.Meant.{own_meant}
@@ -9,19 +8,18 @@ use Rattle.xns_spp.specs.Receiving.{after_receive}
 use Rattle.xns_spp.specs.Sending.{after_tick, tick_answer}
 use Rattle.xns_spp.specs.State.{State, send_limit}
 use Rattle.xns_spp.specs.declared.item.Item.{Item}
-use Rattle.item_world.proofs.Finishing.{Both, Ongoing, all_done, events_after}
-use Rattle.item_world.proofs.Onward.{Kept, Pair, stands}
-use Rattle.item_world.proofs.Rests.{EndGoes, Ahead, ahead_itself, ahead_then, fold_ahead, tick_ahead, rested}
-use Rattle.item_world.proofs.Rounds.{ticked_both, turn, round_is, both_pair, Ticks, tick_of, turn_ahead, waits_moves, Came, rest_comes, Offer, ask, IsTold, tell}
+use Rattle.item_world.proofs.Finishing.{all_done}
+use Rattle.item_world.proofs.Going.{EndGoes, Both, Ahead, ahead_then, fold_ahead, tick_ahead, GoesOn, goes_on_itself, goes_on_then}
+use Rattle.item_world.proofs.Onward.{Kept, Pair, stands, TickSends, tick_sends}
+use Rattle.item_world.proofs.Rests.{rested}
+use Rattle.item_world.proofs.Rounds.{ticked_both, turn, round_is, both_pair, Ticks, tick_of, turn_ahead, rested_ahead, waits_moves, Came, rest_comes, Offer, ask, IsTold, tell}
 use Rattle.item_world.proofs.Sides.{same_end, same_other}
-use Rattle.item_world.proofs.Ways.{way_on, TickSends, tick_sends_item}
-use Rattle.item_world.specs.Events.{IsEvent, delivers, undelivered, world_after}
-use Rattle.item_world.specs.Invariant.{StandsBesidePeer, Holds}
-use Rattle.item_world.specs.Progress.{Linked, pending, IsDone, rounds, FinishesInRounds}
+use Rattle.item_world.proofs.Ways.{way_on, tick_way}
+use Rattle.item_world.specs.Events.{delivers, undelivered}
+use Rattle.item_world.specs.Invariant.{StandsBesidePeer}
+use Rattle.item_world.specs.Progress.{pending, IsDone, rounds, FinishesInRounds}
 use Rattle.item_world.specs.Side.{other}
-use Rattle.item_world.specs.World.{World, start, end_at, emitted, ticks}
-use Rattle.item_world.specs.declared.event.Event.{Event}
-use Rattle.item_world.specs.declared.setup.Setup.{Setup}
+use Rattle.item_world.specs.World.{World, end_at, emitted, ticks}
 use Rattle.item_world.specs.declared.side.Side.{Side}
 use Rattle.item_world.specs.declared.side.Side.TheVariants.{A, B}
 
@@ -51,15 +49,16 @@ sends_next kept w side n b t told is left none =
     let next : s.acknowledged ≡ n = omega (arith, now.acknowledged, there_now.acknowledged, none) in
     let few = there_now.fits.bounds.accepted_most in
     let may : s.acknowledged < send_limit s = omega (arith, next, now.allowed (omega (arith, left_here, few)), left_here, few) in
-    let a : TickSends w1 side s p = tick_sends_item kept w1 side s p x now.ready may (omega (arith, next, left_here)) in
+    let a : TickSends s p = tick_sends kept w1 side s p x now.ready may (omega (arith, next, left_here)) in
     let k : ℕ = length w1.bag in
     let q : SppPacketModel = a.packet in
+    let out = tick_way kept w1 side s p q (own_meant s s.acknowledged) x a.first in
     let here : EndGoes 0 (after_tick s) (end_at w2 side) =
     subst (λ (y : State). EndGoes 0 y (end_at w2 side)) (same_end w1 side (after_tick s) (tick_answer s)) (t.after.ends side) in
     let there : EndGoes 0 p (end_at w2 (other side)) =
     subst (λ (y : State). EndGoes 0 y (end_at w2 (other side))) (same_other w1 side (after_tick s) (tick_answer s)) (t.after.ends (other side)) in
-    let way = way_on (ticks w1 side).bag w2.bag side (after_tick s) (end_at w2 side) p (end_at w2 (other side)) k q (own_meant s s.acknowledged) s.handed p.handed 0 here there a.way
-    (t.keeps k (emitted side a.way.at (spp_packet_spelling q)) a.way.is) in
+    let way = way_on (ticks w1 side).bag w2.bag side (after_tick s) (end_at w2 side) p (end_at w2 (other side)) k q (own_meant s s.acknowledged) s.handed p.handed 0 here there out
+    (t.keeps k (emitted side out.at (spp_packet_spelling q)) out.is) in
     let both : Both w2 = t.after.both in
     let c : Came w2 side k q (own_meant s s.acknowledged) =
     rest_comes kept w2 side (end_at w2 side) (end_at w2 (other side)) k q (own_meant s s.acknowledged) s.handed p.handed both (both_pair w2 side both) way
@@ -116,45 +115,39 @@ three_after kept w side n true h b told le left =
 three_after kept w side n false h b told le left =
     next_moves kept w side n b told (omega (arith, le, ltb-false n (end_at w (other side)).handed h)) left
 
+two_turns : Kept → (w : World) → Both w → Ahead 4 w (turn (turn w))
+two_turns kept w b =
+    let first = turn_ahead kept w b in
+    ahead_then 2 2 w (turn w) (turn (turn w)) first (turn_ahead kept (turn w) first.both)
+
+-- two rounds after an end asked, it is told what its peer had handed up
+told_in_two : Kept → (w : World) (side : Side) → Both w → (end_at w side).acknowledged < length (end_at w side).accepted
+    → IsTold (end_at (turn (turn w)) side) (end_at w (other side)).handed
+told_in_two kept w side b asks =
+    let first = turn_ahead kept w b in
+    let p : State = end_at w (other side) in
+    let s : State = end_at w side in
+    let f : Offer (turn w) side p.handed s.handed = ask kept w side b asks p.handed s.handed refl refl in
+    tell kept (turn w) side p.handed s.handed first.both f (omega (arith, (first.ends (other side)).handed)) (omega (arith, (first.ends side).handed))
+
 three_by : Kept → (w : World) (side : Side) (b : Bool)
     → nat_lt (end_at w (other side)).handed (length (end_at w (other side)).taken) ≡ b → Both w
     → (end_at w (other side)).handed < length (end_at w side).accepted
     → (end_at w (other side)).handed < (end_at (turn (turn (turn w))) (other side)).handed
 three_by kept w side true h b left =
-    let w1 : World = turn w in
-    let w2 : World = turn w1 in
-    let first = turn_ahead kept w b in
-    let second = turn_ahead kept w1 first.both in
-    let third = turn_ahead kept w2 second.both in
-    let ticked = tick_ahead kept w A b in
-    let both = tick_ahead kept (ticks w A) B ticked.both in
-    let u : World = ticked_both w in
-    let rest = fold_ahead kept u (undelivered 0 u.bag) both.both in
     let p : State = end_at w (other side) in
-    let waits : p.handed < length (end_at (rested u) (other side)).taken =
-    omega (
-      arith,
-      ltb-true p.handed (length p.taken) h,
-      begins_length p.taken (end_at (ticks w A) (other side)).taken (ticked.ends (other side)).grows.taken,
-      begins_length (end_at (ticks w A) (other side)).taken (end_at u (other side)).taken (both.ends (other side)).grows.taken,
-      begins_length (end_at u (other side)).taken (end_at (rested u) (other side)).taken (rest.ends (other side)).grows.taken,
-    ) in
-    omega (arith, waits_moves kept w side b waits, (second.ends (other side)).grows.handed, (third.ends (other side)).grows.handed)
+    let v : World = rested (ticked_both w) in
+    let taken = begins_length p.taken (end_at v (other side)).taken ((rested_ahead kept w b).ends (other side)).grows.taken in
+    let more = two_turns kept (turn w) (turn_ahead kept w b).both in
+    omega (arith, waits_moves kept w side b (omega (arith, ltb-true p.handed (length p.taken) h, taken)), (more.ends (other side)).grows.handed)
 three_by kept w side false h b left =
-    let w1 : World = turn w in
-    let w2 : World = turn w1 in
-    let first = turn_ahead kept w b in
-    let second = turn_ahead kept w1 first.both in
+    let w2 : World = turn (turn w) in
+    let two = two_turns kept w b in
     let p : State = end_at w (other side) in
-    let s : State = end_at w side in
-    let asks : s.acknowledged < length s.accepted =
+    let asks : (end_at w side).acknowledged < length (end_at w side).accepted =
     omega (arith, (b.holds.ends side).acknowledged, ltb-false p.handed (length p.taken) h, left) in
-    let f : Offer w1 side p.handed s.handed = ask kept w side b asks p.handed s.handed refl refl in
-    let told : IsTold (end_at w2 side) p.handed =
-    tell kept w1 side p.handed s.handed first.both f (omega (arith, (first.ends (other side)).handed)) (omega (arith, (first.ends side).handed)) in
-    three_after kept w2 side p.handed (nat_lt p.handed (end_at w2 (other side)).handed) refl second.both told
-    (omega (arith, (first.ends (other side)).grows.handed, (second.ends (other side)).grows.handed))
-    (omega (arith, left, ap (length {A = Item}) (first.ends side).accepted, ap (length {A = Item}) (second.ends side).accepted))
+    three_after kept w2 side p.handed (nat_lt p.handed (end_at w2 (other side)).handed) refl two.both (told_in_two kept w side b asks)
+    (two.ends (other side)).grows.handed (omega (arith, left, ap (length {A = Item}) (two.ends side).accepted))
 
 -- ---- one round after another
 
@@ -167,25 +160,12 @@ unfolding rounds turns
 rounds_are zero w = refl
 rounds_are (suc n) w = ap (rounds n) (round_is w) ∙ rounds_are n (turn w)
 
-record Goes (w v : World) : Type 0 where
-  most : ℕ
-  ahead : Ahead most w v
-
-turns_ahead : Kept → (n : ℕ) (w : World) → Both w → Goes w (turns n w)
+turns_go_on : Kept → (n : ℕ) (w : World) → Both w → GoesOn w (turns n w)
 unfolding turns
-turns_ahead kept zero w b = record { most = 0; ahead = ahead_itself 0 w b }
-turns_ahead kept (suc n) w b =
+turns_go_on kept zero w b = goes_on_itself w b
+turns_go_on kept (suc n) w b =
     let first = turn_ahead kept w b in
-    let more = turns_ahead kept n (turn w) first.both in
-    record { most = 2 + more.most; ahead = ahead_then 2 more.most w (turn w) (turns n (turn w)) first more.ahead }
-
-three_turns : Kept → (w : World) → Both w → Ahead 6 w (turn (turn (turn w)))
-three_turns kept w b =
-    let w1 : World = turn w in
-    let w2 : World = turn w1 in
-    let first = turn_ahead kept w b in
-    let second = turn_ahead kept w1 first.both in
-    ahead_then 4 2 w w2 (turn w2) (ahead_then 2 2 w w1 w2 first second) (turn_ahead kept w2 second.both)
+    goes_on_then 2 w (turn w) (turns n (turn w)) first (turns_go_on kept n (turn w) first.both)
 
 -- a side's items are all handed up, and acknowledged two rounds later
 record Reached (w v : World) (side : Side) : Type 0 where
@@ -199,25 +179,19 @@ unfolding turns
 settle kept zero w side c h b all le = absurd (omega (arith, le))
 settle kept (suc zero) w side c h b all le = absurd (omega (arith, le))
 settle kept (suc (suc n)) w side false h b all le =
-    let g = (turns_ahead kept (suc (suc n)) w b).ahead in
+    let g = (turns_go_on kept (suc (suc n)) w b).ahead in
     let s : State = end_at w side in
     record {
       handed = omega (arith, all, (g.ends (other side)).grows.handed);
       acknowledged = omega (arith, ltb-false s.acknowledged (length s.accepted) h, (g.ends side).grows.acknowledged);
     }
 settle kept (suc (suc n)) w side true h b all le =
-    let w1 : World = turn w in
-    let w2 : World = turn w1 in
-    let first = turn_ahead kept w b in
-    let second = turn_ahead kept w1 first.both in
-    let p : State = end_at w (other side) in
     let s : State = end_at w side in
-    let f : Offer w1 side p.handed s.handed = ask kept w side b (ltb-true s.acknowledged (length s.accepted) h) p.handed s.handed refl refl in
-    let told : IsTold (end_at w2 side) p.handed =
-    tell kept w1 side p.handed s.handed first.both f (omega (arith, (first.ends (other side)).handed)) (omega (arith, (first.ends side).handed)) in
-    let g = (turns_ahead kept n w2 second.both).ahead in
+    let two = two_turns kept w b in
+    let told = told_in_two kept w side b (ltb-true s.acknowledged (length s.accepted) h) in
+    let g = (turns_go_on kept n (turn (turn w)) two.both).ahead in
     record {
-      handed = omega (arith, all, (first.ends (other side)).grows.handed, (second.ends (other side)).grows.handed, (g.ends (other side)).grows.handed);
+      handed = omega (arith, all, (two.ends (other side)).grows.handed, (g.ends (other side)).grows.handed);
       acknowledged = omega (arith, all, told.acknowledged, (g.ends side).grows.acknowledged);
     }
 
@@ -234,7 +208,8 @@ reaches kept (suc d) (suc zero) w side true h b few le = absurd (omega (arith, l
 reaches kept (suc d) (suc (suc zero)) w side true h b few le = absurd (omega (arith, le))
 reaches kept (suc d) (suc (suc (suc n))) w side true h b few le =
     let v : World = turn (turn (turn w)) in
-    let on : Ahead 6 w v = three_turns kept w b in
+    let two = two_turns kept w b in
+    let on : Ahead 6 w v = ahead_then 4 2 w (turn (turn w)) v two (turn_ahead kept (turn (turn w)) two.both) in
     let left = ltb-true (end_at w (other side)).handed (length (end_at w side).accepted) h in
     let more = three_by kept w side (nat_lt (end_at w (other side)).handed (length (end_at w (other side)).taken)) refl b left in
     let same : length (end_at v side).accepted ≡ length (end_at w side).accepted = ap (length {A = Item}) (on.ends side).accepted in
@@ -249,19 +224,9 @@ enough w n B h = omega (arith, h)
 in_turns : Kept → (w : World) (n : ℕ) → Both w → 3 * (pending w A + pending w B + 1) ≤ n → IsDone w (turns n w)
 in_turns kept w n b le =
     let v : World = turns n w in
-    let g = (turns_ahead kept n w b).ahead in
     let r : (side : Side) → Reached w v side = λ side.
     reaches kept (pending w side) n w side (nat_lt (end_at w (other side)).handed (length (end_at w side).accepted)) refl b (omega (arith)) (enough w n side le) in
-    let works : Ongoing w v = λ side. let e = g.ends side in record { accepted = e.accepted; handed = e.grows.handed; acknowledged = e.grows.acknowledged } in
-    all_done kept w v g.both works (λ side. (r side).handed) (λ side. (r side).acknowledged)
+    all_done kept w v (turns_go_on kept n w b) (λ side. (r side).handed) (λ side. (r side).acknowledged)
 
-pub finishes_in_rounds : Kept → (w : World) → Holds w → Linked w → FinishesInRounds w
-finishes_in_rounds kept w holds linked n le = subst (IsDone w) (sym (rounds_are n w)) (in_turns kept w n (record { holds = holds; linked = linked }) le)
-
--- whatever was before
-pub always_in_rounds : Kept → (setup : Setup) (events : List Event) → Holds (start setup) → Linked (start setup)
-    → All IsEvent events
-    → FinishesInRounds (world_after (start setup) events)
-always_in_rounds kept setup events h l fits =
-    let b : Both (world_after (start setup) events) = events_after kept (start setup) events fits (record { holds = h; linked = l }) in
-    finishes_in_rounds kept (world_after (start setup) events) b.holds b.linked
+pub finishes_in_rounds : Kept → (w : World) → Both w → FinishesInRounds w
+finishes_in_rounds kept w b n le = subst (IsDone w) (sym (rounds_are n w)) (in_turns kept w n b le)

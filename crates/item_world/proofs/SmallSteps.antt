@@ -4,17 +4,16 @@ use Rattle.std.specs.Prelude.{All}
 use Rattle.std.proofs.lemmas.List.Elements.{All-nil, All-append, All-head, All-tail, All-cons}
 use Rattle.std.proofs.lemmas.List.Sums.{fold-append}
 use Rattle.item_world.proofs.Onward.{Kept}
-use Rattle.item_world.specs.Events.{SmallStep, IsStep, arrival, taking, flushing, ticking, stepped, all_stepped, steps_of, happens, world_after, arrival_steps}
-use Rattle.item_world.specs.Invariant.{Holds}
+use Rattle.item_world.specs.Events.{SmallStep, arrival, taking, flushing, ticking, stepped, all_stepped, steps_of, happens, world_after, arrival_steps}
 use Rattle.item_world.specs.Landing.{landing}
-use Rattle.item_world.specs.Progress.{IsPlainStep, IsDone, pending, Finishes, Linked, IsFurther, FinishesByEvents}
-use Rattle.item_world.specs.World.{World, start}
-use Rattle.item_world.specs.declared.setup.Setup.{Setup}
+use Rattle.item_world.specs.Progress.{IsPlainStep, IsDone, pending, Finishes, IsFurther, FinishesByEvents}
+use Rattle.item_world.specs.World.{World}
 use Rattle.item_world.specs.declared.side.Side.{Side}
 use Rattle.item_world.specs.declared.side.Side.TheVariants.{A, B}
 use Rattle.item_world.specs.declared.event.Event.{Event}
 use Rattle.item_world.specs.declared.event.Event.TheVariants.{Deliver, Rest, Tick, Foreign, Send, Take}
-use Rattle.item_world.proofs.Finishing.{Both, both_after, finishes_by}
+use Rattle.item_world.proofs.Finishing.{finishes_by}
+use Rattle.item_world.proofs.Going.{Both}
 
 -- the small steps of events, each in the world that those before lead to
 steps_along : World → List Event → List SmallStep
@@ -77,12 +76,5 @@ by_events_finishes w f =
       done = subst (IsDone w) (sym (along_run w f.more)) f.done;
     }
 
-pub finishes : Kept → (w : World) → Holds w → Linked w → Finishes w
-finishes k w h l = by_events_finishes w (finishes_by k w h l)
-
-pub always_finishes : Kept → (setup : Setup) (steps : List SmallStep) → Holds (start setup) → Linked (start setup)
-    → All IsStep steps
-    → Finishes (all_stepped (start setup) steps)
-always_finishes k setup steps h l fits =
-    let b : Both (all_stepped (start setup) steps) = both_after k (start setup) steps fits (record { holds = h; linked = l }) in
-    finishes k (all_stepped (start setup) steps) b.holds b.linked
+pub finishes : Kept → (w : World) → Both w → Finishes w
+finishes k w b = by_events_finishes w (finishes_by k w b)

@@ -2,26 +2,24 @@
 use Rattle.std.proofs.Common.{◌≡◌, ℕ, ◌+◌, ◌-◌, ◌<◌, ◌≤◌, Bool, true, false, List, [], length, nat_lt, Some, refl, sym, ◌∙◌, ap, arith, append-nil, lit<}
 use Rattle.std.specs.Prelude.{slice_get, ◌||◌}
 use Rattle.std.proofs.lemmas.Bool.{le-ltb}
-use Rattle.xns_spp.specs.Ends.{IsEnds, is_open}
+use Rattle.xns_spp.specs.Ends.{IsEnds}
 use Rattle.xns_spp.specs.Fronts.{begins_length}
-use Rattle.xns_spp.specs.Growth.{IsOwnPacket}
-use Rattle.xns_spp.specs.Header.{wants_reply, brings_item, reply_control}
+use Rattle.xns_spp.specs.Header.{wants_reply, reply_control}
 use Rattle.xns_spp.specs.Meant.{Meant, own_meant}
 use Rattle.xns_spp.specs.Numbers.{most_items}
 use Rattle.xns_spp.specs.Packet.{SppPacketModel, spp_packet_spelling, spp_packet_of}
-use Rattle.xns_spp.specs.Peers.{IsLinked, IsNamed, IsHeard, Counts, Asks}
+use Rattle.xns_spp.specs.Peers.{IsLinked, IsNamed, IsHeard, Counts}
 use Rattle.xns_spp.specs.Receiving.{after_receive}
-use Rattle.xns_spp.specs.Sending.{data_packet, system_packet, tick_packets, after_flush, after_tick}
-use Rattle.xns_spp.specs.State.{State, window_top, send_limit}
+use Rattle.xns_spp.specs.Sending.{system_packet, after_flush, after_tick}
+use Rattle.xns_spp.specs.State.{State, window_top}
 use Rattle.xns_spp.specs.declared.ends.Ends.{Ends}
 use Rattle.xns_spp.specs.declared.item.Item.{Item}
 use Rattle.item_world.proofs.Arrivals.{read_as_meant}
 use Rattle.item_world.proofs.Deliveries.{delivers_now, delivered, still_there}
-use Rattle.item_world.proofs.Fronts.{element, all_get}
-use Rattle.item_world.proofs.Linking.{SameNames, peer_on}
-use Rattle.item_world.proofs.Moves.{IsProper, IsProperAs, as_proper, stays_sound, system_proper_as, item_proper_as, own_proper}
-use Rattle.item_world.proofs.Onward.{Kept, Pair, flip, stands, links, IsNew, ticked, ticked_packet, arrived, replied}
-use Rattle.item_world.proofs.Rests.{EndGoes, same_names, names_then, names_back, flush_goes}
+use Rattle.item_world.proofs.Linking.{SameNames, peer_on, same_names, names_then, names_back}
+use Rattle.item_world.proofs.Moves.{IsProperAs, stays_sound, system_proper_as}
+use Rattle.item_world.proofs.Onward.{Kept, Pair, flip, stands, links, IsNew, arrived, replied, IsFirst, ticked_packet}
+use Rattle.item_world.proofs.Going.{EndGoes, flush_goes}
 use Rattle.item_world.specs.EndLaws.{EndLaws}
 use Rattle.item_world.specs.Events.{arrival, stepped, delivers}
 use Rattle.item_world.specs.Invariant.{IsSoundSpelling, StandsBesidePeer}
@@ -155,76 +153,23 @@ replies kept w side s p k q m x c asks =
 
 -- ---- the first packet of a tick
 
-pub record TickAsks (w : World) (side : Side) (s p : State) : Type 0 where
-  pub packet : SppPacketModel
-  pub meant : Meant
-  pub asks : wants_reply packet.header ≡ true
-  pub way : OnItsWay (ticks w side).bag side (after_tick s) p (length w.bag) packet meant s.handed p.handed
-
-tick_way : Kept → (w : World) (side : Side) (s p : State) (q : SppPacketModel) (m : Meant) → Pair w side s p
-    → slice_get (tick_packets s) 0 ≡ Some q
-    → IsNamed s.ends q → IsProperAs (moment (after_tick s) p) (after_tick s) q m
+pub tick_way : Kept → (w : World) (side : Side) (s p : State) (q : SppPacketModel) (m : Meant) → Pair w side s p → IsFirst s p q m
     → OnItsWay (ticks w side).bag side (after_tick s) p (length w.bag) q m s.handed p.handed
-tick_way k w side s p q m x first named proper =
+tick_way k w side s p q m x first =
     let laws : EndLaws = k.laws in
     let before : StandsBesidePeer s p = stands w side s p x in
     let back : StandsBesidePeer p s = stands w (other side) p s (flip w side s p x) in
     record {
       at = moment (after_tick s) p;
-      is = ticked_packet k w side s p q x first;
-      proper = proper;
+      is = ticked_packet k w side s p q x first.at;
+      proper = first.proper;
       from = s.ends;
       fits = before.fits.ends;
-      named = named;
+      named = first.named;
       same = same_names s.ends (after_tick s).ends (ap (λ (t : State). t.ends) (laws.alone.tick s));
       links = links w side s p x;
       sender_least = omega (arith, before.fits.bounds.handed_taken, ap (length {A = Item}) (laws.hears.tick s).taken);
       sender = omega arith;
       receiver_least = back.fits.bounds.handed_taken;
       receiver = omega arith;
-    }
-
-pub tick_asks : Kept → (w : World) (side : Side) (s p : State) → Pair w side s p → s.acknowledged < length s.accepted
-    → TickAsks w side s p
-tick_asks k w side s p x left =
-    let laws : EndLaws = k.laws in
-    let a : Asks s = laws.asks.asks s left in
-    let q : SppPacketModel = a.packet in
-    let t : State = after_tick s in
-    let y : Pair (ticks w side) side t p = ticked k w side s p x in
-    let own : IsOwnPacket s t q = all_get (IsOwnPacket s t) (tick_packets s) 0 q (laws.goes_out.tick s) a.first in
-    let before : StandsBesidePeer s p = stands w side s p x in
-    let proper : IsProper (moment t p) t q =
-    own_proper laws s t p q before (stands (ticks w side) side t p y) (laws.grows.tick s before.fits) (laws.hears.tick s).taken own in
-    record {
-      packet = q;
-      meant = proper.meant;
-      asks = a.asks;
-      way = tick_way k w side s p q proper.meant x a.first (laws.peers.own s t q own) (as_proper (moment t p) t q proper);
-    }
-
-pub record TickSends (w : World) (side : Side) (s p : State) : Type 0 where
-  pub packet : SppPacketModel
-  pub brings : brings_item packet.header ≡ true
-  pub way : OnItsWay (ticks w side).bag side (after_tick s) p (length w.bag) packet (own_meant s s.acknowledged) s.handed p.handed
-
--- an open end sends the first item that is not acknowledged, where it may go out
-pub tick_sends_item : Kept → (w : World) (side : Side) (s p : State) → Pair w side s p → is_open s.ends ≡ true
-    → s.acknowledged < send_limit s
-    → s.acknowledged < length s.accepted → TickSends w side s p
-tick_sends_item k w side s p x ready may left =
-    let laws : EndLaws = k.laws in
-    let n : ℕ = s.acknowledged in
-    let there = element s.accepted n left in
-    let q : SppPacketModel = data_packet s n there.0 in
-    let t : State = after_tick s in
-    let y : Pair (ticks w side) side t p = ticked k w side s p x in
-    let before : StandsBesidePeer s p = stands w side s p x in
-    let proper : IsProperAs (moment t p) t q (own_meant s n) =
-    item_proper_as laws s t p n there.0 before (stands (ticks w side) side t p y) (laws.grows.tick s before.fits) (laws.hears.tick s).taken there.1
-    (omega arith) (omega (arith, laws.asks.sent s ready may, may)) in
-    record {
-      packet = q;
-      brings = laws.says.brings s n there.0 ready;
-      way = tick_way k w side s p q (own_meant s n) x (laws.first_again.packet s there.0 ready there.1 may) (laws.peers.item s n there.0) proper;
     }

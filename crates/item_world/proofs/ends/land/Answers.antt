@@ -1,6 +1,7 @@
 use Rattle.std.proofs.Common.{◌≡◌, ℕ, ◌+◌, List, Option, Some, None, Result, Ok, Err, inr, length, refl, sym, ◌∙◌, ap, subst}
 use Rattle.std.proofs.lemmas.Result.{on_err_weaker}
-use Rattle.std.specs.Prelude.{slice_get, IsSome, OnOk, OnErr}
+use Rattle.std.specs.Prelude.{slice_get, IsSome, OnOk}
+use Rattle.xns_spp.proofs.Steps.{on_err}
 use Rattle.xns_spp.specs.Held.{StandsFor}
 use Rattle.xns_spp.specs.Receiving.{NeedsMemory, receive_answer, after_receive}
 use Rattle.xns_spp.specs.declared.received.Received.{Received}
@@ -40,12 +41,8 @@ returns-clause-stands c =
     let l = lands_as w c.args.number c.args.side v e in
     subst (λ (u : World). IsEnd c.receive.new.self c.deliver.new.self u c.args.side) (sym (comes_as w c.args.number c.args.side l.packet) ∙ l.world) (comes laws w l.packet h l.is))
 
-err_always : {T E P : Type 0} (r : Result T E) → P → OnErr r P
-err_always (Ok x) p = tt
-err_always (Err e) p = p
-
 pub returns-in_err-received-clause-memory : goal.returns-in_err-received-clause-memory
-returns-in_err-received-clause-memory c = err_always c.from_residual.result (λ s x h is. subst (NeedsMemory s) (c.bytes.ensures x is) (c.in_err-received.ensures.memory s h))
+returns-in_err-received-clause-memory c = on_err c.from_residual.result _ (λ s x h is. subst (NeedsMemory s) (c.bytes.ensures x is) (c.in_err-received.ensures.memory s h))
 
 some_reply : (o : Option (List ℕ)) → IsSome o → (reply : List ℕ) × (o ≡ Some reply)
 some_reply (Some reply) is = (reply, refl)
