@@ -6,6 +6,7 @@ pub mod Kept
 pub mod Later
 pub mod Networks
 pub mod Quiet
+pub mod GoingOut
 pub mod Channels
 pub mod Plays
 pub mod Onward

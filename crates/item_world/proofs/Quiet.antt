@@ -108,6 +108,10 @@ pub ok_then : {T E : Type 0} {P Q : Type 0} (r : Result T E) → OnOk r P → (P
 ok_then (Ok x) h f = f h
 ok_then (Err e) h f = h
 
+pub ok_always : {T E P : Type 0} (r : Result T E) → P → OnOk r P
+ok_always (Ok x) p = p
+ok_always (Err e) p = tt
+
 -- w goes on as v, and no item is accepted or handed up
 abbrev Quiet : World → World → Type 0
 Quiet w v = IsQuiet (channel_of w) (channel_of v)

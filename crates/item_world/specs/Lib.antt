@@ -10,6 +10,7 @@ pub mod Trace
 pub mod Invariant
 pub mod NetworkModel
 pub mod Network
+pub mod GoingOut
 pub mod Play
 pub mod Laws
 pub mod UserSteps

@@ -3,16 +3,17 @@
 //! The only error is want of memory, where something is to be sent or kept. The network is then as it was. The endpoint is as it was too,
 //! or it went on, and the packets that it sent are lost.
 
-ghost use Rattle.std.specs.Prelude.{◌≡◌, ◌<◌, ◌⊎◌, ℕ, length, slice_get, OnOk, OnErr, Some};
+ghost use Rattle.std.specs.Prelude.{◌≡◌, ◌<◌, ◌⊎◌, length, slice_get, OnOk, OnErr, Some};
 ghost use Rattle.xns_spp.specs.Held.{StandsFor};
 ghost use Rattle.xns_spp.specs.Receiving.{NeedsMemory, after_receive};
 ghost use Rattle.xns_spp.specs.Sending.{flush_answer, after_flush, tick_answer, after_tick};
 ghost use Rattle.xns_spp.specs.State.{State};
 ghost use Rattle.item_world.specs.declared.emitted.Emitted.{Emitted};
 ghost use Rattle.item_world.specs.EndLaws.{EndLaws};
+ghost use Rattle.item_world.specs.GoingOut.{GoesOut};
 ghost use Rattle.item_world.specs.Landing.{landing};
 ghost use Rattle.item_world.specs.Network.{IsEnd};
-ghost use Rattle.item_world.specs.World.{World, flushes, ticks, marked_delivered, receives};
+ghost use Rattle.item_world.specs.World.{World, marked_delivered, receives};
 
 use crate::network::Network;
 use crate::side::Side;
@@ -26,13 +27,7 @@ pub fn flush_end(
     endpoint: &mut Endpoint,
     network: &mut Network,
 ) -> Result<(), AllocError>
-    ensures stands { OnOk result (EndLaws → (w : World) → IsEnd endpoint.old network.old w side
-        → IsEnd endpoint.new network.new (flushes w side) side) }
-    ensures endpoint { OnOk result ((s : State) → StandsFor endpoint.old s → StandsFor endpoint.new (after_flush s)) }
-    ensures unchanged { OnErr result (network.new ≡ network.old) }
-    ensures refused { OnErr result ((s : State) → StandsFor endpoint.old s
-        → StandsFor endpoint.new s ⊎ StandsFor endpoint.new (after_flush s)) }
-    ensures memory { OnErr result ((s : State) → StandsFor endpoint.old s → 0 < length (flush_answer s)) }
+    ensures { GoesOut after_flush flush_answer side result endpoint.old endpoint.new network.old network.new }
 {
     let packets = endpoint.flush(alloc)?;
     network.emit(side, packets)
@@ -45,13 +40,7 @@ pub fn tick_end(
     endpoint: &mut Endpoint,
     network: &mut Network,
 ) -> Result<(), AllocError>
-    ensures stands { OnOk result (EndLaws → (w : World) → IsEnd endpoint.old network.old w side
-        → IsEnd endpoint.new network.new (ticks w side) side) }
-    ensures endpoint { OnOk result ((s : State) → StandsFor endpoint.old s → StandsFor endpoint.new (after_tick s)) }
-    ensures unchanged { OnErr result (network.new ≡ network.old) }
-    ensures refused { OnErr result ((s : State) → StandsFor endpoint.old s
-        → StandsFor endpoint.new s ⊎ StandsFor endpoint.new (after_tick s)) }
-    ensures memory { OnErr result ((s : State) → StandsFor endpoint.old s → 0 < length (tick_answer s)) }
+    ensures { GoesOut after_tick tick_answer side result endpoint.old endpoint.new network.old network.new }
 {
     let packets = endpoint.tick(alloc)?;
     network.emit(side, packets)

@@ -1,11 +1,11 @@
-use Rattle.std.proofs.Common.{◌≡◌, ℕ, ◌+◌, List, Option, Some, None, Result, Ok, Err, inr, length, refl, sym, ◌∙◌, ap, subst}
+use Rattle.std.proofs.Common.{◌≡◌, ℕ, ◌+◌, List, Option, Some, None, inr, length, refl, sym, ◌∙◌, ap, subst}
 use Rattle.std.proofs.lemmas.Result.{on_err_weaker}
-use Rattle.std.specs.Prelude.{slice_get, IsSome, OnOk}
+use Rattle.std.specs.Prelude.{slice_get, IsSome}
 use Rattle.xns_spp.proofs.Steps.{on_err}
 use Rattle.xns_spp.specs.Held.{StandsFor}
 use Rattle.xns_spp.specs.Receiving.{NeedsMemory, receive_answer, after_receive}
 use Rattle.xns_spp.specs.declared.received.Received.{Received}
-use Rattle.item_world.proofs.Quiet.{ok_then, receive_took}
+use Rattle.item_world.proofs.Quiet.{ok_then, ok_always, receive_took}
 use Rattle.item_world.proofs.Networks.{end_reached_by}
 use Rattle.item_world.proofs.Sides.{lands_as, comes_as}
 use Rattle.item_world.proofs.ends.land.Goals as goal
@@ -13,13 +13,9 @@ use Rattle.item_world.specs.Network.{IsEnd}
 use Rattle.item_world.specs.World.{World, end_at}
 use Rattle.item_world.specs.declared.emitted.Emitted.{Emitted}
 
-always : {T E P : Type 0} (r : Result T E) → P → OnOk r P
-always (Ok x) p = p
-always (Err e) p = tt
-
 pub returns-clause-endpoint : goal.returns-clause-endpoint
 returns-clause-endpoint c =
-    always c.deliver.result (λ s x h is. subst (λ (b : List ℕ). StandsFor c.receive.new.self (after_receive s b)) (c.bytes.ensures x is) (c.in_ok-received.ensures.stands s h))
+    ok_always c.deliver.result (λ s x h is. subst (λ (b : List ℕ). StandsFor c.receive.new.self (after_receive s b)) (c.bytes.ensures x is) (c.in_ok-received.ensures.stands s h))
 
 pub returns-clause-network : goal.returns-clause-network
 returns-clause-network c =
