@@ -208,7 +208,7 @@ asks_both k w v m n h l to_b to_a is_m is_n =
     learns_all k w c.then B (0 + 6 * m + 6 * n + 3) h c.leads (le_trans to_a (c.since.ahead.ends A).grows.handed) in
     record {
       more = d.leads.steps;
-      further = d.leads.plain;
+      plain = d.leads.plain;
       few = subst (λ (j : ℕ). length d.leads.steps ≤ 6 * (pending w A + j + 1)) is_n
           (subst (λ (i : ℕ). length d.leads.steps ≤ 6 * (i + n + 1)) is_m (few_enough m n (length d.leads.steps) d.leads.few));
       done = subst (IsDone w) (sym d.leads.is) (last_done k w v m n h l to_b to_a c d);

@@ -68,7 +68,7 @@ twelve_each c d n h i = omega arith
 
 by_events_finishes : (w : World) → FinishesByEvents w → Finishes w
 by_events_finishes w f =
-    let steps = along_plain (length w.bag) w f.more f.further in
+    let steps = along_plain (length w.bag) w f.more f.plain in
     record {
       more = steps_along w f.more;
       plain = steps.plain;

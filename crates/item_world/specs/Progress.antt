@@ -36,13 +36,17 @@ pub record IsDone (w v : World) : Type 0 where
 abbrev pub pending : World → Side → ℕ
 pending w side = length (sent_at w side) - (end_at w (other side)).handed
 
--- plain steps after which all is done, without any packet that was sent before: at most twelve for each item that is
--- pending, and twelve more
-pub record Finishes (w : World) : Type 0 where
-  pub more : List SmallStep
-  pub plain : All (IsPlainStep (length w.bag)) more
-  pub few : length more ≤ 12 * (pending w A + pending w B + 1)
-  pub done : IsDone w (all_stepped w more)
+-- steps or events of a plain kind after which all is done, without any packet that was sent before: at most so many for
+-- each item that is pending, and as many more
+pub record FinishesBy {X : Type 0} (IsPlain : ℕ → X → Type 0) (after : World → List X → World) (each : ℕ) (w : World) : Type 0 where
+  pub more : List X
+  pub plain : All (IsPlain (length w.bag)) more
+  pub few : length more ≤ each * (pending w A + pending w B + 1)
+  pub done : IsDone w (after w more)
+
+-- plain steps, at most twelve for each item
+abbrev pub Finishes : World → Type 0
+Finishes = FinishesBy IsPlainStep all_stepped 12
 
 -- an end ticks, flushes, or receives one of the packets that are sent from number n on
 abbrev pub IsWire : ℕ → SmallStep → Type 0
@@ -65,13 +69,9 @@ IsFurther n (Tick side) = Unit {0}
 IsFurther n (Take side) = Unit {0}
 IsFurther n _ = ⊥
 
--- events of a play after which all is done, without any packet that was sent before: at most six for each item that is
--- pending, and six more
-pub record FinishesByEvents (w : World) : Type 0 where
-  pub more : List Event
-  pub further : All (IsFurther (length w.bag)) more
-  pub few : length more ≤ 6 * (pending w A + pending w B + 1)
-  pub done : IsDone w (world_after w more)
+-- plain events of a play, at most six for each item
+abbrev pub FinishesByEvents : World → Type 0
+FinishesByEvents = FinishesBy IsFurther world_after 6
 
 -- ---- a fixed schedule, by which all is handed up
 
