@@ -1,12 +1,12 @@
 -- What the end of a connection says of the connection: its identifier, who opened it, and which packets are of it.
 use Rattle.std.proofs.Common.{◌≡◌, ◌∙◌, ap, refl, subst, sym, ℕ, Bool, true, false, List, Option, Some, arith}
-use Rattle.std.specs.Prelude.{◌&&◌, ◌||◌, ◌==◌, if◌then◌else◌}
+use Rattle.std.specs.Prelude.{◌||◌, ◌==◌, if◌then◌else◌}
 use Rattle.std.specs.BTreeMap.{get}
 use Rattle.std.specs.Cmp.Lexicographic.{bytes_decides}
 use Rattle.std.specs.Str.{bytes_eq}
 use Rattle.std.proofs.Math.Logic.{∥∥₁_elim}
 use Rattle.std.proofs.Props.{props}
-use Rattle.std.proofs.lemmas.Bool.{eqb-true}
+use Rattle.std.proofs.lemmas.Bool.{and_parts, eqb-true}
 use Rattle.xns_idp.specs.Packet.{same_place}
 use Rattle.xns_idp.specs.declared.address.Address.{Address}
 use Rattle.xns_spp.specs.Ends.{from_host, from_peer, is_meant, is_open, is_ours_at, to_responder}
@@ -101,11 +101,6 @@ still_story g h same e = has_story h e.story (subst (λ (t : Conversation). Tell
 end_of : (g : Guest) (s : State) → (has : HasStory g) → StandsFor g.connection.conversation.endpoint s → s.ends ≡ has.story.state.ends
 end_of g s has stands = ap (λ (e : Held). e.ends) (sym stands.holds ∙ has.tells.stands.holds)
 
-and_both : (p q : Bool) → (p && q) ≡ true → (p ≡ true) × (q ≡ true)
-and_both true true is = (refl, refl)
-and_both true false is = absurd (cc)
-and_both false q is = absurd (cc)
-
 or_first : (p q : Bool) → (p || q) ≡ true → q ≡ false → p ≡ true
 or_first true q is none = refl
 or_first false q is none = absurd (cc)
@@ -114,9 +109,9 @@ or_first false q is none = absurd (cc)
 from_opener : (e : Ends) (p : SppPacketModel) → same_place p.target e.own ≡ true → from_peer e p ≡ true
     → peer_at p.source p.header.source_id p.target.socket ≡ opener_at e
 from_opener e p target from =
-    let to = and_both (bytes_eq p.target.host e.own.host) (p.target.socket == e.own.socket) target in
-    let of = and_both (same_place p.source e.peer) (p.header.source_id == e.peer_id) from in
-    let place = and_both (bytes_eq p.source.host e.peer.host) (p.source.socket == e.peer.socket) of.0 in
+    let to = and_parts (bytes_eq p.target.host e.own.host) (p.target.socket == e.own.socket) target in
+    let of = and_parts (same_place p.source e.peer) (p.header.source_id == e.peer_id) from in
+    let place = and_parts (bytes_eq p.source.host e.peer.host) (p.source.socket == e.peer.socket) of.0 in
     λ i. record {
       host = (bytes_decides p.source.host e.peer.host).0 place.0 i;
       socket = eqb-true p.source.socket e.peer.socket place.1 i;
@@ -133,19 +128,19 @@ meant_by : (r : Register) (n : ℕ) (g : Guest) (e : Ends) (p : SppPacketModel) 
     → same_place p.target e.own ≡ true → is_meant role e p ≡ true
     → (if b then get peer_cmp r.peers (peer_at p.source p.header.source_id p.target.socket) else owner_in r.identifiers p.header.target_id) ≡ Some n
 meant_by r n g e p Responder true role zero is id opener target meant =
-    let from = and_both (to_responder e.id p) (from_peer e p) meant in
+    let from = and_parts (to_responder e.id p) (from_peer e p) meant in
     ap (λ (o : Peer). get peer_cmp r.peers o) (from_opener e p target from.1) ∙ is.opener (opener_at e) (opener role)
 meant_by r n g e p Responder false role zero is id opener target meant =
-    let to = and_both (to_responder e.id p) (from_peer e p) meant in
+    let to = and_parts (to_responder e.id p) (from_peer e p) meant in
     by_owner r n g e p.header.target_id is id (or_first (p.header.target_id == e.id) (p.header.target_id == 0) to.0 zero)
 meant_by r n g e p Initiator true role zero is id opener target meant =
-    let to = and_both (p.header.target_id == e.id) (if is_open e then from_peer e p else from_host e p) meant in
+    let to = and_parts (p.header.target_id == e.id) (if is_open e then from_peer e p else from_host e p) meant in
     let none : p.header.target_id ≡ 0 = eqb-true p.header.target_id 0 zero in
     let same : p.header.target_id ≡ id_of g = eqb-true p.header.target_id e.id to.0 ∙ id in
     let known = is.known in
     absurd (omega (arith, none, same, known))
 meant_by r n g e p Initiator false role zero is id opener target meant =
-    let to = and_both (p.header.target_id == e.id) (if is_open e then from_peer e p else from_host e p) meant in
+    let to = and_parts (p.header.target_id == e.id) (if is_open e then from_peer e p else from_host e p) meant in
     by_owner r n g e p.header.target_id is id to.0
 
 leads_by : (r : Register) (n : ℕ) (g : Guest) (s : State) (p : SppPacketModel) → IsRegistered r n g → HasStory g
@@ -153,7 +148,7 @@ leads_by : (r : Register) (n : ℕ) (g : Guest) (s : State) (p : SppPacketModel)
     → number_by r.identifiers r.peers p.header.target_id (peer_at p.source p.header.source_id p.target.socket) ≡ Some n
 leads_by r n g s p is has stands ours =
     let same = end_of g s has stands in
-    let both = and_both (same_place p.target s.ends.own) (is_meant s.ends.role s.ends p) ours in
+    let both = and_parts (same_place p.target s.ends.own) (is_meant s.ends.role s.ends p) ours in
     meant_by r n g s.ends p s.ends.role (p.header.target_id == 0) refl refl is (end_id g s stands)
     (λ responds. has.opener (sym (ap (λ (e : Ends). e.role) same) ∙ responds) ∙ ap (λ (e : Ends). Some (opener_at e)) (sym same)) both.0 both.1
 

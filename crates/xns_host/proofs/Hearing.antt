@@ -1,9 +1,9 @@
 -- What became of connections by a packet.
 use Rattle.std.proofs.Common.{◌≡◌, ◌≢◌, ◌∙◌, ap, refl, subst, sym, ℕ, ◌<◌, Bool, true, false, List, length, Option, Some, Result, Ok, Err, slice_get, get_or}
-use Rattle.std.specs.Prelude.{None, option_map, not, ◌&&◌, ◌||◌, ◌==◌, if◌then◌else◌}
+use Rattle.std.specs.Prelude.{None, option_map, not, ◌&&◌, ◌==◌, if◌then◌else◌}
 use Rattle.std.specs.Cmp.Lexicographic.{bytes_decides}
 use Rattle.std.specs.Str.{bytes_eq}
-use Rattle.std.proofs.lemmas.Bool.{and_parts, eq-eqb, eqb-true}
+use Rattle.std.proofs.lemmas.Bool.{and_from, and_parts, or_right, eq-eqb, eqb-true}
 use Rattle.std.proofs.lemmas.Option.{slice_get_read}
 use Rattle.courier_sessions.specs.declared.program.Program.{Program}
 use Rattle.xns_idp.specs.Packet.{PacketModel, same_place}
@@ -37,18 +37,9 @@ there_in P a n old less read one =
 
 -- ---- the packet that opens a connection
 
-and_true : (p q : Bool) → p ≡ true → q ≡ true → (p && q) ≡ true
-and_true true true left right = refl
-and_true true false left right = absurd (cc)
-and_true false q left right = absurd (cc)
-
-or_true : (p q : Bool) → q ≡ true → (p || q) ≡ true
-or_true true q is = refl
-or_true false q is = is
-
 one_place : (a b : Address) → a.host ≡ b.host → a.socket ≡ b.socket → same_place a b ≡ true
 one_place a b host socket =
-    and_true (bytes_eq a.host b.host) (a.socket == b.socket) ((bytes_decides a.host b.host).1 host) (eq-eqb a.socket b.socket socket)
+    and_from (bytes_eq a.host b.host) (a.socket == b.socket) ((bytes_decides a.host b.host).1 host) (eq-eqb a.socket b.socket socket)
 
 opened_by : (b : Bool) (x y : Address × ℕ) → (if b then Some x else None) ≡ Some y → (b ≡ true) × (x ≡ y)
 opened_by true x y is = let same : x ≡ y = cc in (refl, same)
@@ -64,12 +55,12 @@ of_opened network host p opener opener_id id window backlog here opens =
     let source_id : p.header.source_id ≡ opener_id = ap (λ (x : Address × ℕ). x.1) by.1 in
     let unnamed : (p.header.target_id == 0) ≡ true = (and_parts (p.header.target_id == 0) (not (p.header.source_id == 0)) by.0).0 in
     let from : is_from opener opener_id p ≡ true
-    = and_true (same_place p.source opener) (p.header.source_id == opener_id)
+    = and_from (same_place p.source opener) (p.header.source_id == opener_id)
     (one_place p.source opener (ap (λ (a : Address). a.host) source) (ap (λ (a : Address). a.socket) source))
     (eq-eqb p.header.source_id opener_id source_id) in
-    and_true (same_place p.target (address_in network host p.target.socket)) (to_responder id p && is_from opener opener_id p)
+    and_from (same_place p.target (address_in network host p.target.socket)) (to_responder id p && is_from opener opener_id p)
     (one_place p.target (address_in network host p.target.socket) here refl)
-    (and_true (to_responder id p) (is_from opener opener_id p) (or_true (p.header.target_id == id) (p.header.target_id == 0) unnamed) from)
+    (and_from (to_responder id p) (is_from opener opener_id p) (or_right (p.header.target_id == id) (p.header.target_id == 0) unnamed) from)
 
 -- ---- what was read
 

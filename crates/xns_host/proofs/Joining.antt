@@ -25,7 +25,7 @@ Places = List (Option Guest)
 -- ---- an identifier is taken
 
 -- nobody had it
-unowned : (ids : Ids) (id : ℕ) → IsNextIdentifier ids id → owner_in ids id ≡ None
+pub unowned : (ids : Ids) (id : ℕ) → IsNextIdentifier ids id → owner_in ids id ≡ None
 unowned ids id next =
     let found = position-Some (is_free ids.owners) ids.ahead next.place id next.first in
     let at : get_or ids.ahead next.place id ≡ id = get_or_from_slice_get ids.ahead next.place id id next.there in

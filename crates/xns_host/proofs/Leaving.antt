@@ -42,7 +42,7 @@ left_own r s g h n released other is =
     ap (λ (ids : Ids). owner_in ids (id_of h)) released ∙ get_or-set_other r.identifiers.owners (id_of g) (id_of h) None None other.own ∙ is
 
 -- where nobody has an identifier, it is nobody's
-cleared : (owners : List (Option ℕ)) (id : ℕ) → get_or (slice_set owners id None) id None ≡ None
+pub cleared : (owners : List (Option ℕ)) (id : ℕ) → get_or (slice_set owners id None) id None ≡ None
 cleared [] id = refl
 cleared (x ∷ xs) zero = refl
 cleared (x ∷ xs) (suc id) = cleared xs id

@@ -5,6 +5,7 @@ use Rattle.std.specs.Option.{is_some, is_none}
 use Rattle.std.proofs.lemmas.List.{get_or-replicate, get_or-set_other, get_or-set_same, length-replicate, set-get_or}
 use Rattle.std.proofs.lemmas.Option.{get_or_from_slice_get, slice_get_read, slice_get_within}
 use Rattle.courier_messages.specs.declared.message.Message.{Message}
+use Rattle.courier_sessions.proofs.Done.{none_there as nothing_there}
 use Rattle.xns_agenda.proofs.Putting.{one_place, place_other, place_set, same_or_other}
 use Rattle.xns_agenda.specs.Agenda.{Plan, HasNobody, IsFor, IsNoted, noted, released}
 use Rattle.xns_host.specs.Events.{event_by, event_in, is_newly_open, later_event}
@@ -77,14 +78,10 @@ note_same a n most f is less = record {
   stranger = place_set a.strangers n f.stranger_heard_at (omega (arith, is.strangers, less));
 }
 
-there_none : {X : Type 0} (o : Option X) → is_some o ≡ false → o ≡ None
-there_none None none = refl
-there_none (Some x) none = absurd (cc)
-
 -- who has nothing to tell by its facts has nothing
 side_quiet : (s : Side) → has_message s ≡ false → waiting_message s ≡ None
-side_quiet (Calls t) none = there_none t.outcome none
-side_quiet (Answers a) none = ap (λ (o : Option Message). listed_call a.programs o) (there_none a.call none)
+side_quiet (Calls t) none = nothing_there t.outcome none
+side_quiet (Answers a) none = ap (λ (o : Option Message). listed_call a.programs o) (nothing_there a.call none)
 
 why_quiet : (number tag : ℕ) (told : Bool) (why : Option Why) → (is_some why && not told) ≡ false → event_by number tag None (if told then None else why) ≡ None
 why_quiet number tag true why none = refl

@@ -170,11 +170,13 @@ turns_at P n gs a b x g h here turn same noting = record {
   is = ap (λ (y : Plan). places_with (slice_set gs n (Some h)) y) (noting ∙ ap (λ (y : Plan). noted y n (facts_of h)) same);
 }
 
+pub taken_same : (n : ℕ) (g h : Guest) (q p : Places) → g ≡ h → q ≡ taken_by (vacated p n) n g → q ≡ taken_by (vacated p n) n h
+taken_same n g h q p same is = is ∙ ap (λ (x : Guest). taken_by (vacated p n) n x) same
+
 pub taken_as : (gs : Row) (n : ℕ) (g h : Guest) (q p : Places) → slice_get gs n ≡ Some (Some g) → slice_get gs n ≡ Some (Some h)
     → q ≡ taken_by (vacated p n) n g → q ≡ taken_by (vacated p n) n h
 taken_as gs n g h q p here at is =
-    let same : g ≡ h = cc in
-    is ∙ ap (λ (x : Guest). taken_by (vacated p n) n x) same
+    let same : g ≡ h = cc in taken_same n g h q p same is
 
 pub is_true : (b : Bool) → (b ≡ false → ⊥) → b ≡ true
 is_true true never = refl

@@ -13,7 +13,7 @@ use Rattle.xns_connection.specs.Ends.{AConnectionKeepsItsEnd, KeepsEnd}
 use Rattle.xns_host.specs.Events.{event_by, event_for, is_newly_open, later_event}
 use Rattle.xns_host.specs.Hosting.{HasNoneDone, IsAllNoted, IsNotDone, IsNotDoneIn, IsNotedBut, facts_in, has_guest, may_go}
 use Rattle.xns_host.specs.Knowing.{known_in, known_of_peer}
-use Rattle.xns_host.specs.Places.{places_with, vacated_if}
+use Rattle.xns_host.specs.Places.{places_with, taken_by, vacated, vacated_if}
 use Rattle.xns_host.specs.Registered.{HasStory, IsAllRegistered}
 use Rattle.xns_connection.specs.Step.{AConnectionGivesWhatItMade, AMessageIsHandedAsByAStep, AStepKeepsItsPromises, Step}
 use Rattle.xns_connection.specs.Story.{waiting_message, with_handed}
@@ -34,9 +34,9 @@ use Rattle.xns_host.proofs.Meant.{acts_so, given_so, handed_story, handing, hand
 use Rattle.xns_agenda.proofs.Putting.{place_other, place_set, same_or_other}
 use Rattle.xns_host.proofs.Apart.{set_apart}
 use Rattle.xns_host.proofs.Noting.{kept_but}
-use Rattle.xns_host.proofs.Placed.{set_back, settled_apart, settled_gone, settled_kept}
+use Rattle.xns_host.proofs.Placed.{set_back, settled_apart, settled_gone, settled_kept, taken_apart, taken_there}
 use Rattle.xns_host.proofs.Registered.{still_registered}
-use Rattle.xns_host.proofs.Undone.{not_done_act, not_done_after, not_done_steps, not_done_told, still_not_done, waits_on}
+use Rattle.xns_host.proofs.Undone.{came_not_done, not_done_act, not_done_after, not_done_steps, not_done_told, still_not_done, waits_on}
 
 abbrev Places : Type 0
 Places = List (Option Guest)
@@ -193,6 +193,13 @@ put_registered r gs n v all read = back_registered r gs n v v all refl read
 
 pub put_undone : (gs : Places) (n : ℕ) (v : Option Guest) → HasNoneDone gs → v ≡ get_or gs n v → HasNoneDone (slice_set gs n v)
 put_undone gs n v all read = back_undone gs n v v all refl read
+
+-- where a new connection got a place, none that is done is in one
+pub came_undone : (gs ks : Places) (x d : Plan) (n : ℕ) (g h : Guest) → HasNoneDone gs → g ≡ h
+    → places_with ks d ≡ taken_by (vacated (places_with gs x) n) n g → n < length gs → IsNotDone h.connection → HasNoneDone ks
+came_undone gs ks x d n g h all same is less new =
+    came_not_done gs ks n g all (taken_apart gs ks x d n g is) (taken_there gs ks x d n g is less)
+    (subst (λ (f : Guest). IsNotDone f.connection) (sym same) new)
 
 -- where a connection that may go was forgotten, none that is done is left in a place
 pub settled_undone : (gs ks : Places) (x d : Plan) (n : ℕ) (old : Option Guest) (g h : Guest) (done : Bool) → HasNoneDone gs → old ≡ Some g

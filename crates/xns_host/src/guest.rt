@@ -14,6 +14,7 @@ ghost use Rattle.xns_connection.specs.Deeds.{asked, gave, made};
 ghost use Rattle.xns_host.specs.Quotes.{is_sent_by};
 ghost use Rattle.xns_connection.specs.Reasons.{call_fault_of, answer_fault_of};
 ghost use Rattle.xns_host.specs.Refusing.{TellsRefusal};
+ghost use Rattle.xns_host.specs.Seating.{new_guest};
 ghost use Rattle.xns_connection.specs.Telling.{Goes};
 ghost use Rattle.xns_host.specs.Went.{GuestActs, GuestGives, GuestHears, GuestReports, GuestStep, GuestTagged, GuestUnserved};
 
@@ -48,6 +49,21 @@ pub struct Guest {
 }
 
 impl Guest {
+    /// A connection that was just made, of which no packet came and nothing was told; whether the program is to be told when it is open.
+    pub fn new(connection: Connection, via: u64, peer: Address, opening_untold: bool) -> Guest
+        ensures { result ≡ new_guest connection via peer opening_untold }
+    {
+        Guest {
+            connection,
+            via,
+            peer,
+            confirmed: false,
+            heard_of: false,
+            opening_untold,
+            tag: 0,
+        }
+    }
+
     /// Our own identifier of the connection.
     #[inline(always)]
     pub fn id(&self) -> u16

@@ -189,21 +189,12 @@ impl Host {
         };
         let _ = self.register.take(number as u16);
         self.services.note_caller(socket);
-        let guest = Guest {
-            connection,
-            via,
-            peer,
-            confirmed: false,
-            heard_of: false,
-            opening_untold: self.settings.tells_opened,
-            tag: 0,
-        };
         put_in(
             &mut self.register,
             &mut self.guests,
             &mut self.agenda,
             number,
-            guest,
+            Guest::new(connection, via, peer, self.settings.tells_opened),
         );
         Ok(number)
     }

@@ -345,21 +345,12 @@ impl Host {
             return Err(AllocError);
         }
         let _ = self.register.take(number as u16);
-        let guest = Guest {
-            connection,
-            via,
-            peer,
-            confirmed: false,
-            heard_of: false,
-            opening_untold: false,
-            tag: 0,
-        };
         put_in(
             &mut self.register,
             &mut self.guests,
             &mut self.agenda,
             number,
-            guest,
+            Guest::new(connection, via, peer, false),
         );
         Ok(Some(number))
     }

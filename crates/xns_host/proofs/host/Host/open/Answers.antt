@@ -1,9 +1,12 @@
-use Rattle.xns_host.proofs.Placed.{taken_apart, taken_there}
+use Rattle.xns_host.proofs.Placed.{taken_same, taken_there}
 use Rattle.std.proofs.Common.{◌≡◌, ◌<◌, ◌∙◌, ap, arith, inl, inr, refl, rules, subst, sym, ℕ, Option, None, Some, false}
 use Rattle.std.proofs.lemmas.Option.{same_Some}
 use Rattle.std.specs.BTreeMap.{BTreeMap, IsUnchanged, Updates, get}
 use Rattle.xns_idp.specs.declared.address.Address.{Address}
 use Rattle.xns_spp.specs.State.{responder_state}
+use Rattle.xns_host.specs.Registered.{HasRegistered}
+use Rattle.xns_host.specs.Seating.{new_guest}
+use Rattle.xns_host.specs.declared.guest.Guest.{Guest}
 use Rattle.xns_host.specs.Hosting.{address_in}
 use Rattle.xns_host.specs.Register.{peer_at, peer_cmp}
 use Rattle.xns_connection.specs.Story.{new_story}
@@ -17,7 +20,8 @@ use Rattle.xns_host.specs.Turn.{whole_of}
 use Rattle.xns_host.proofs.Waking.{all_in_use, gets_place, no_room}
 use Rattle.xns_host.proofs.Ends.{end_opened, has_story, told_id}
 use Rattle.xns_host.proofs.Joining.{OpenedBy, all_joined, joined_as, joined_opened, opened_by, turned_over, unentered}
-use Rattle.xns_host.proofs.Undone.{came_not_done, not_done_new}
+use Rattle.xns_host.proofs.Undone.{not_done_new}
+use Rattle.xns_host.proofs.Turns.{came_undone}
 use Rattle.xns_connection.specs.Ends.{peer_that_opened}
 use Rattle.xns_host.specs.Knowing.{opener_to}
 use Rattle.xns_host.specs.Identifiers.{Ids, IsNextIdentifier, TurnsOver}
@@ -39,7 +43,8 @@ invariant_of-self c =
 
 pub put_in-requires-clause-registered : goal.put_in-requires-clause-registered
 put_in-requires-clause-registered c =
-    let entered : Updates peer_cmp c.args.self.now.register.peers c.enter.new.self.peers c.args.opener (Some c.in-Some.number) = search rules in
+    subst (λ (g : Guest). HasRegistered c.take.new.self c.args.self.now.guests.items c.in-Some.number g) (sym c.new.ensures)
+    (let entered : Updates peer_cmp c.args.self.now.register.peers c.enter.new.self.peers c.args.opener (Some c.in-Some.number) = search rules in
     let has = joined_opened c.args.self.now.register c.enter.new.self c.take.new.self _ c.in-Some-next.id c.args.opener c.take.result
     c.enter.ensures.identifiers entered c.requires.unknown c.in-Some-next.ensures.next c.take.ensures.given c.take.ensures.some c.take.ensures.owner
     c.take.ensures.peers in
@@ -60,16 +65,19 @@ put_in-requires-clause-registered c =
           let same : c.args.opener ≡ o = same_Some c.args.opener o (sym is ∙ opened) in
           ap (λ (m : BTreeMap Peer ℕ). get peer_cmp m o) c.take.ensures.peers ∙ ap (λ (p : Peer). get peer_cmp c.enter.new.self.peers p) (sym same)
           ∙ entered.1;
-    })
+    }))
 
 pub invariant_of-self-2-clause-not_done : goal.invariant_of-self-2-clause-not_done
 invariant_of-self-2-clause-not_done c =
-    came_not_done c.args.self.now.guests.items c.put_in.new.guests.items c.in-Some.number _ c.args.self.now.not_done (taken_apart c.args.self.now.guests.items c.put_in.new.guests.items c.args.self.now.agenda c.put_in.new.agenda c.in-Some.number _ c.put_in.ensures.places) (taken_there c.args.self.now.guests.items c.put_in.new.guests.items c.args.self.now.agenda c.put_in.new.agenda c.in-Some.number _ c.put_in.ensures.places (omega (arith, c.in-Some.ensures.within, c.args.self.now.sized)))
-    (not_done_new c.in-Ok.connection c.in-Ok.ensures.made.untold)
+    came_undone c.args.self.now.guests.items c.put_in.new.guests.items c.args.self.now.agenda c.put_in.new.agenda c.in-Some.number c.new.result _ c.args.self.now.not_done c.new.ensures
+    c.put_in.ensures.places (omega (arith, c.in-Some.ensures.within, c.args.self.now.sized)) (not_done_new c.in-Ok.connection c.in-Ok.ensures.made.untold)
 
 pub returns-clause-opened : goal.returns-clause-opened
 returns-clause-opened c = λ n made.
     let one : c.in-Some.number ≡ n = cc in
+    let guest : Guest = new_guest c.in-Ok.connection c.args.via c.args.peer false in
+    let taken = taken_same c.in-Some.number c.new.result guest (places_with c.put_in.new.guests.items c.put_in.new.agenda) (places_with c.args.self.now.guests.items c.args.self.now.agenda) c.new.ensures c.put_in.ensures.places in
+    let there = taken_there c.args.self.now.guests.items c.put_in.new.guests.items c.args.self.now.agenda c.put_in.new.agenda c.in-Some.number guest taken (omega (arith, c.in-Some.ensures.within, c.args.self.now.sized)) in
     let t = subst (λ (a : Ids). (i : ℕ) × TurnsOver a c.put_in.new.register.identifiers i) c.enter.ensures.identifiers
     (turned_over c.enter.new.self.identifiers c.take.new.self.identifiers c.put_in.new.register.identifiers _ c.in-Some-next.id c.take.result
     (subst (λ (a : Ids). IsNextIdentifier a c.in-Some-next.id) (sym c.enter.ensures.identifiers) c.in-Some-next.ensures.next) c.take.ensures.given c.take.ensures.some
@@ -77,15 +85,7 @@ returns-clause-opened c = λ n made.
     subst (λ (m : ℕ). Seats c.args.now c.args.via (whole_of c.args.self.now) c.args.socket c.args.peer c.args.peer_id c.args.programs.items m c.put_in.new.register
     (places_with c.put_in.new.guests.items c.put_in.new.agenda)) one
     (record {
-      guest = record {
-        connection = c.in-Ok.connection;
-        via = c.args.via;
-        peer = c.args.peer;
-        confirmed = false;
-        heard_of = false;
-        opening_untold = false;
-        tag = 0;
-      };
+      guest = guest;
       place = gets_place c.args.self.now.agenda c.args.self.now.guests.items c.args.self.now.noted c.place.ensures.room c.args.self.now.sized
           (c.place.ensures.some c.in-Some.number c.in-Some.is);
       answering = record {
@@ -111,8 +111,8 @@ returns-clause-opened c = λ n made.
         opening = refl;
         tag = refl;
       };
-      there = taken_there c.args.self.now.guests.items c.put_in.new.guests.items c.args.self.now.agenda c.put_in.new.agenda c.in-Some.number _ c.put_in.ensures.places (omega (arith, c.in-Some.ensures.within, c.args.self.now.sized));
-      is = c.put_in.ensures.places;
+      there = there;
+      is = taken;
       identifier = t.0;
       turned = t.1;
     })
