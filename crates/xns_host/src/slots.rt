@@ -129,7 +129,7 @@ pub fn forget_in(
     }
 }
 
-/// Forgets the connection with this number, if it is done.
+/// Notes in the agenda what is to be done of the connection with this number, and forgets the connection if it is done.
 pub fn settle_in(
     register: &mut Register,
     guests: &mut Vec<Option<Guest>>,
@@ -139,15 +139,17 @@ pub fn settle_in(
 )
     requires within { number < length guests.old.items }
     requires sized { length guests.old.items ≡ length agenda.old.dues }
-    requires noted { IsAllNoted agenda.old guests.old.items }
+    requires others { IsNotedBut agenda.old guests.old.items number }
     requires registered { IsAllRegistered register.old guests.old.items }
     ensures noted { IsAllNoted agenda.new guests.new.items }
     ensures sized { length agenda.new.dues ≡ length agenda.old.dues }
     ensures room { length guests.new.items ≡ length guests.old.items }
     ensures registered { IsAllRegistered register.new guests.new.items }
     ensures order { StaysInOrder register.old.identifiers register.new.identifiers }
-    ensures places { places_with guests.new.items agenda.new ≡ vacated_if done (places_with guests.old.items agenda.old) number }
+    ensures places { (place : Option Guest) → slice_get guests.old.items number ≡ Some place → places_with guests.new.items agenda.new
+        ≡ vacated_if done (places_with guests.old.items (noted agenda.old number (facts_in place))) number }
 {
+    note(guests.as_slice(), agenda, number);
     if done {
         forget_in(register, guests, agenda, number);
     }

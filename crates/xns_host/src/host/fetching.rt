@@ -43,7 +43,6 @@ impl Host {
         };
         let event = guest.tell(self.alloc, now, number)?;
         let done = guest.is_done();
-        note(self.guests.as_slice(), &mut self.agenda, number);
         settle_in(
             &mut self.register,
             &mut self.guests,
@@ -87,7 +86,6 @@ impl Host {
         };
         guest.act(now);
         let over = guest.is_done();
-        note(self.guests.as_slice(), &mut self.agenda, number);
         settle_in(
             &mut self.register,
             &mut self.guests,

@@ -1,7 +1,8 @@
 use Rattle.std.proofs.Common.{◌≡◌, ◌∙◌, ◌<◌, ap, refl, rules, arith, subst, sym, length, get_or, ℕ, Option, None, Some}
 use Rattle.std.specs.Prelude.{slice_set}
 use Rattle.std.proofs.lemmas.List.{length-set}
-use Rattle.xns_agenda.specs.Agenda.{Plan}
+use Rattle.xns_agenda.specs.Agenda.{Plan, noted}
+use Rattle.xns_host.specs.Hosting.{facts_of}
 use Rattle.xns_host.specs.Events.{event_in}
 use Rattle.xns_host.specs.Places.{AsksEvent, places_with}
 use Rattle.xns_host.specs.declared.guest.Guest.{Guest}
@@ -11,10 +12,10 @@ use Rattle.xns_host.proofs.Placed.{asked_quiet, asked_tells}
 use Rattle.xns_host.proofs.Turns.{is_there, back_registered, back_undone, settled_undone, stays_noted, stays_registered, told_stays, told_undone}
 use Rattle.xns_host.proofs.host.Host.event.Goals as goal
 
-pub note-requires-clause-others : goal.note-requires-clause-others
-note-requires-clause-others c =
-    rw c.pass_event.ensures.passed (passed_but c.args.self.now.agenda c.as_slice.result.now c.args.number
-    (stays_noted c.args.self.now.agenda c.args.self.now.guests.items c.as_slice.result.now c.args.number c.index_mut.result.now c.in-Some.guest c.tell.new.self
+pub settle_in-requires-clause-others : goal.settle_in-requires-clause-others
+settle_in-requires-clause-others c =
+    rw c.pass_event.ensures.passed (passed_but c.args.self.now.agenda (slice_set c.args.self.now.guests.items c.args.number (Some c.tell.new.self)) c.args.number
+    (stays_noted c.args.self.now.agenda c.args.self.now.guests.items (slice_set c.args.self.now.guests.items c.args.number (Some c.tell.new.self)) c.args.number c.index_mut.result.now c.in-Some.guest c.tell.new.self
     c.args.self.now.noted c.in-Some.is (told_stays c.a_message_is_handed_as_by_a_step.ensures c.a_connection_keeps_its_end.ensures c.latest-now.result _ _ (c.tell.ensures.tells (search rules)))
     c.requires (search rules) (search rules)))
 
@@ -26,11 +27,11 @@ settle_in-requires-clause-registered c =
 
 pub invariant_of-self-2-clause-not_done : goal.invariant_of-self-2-clause-not_done
 invariant_of-self-2-clause-not_done c =
-    settled_undone c.args.self.now.guests.items c.settle_in.new.guests.items c.note.new.agenda c.settle_in.new.agenda c.args.number c.index_mut.result.now
+    settled_undone c.args.self.now.guests.items c.settle_in.new.guests.items (noted c.pass_event.new.self c.args.number (facts_of c.tell.new.self)) c.settle_in.new.agenda c.args.number c.index_mut.result.now
     c.in-Some.guest c.tell.new.self c.is_done-done.result c.args.self.now.not_done c.in-Some.is
     (told_undone c.a_message_is_handed_as_by_a_step.ensures c.latest-now.result c.args.number _ _ c.in_ok-event.event
     (sym c.tell.ensures.event ∙ c.in_ok-event.was) (c.tell.ensures.tells (search rules))) c.requires (search rules)
-    c.is_done-done.ensures c.settle_in.ensures.places
+    c.is_done-done.ensures (c.settle_in.ensures.places (Some c.tell.new.self) (set_there c.args.self.now.guests.items (slice_set c.args.self.now.guests.items c.args.number (Some c.tell.new.self)) c.args.number (Some c.tell.new.self) c.requires refl))
 
 pub returns-clause-asks : goal.returns-clause-asks
 returns-clause-asks c =
@@ -38,9 +39,9 @@ returns-clause-asks c =
     subst (λ (t : ℕ). AsksEvent t c.args.number (places_with c.args.self.now.guests.items c.args.self.now.agenda) (Some c.in_ok-event.event)
     (places_with c.settle_in.new.guests.items c.settle_in.new.agenda)) c.latest-now.ensures
     (asked_tells c.latest-now.result c.args.number c.args.self.now.guests.items c.settle_in.new.guests.items c.args.self.now.agenda c.pass_event.new.self
-    c.note.new.agenda c.settle_in.new.agenda c.in-Some.guest c.tell.new.self c.in_ok-event.event c.is_done-done.result here
-    (sym c.tell.ensures.event ∙ c.in_ok-event.was) (c.tell.ensures.tells (search rules)) c.pass_event.ensures.passed (c.note.ensures.is (Some c.tell.new.self) (set_there c.args.self.now.guests.items c.as_slice.result.now c.args.number (Some c.tell.new.self) c.requires (search rules)))
-    c.is_done-done.ensures c.settle_in.ensures.places)
+    (noted c.pass_event.new.self c.args.number (facts_of c.tell.new.self)) c.settle_in.new.agenda c.in-Some.guest c.tell.new.self c.in_ok-event.event c.is_done-done.result here
+    (sym c.tell.ensures.event ∙ c.in_ok-event.was) (c.tell.ensures.tells (search rules)) c.pass_event.ensures.passed refl
+    c.is_done-done.ensures (c.settle_in.ensures.places (Some c.tell.new.self) (set_there c.args.self.now.guests.items (slice_set c.args.self.now.guests.items c.args.number (Some c.tell.new.self)) c.args.number (Some c.tell.new.self) c.requires refl)))
 
 -- where there is nothing to tell
 
