@@ -7,10 +7,10 @@ use Rattle.courier_sessions.specs.declared.program.Program.{Program}
 use Rattle.item_world.specs.Progress.{IsFrom}
 use Rattle.item_world.specs.World.{end_at}
 use Rattle.item_world.specs.declared.emitted.Emitted.{Emitted}
-use Rattle.item_world.proofs.Fronts.{all_get}
 use Rattle.item_world.specs.declared.side.Side.{Side}
 use Rattle.item_world.specs.declared.side.Side.TheVariants.{A, B}
 use Rattle.xns_idp.specs.declared.address.Address.{Address}
+use Rattle.xns_spp.proofs.Lists.{All-slice_get}
 use Rattle.xns_spp.specs.Ends.{IsEnds}
 use Rattle.xns_idp.specs.Packet.{PacketModel}
 use Rattle.xns_idp.specs.Reading.{packet_of}
@@ -44,6 +44,7 @@ use Rattle.xns_host.specs.Whole.{Whole}
 use Rattle.xns_host.specs.declared.guest.Guest.{Guest}
 use Rattle.xns_host.specs.declared.host.Host.{Host}
 use Rattle.xns_host.specs.declared.register.Register.{Register}
+use Rattle.host_world.specs.MeetingLaws.{MeetingLaws}
 use Rattle.host_world.specs.Awaiting.{CannotOpen, HasNewConnection, HasOpened, HostAwaits, IsSentFrom}
 use Rattle.host_world.specs.Following.{EachFollowed, MayTake, StandsOn}
 use Rattle.host_world.specs.Guests.{LeadsTo}
@@ -58,7 +59,7 @@ use Rattle.host_world.proofs.Following.{one_guest}
 use Rattle.host_world.proofs.Guests.{hears_it}
 use Rattle.host_world.proofs.Kept.{is_met, kept, made_there}
 use Rattle.host_world.proofs.Numbers.{at_place, beside, same_or_other}
-use Rattle.host_world.proofs.Onward.{Laws, sound}
+use Rattle.host_world.proofs.Onward.{sound}
 
 -- ---- the host that connects
 
@@ -115,13 +116,13 @@ said_from a b e bytes here linked from p is = by linked.peer_id where
   by (inl none) = absurd (omega (arith, none, here.id_least))
   by (inr same) = ((from p is).0 ∙ sym linked.peer, (from p is).1 ∙ sym same)
 
-pub names : Laws → (h : Host) (here : ℕ) (a b : Station) (programs : List Program) (d : Conversation) (m : Meeting) (bytes : List ℕ) → HostAwaits h here a b programs d m → Contains (at m A).given bytes → IsSentFrom a bytes
+pub names : MeetingLaws → (h : Host) (here : ℕ) (a b : Station) (programs : List Program) (d : Conversation) (m : Meeting) (bytes : List ℕ) → HostAwaits h here a b programs d m → Contains (at m A).given bytes → IsSentFrom a bytes
 names laws h here a b programs d m bytes s given =
     let k = kept laws.ends laws.order laws.stories a b programs s.station s.peer s.meets in
     let met = is_met laws.ends laws.order laws.stories a b programs m s.station s.peer s.meets in
     let linked = (sound laws a b programs s.station s.peer s.meets).1 in
     let x = made_there m.world A bytes (All-contains (HasMade m.world A) (at m A).given bytes (met.given A) given) in
-    let from = all_get (λ (y : Emitted). IsFrom (end_at m.world y.side).ends y.bytes) m.world.bag x.0 x.1 linked.bag x.2 in
+    let from = All-slice_get (λ (y : Emitted). IsFrom (end_at m.world y.side).ends y.bytes) m.world.bag x.0 x.1 linked.bag x.2 in
     let side : x.1.side ≡ A = ap (λ (y : Side × List ℕ). y.0) x.3 in
     let same : x.1.bytes ≡ bytes = ap (λ (y : Side × List ℕ). y.1) x.3 in
     let theirs : end_at m.world B ≡ called_end b a = k.ends B ∙ ap (λ (p : Party). p.story.state) s.new in

@@ -1,11 +1,12 @@
 -- A host goes on with the meetings of its connections, place by place and call by call.
-use Rattle.std.proofs.Common.{◌≡◌, ◌≢◌, ◌∙◌, ◌⊎◌, inl, inr, ap, refl, sym, subst, ℕ, zero, suc, ◌+◌, Bool, true, false, List, [], ◌∷◌, ◌++◌, append-nil, get_or, arith, Option, Some, None, Result, Ok}
+use Rattle.std.proofs.Common.{◌≡◌, ◌≢◌, ◌∙◌, ◌⊎◌, inl, inr, ap, refl, sym, subst, ℕ, ◌+◌, Bool, true, false, List, [], ◌++◌, append-nil, arith, Option, Some, None, Result, Ok}
 use Rattle.std.specs.Prelude.{◌==◌, cond, slice_get, slice_set}
 use Rattle.std.specs.Option.{is_some}
 use Rattle.std.proofs.lemmas.Bool.{eq-eqb}
 use Rattle.std.proofs.lemmas.Option.{slice_get_within}
 use Rattle.courier_sessions.specs.declared.program.Program.{Program}
 use Rattle.item_world.specs.declared.side.Side.{Side}
+use Rattle.xns_host.proofs.Leaving.{cleared}
 use Rattle.xns_host.specs.Hosting.{may_go}
 use Rattle.xns_connection.specs.Living.{Deeds}
 use Rattle.xns_agenda.specs.Turns.{Line, has_turn, with_turn}
@@ -248,13 +249,8 @@ pub no_packet : (law : AStepKeepsItsPromises) (now number : ℕ) (result : Resul
 no_packet law now number result p r none t =
     turns_still 2 (GuestGives now result) number (packet_passed p number) r (λ g h s. subst (GoesOn 2 g h) none (gives_on law now result g h s)) t
 
-turned_off : (tickets : List (Option ℕ)) (n : ℕ) → get_or (slice_set tickets n None) n None ≡ None
-turned_off [] n = refl
-turned_off (t ∷ ts) zero = refl
-turned_off (t ∷ ts) (suc n) = turned_off ts n
-
 no_turn : (line : Line) (n : ℕ) (b : Bool) → b ≡ false → has_turn (with_turn line n b) n ≡ false
-no_turn line n false is = ap is_some (turned_off line.tickets n)
+no_turn line n false is = ap is_some (cleared line.tickets n)
 no_turn line n true is = absurd (cc)
 
 passed_none : (now number : ℕ) (p r : Places) → AsksPacket now number (Ok None) p r → has_turn r.agenda.packets number ≡ false

@@ -7,6 +7,7 @@ use Rattle.std.proofs.lemmas.Option.{slice_get_within}
 use Rattle.xns_idp.specs.declared.address.Address.{Address}
 use Rattle.xns_spp.specs.Packet.{SppPacketModel}
 use Rattle.xns_agenda.specs.Clock.{time_at}
+use Rattle.xns_host.proofs.Ends.{same_id}
 use Rattle.xns_host.specs.Coming.{Arrives, Comes, Opens}
 use Rattle.xns_host.specs.Coming as coming
 use Rattle.xns_host.specs.Hosting.{confirms}
@@ -36,7 +37,7 @@ use Rattle.host_world.proofs.Following.{one_guest}
 use Rattle.host_world.proofs.Happens.{closed_between, said_alone, said_between}
 use Rattle.host_world.proofs.Numbers.{Leads, LeadsAt, all_still, at_place, beside, connects_there, next_event, no_event, of_guest, one_changed, one_said, opened_shows, opens_there, passes_then, same_there, still_if, taking}
 use Rattle.host_world.proofs.Shown.{Passes, Shows, ShowsIn, first, stays, tagging}
-use Rattle.host_world.proofs.Untold.{another_id, heard_id, kept_id}
+use Rattle.host_world.proofs.Untold.{another_id, heard_id}
 
 -- ---- a packet that came
 
@@ -92,7 +93,7 @@ said_by ends now is (Some None) b w = absurd w
 said_by ends now is (Some (Some g)) None w = absurd w
 said_by ends now is (Some (Some g)) (Some None) w = absurd w
 said_by ends now {deed} {x} is (Some (Some g)) (Some (Some h)) w =
-    same_there g h (x ∷ []) (kept_id g h (ends.steps now deed g.connection h.connection w.step)) (λ d s. by is d s w) where
+    same_there g h (x ∷ []) (same_id g h (ends.steps now deed g.connection h.connection w.step)) (λ d s. by is d s w) where
       by : {deed : Deed} {x : Happening} → IsSaid deed x → (d : Dialogue) → Shows d g → GuestStep now deed g h → Passes (x ∷ closed_between g h) (held d) (Some (Some h))
       by (of_call c) d s step = after_call ends now d g h c s step
       by (of_answer kind words) d s step = after_answer ends now d g h kind words s step

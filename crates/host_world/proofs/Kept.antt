@@ -25,26 +25,19 @@ use Rattle.item_world.proofs.Fronts.{begins_get}
 use Rattle.item_world.proofs.Sides.{same_end, same_marked, same_other}
 use Rattle.xns_connection.specs.Acting.{Acts, idling, calling, handing, answering, IsTold}
 use Rattle.xns_connection.specs.Agreeing.{ArePeers}
-use Rattle.xns_connection.specs.Living.{Deeds, no_deeds, IsLived, ProgramsAgree}
+use Rattle.xns_connection.specs.Living.{Deeds}
 use Rattle.xns_connection.specs.Story.{Story, ProgramDoesNothing, made_on, new_story, with_handed}
 use Rattle.xns_connection.specs.Telling.{Tells}
 use Rattle.xns_connection.specs.declared.conversation.Conversation.{Conversation}
 use Rattle.xns_connection.specs.declared.side.Side.{Side as Kind}
 use Rattle.xns_connection.specs.declared.side.Side.TheVariants.{Calls, Answers}
+use Rattle.host_world.specs.MeetingLaws.{StoryLaws}
 use Rattle.host_world.specs.Meeting.{Meeting, at, new_meeting, led, Next, went_on, HasMade}
 use Rattle.host_world.specs.Meets.{heard_story, Meets, MeetingStep, acts, arrives, gives, moves, opens, strays, IsMet}
 use Rattle.host_world.specs.Pairing.{MayCome, WasMade, made as comes}
 use Rattle.host_world.specs.Station.{IsStation, calling_end, called_end}
 use Rattle.host_world.specs.declared.station.Station.{Station}
 use Rattle.host_world.proofs.Led.{moved_bag, led_end, led_other, led_bag, led_holds, are_items, by}
-
--- ---- the laws of the crates below
-
-pub record StoryLaws : Type 0 where
-  pub opens : (programs : Option (List Program)) (start : State) (c : Conversation) → Tells c (new_story programs start) → IsTold programs start c no_deeds (new_story programs start)
-  pub acts : (programs : Option (List Program)) (start : State) (c d : Conversation) (l r : Deeds) (h b m : Story) → IsTold programs start c l h → Acts c h l b r → Tells d m → ProgramDoesNothing b m → IsTold programs start d r m
-  pub hears : (programs : Option (List Program)) (start : State) (c d : Conversation) (l : Deeds) (h m : Story) (bytes : List ℕ) → IsTold programs start c l h → Tells d m → ProgramDoesNothing (record h { state = after_receive h.state bytes }) m → IsTold programs start d l m
-  pub agree : (s v : State) (c d : Conversation) (l r : Deeds) (programs : List Program) (here : IsLived None s c l) (there : IsLived (Some programs) v d r) → ArePeers here.story there.story → ProgramsAgree programs l r
 
 -- ---- what was made stays in the bag
 

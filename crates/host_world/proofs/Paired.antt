@@ -21,7 +21,7 @@ use Rattle.item_world.specs.declared.side.Side.TheVariants.{A, B}
 use Rattle.xns_spp.specs.Packet.{SppPacketModel, spp_packet_of}
 use Rattle.xns_connection.specs.Deeds as deeds
 use Rattle.xns_connection.specs.Deeds.{Deed, with_answer, with_taken}
-use Rattle.xns_connection.specs.Step.{AMessageIsHandedAsByAStep, AStepKeepsItsPromises, Hands, Step, WaitsBy, calmly, moving_on, none_waits}
+use Rattle.xns_connection.specs.Step.{AMessageIsHandedAsByAStep, AStepKeepsItsPromises, Hands, Step, WaitsBy}
 use Rattle.xns_connection.specs.Acting.{Acts, idling, calling, handing, answering}
 use Rattle.xns_connection.specs.Closing.{drains}
 use Rattle.xns_connection.specs.Living.{Deeds, GoesFrom}
@@ -36,6 +36,7 @@ use Rattle.xns_connection.specs.declared.refusal.Refusal.{Refusal}
 use Rattle.xns_connection.specs.declared.refusal.Refusal.TheVariants.{Closing}
 use Rattle.xns_connection.specs.declared.side.Side.{Side as Kind}
 use Rattle.xns_connection.specs.declared.side.Side.TheVariants.{Calls, Answers}
+use Rattle.xns_host.proofs.Meant.{handed_none}
 use Rattle.host_world.specs.Meeting.{Meeting, at, Next, led, went_on}
 use Rattle.host_world.specs.Meets.{heard_story, IsWithinSteps, Meets, MeetingStep, acts, arrives, gives, moves, no_step, one_more, opens, strays}
 use Rattle.host_world.specs.Pairing.{AreKept, connection_at, with_connection, DoesAt, Steps, StepsByBytes, MayCome, made, foreign, with_no_more, one_call_more, one_message_more, one_answer_more}
@@ -313,19 +314,9 @@ pair_hands law p c d side now (Some m) is waits hands =
     pair_acts p c d side (one_message_more m) (λ h. with_handed c.conversation.side h m) is k.packets (λ h l. handing m (sym waits))
     (λ h tells. subst (λ (o : Option Message). (n : Story) × Tells d.conversation n × ProgramDoesNothing (with_taken o c.conversation.side h) n) (sym waits) (k.story h tells))
 
-pub hands_steps : AMessageIsHandedAsByAStep → (now : ℕ) (c d : Connection) → Hands now c d → StepsAt now c.wait d.wait
-hands_steps law now c d (none_waits none same) = subst (λ (x : Connection). StepsAt now c.wait x.wait) (sym same) still
-hands_steps law now c d (calmly some calm same) = (law now c d some (calmly some calm same)).steps
-hands_steps law now c d (moving_on some busy step) = step.steps
-
-hands_none : (now : ℕ) (c d : Connection) → Hands now c d → waiting_message c.conversation.side ≡ None → d ≡ c
-hands_none now c d (none_waits none same) waits = same
-hands_none now c d (calmly some calm same) waits = absurd (some waits)
-hands_none now c d (moving_on some busy step) waits = absurd (some waits)
-
 pub pair_hands_none : (p : Pair) (c d : Connection) (side : Side) (now : ℕ) (r : Option Message) → c ≡ connection_at p side
     → r ≡ waiting_message c.conversation.side → Hands now c d → r ≡ None → with_connection p side d ≡ p
-pair_hands_none p c d side now r is waits hands none = put_back p side d (hands_none now c d hands (sym waits ∙ none) ∙ is)
+pair_hands_none p c d side now r is waits hands none = put_back p side d (handed_none now c d hands (sym waits ∙ none) ∙ is)
 
 -- of what became of the one at a side
 pub at_side : (P : Connection → Connection → Type 0) (p : Pair) (c d : Connection) (side : Side) → c ≡ connection_at p side → P c d

@@ -10,6 +10,7 @@ use Rattle.xns_spp.specs.State.{State}
 use Rattle.xns_connection.specs.Deeds as deeds
 use Rattle.xns_connection.specs.Ends.{AConnectionKeepsItsEnd, KeepsEnd, peer_that_opened}
 use Rattle.xns_connection.specs.Deeds.{side_taken}
+use Rattle.xns_host.proofs.Ends.{same_id}
 use Rattle.xns_host.specs.Events.{event_by, event_in, event_of, is_newly_open, later_event}
 use Rattle.xns_connection.specs.Step.{Hands, calmly, moving_on, none_waits}
 use Rattle.xns_connection.specs.Story.{waiting_message}
@@ -28,7 +29,6 @@ use Rattle.host_world.proofs.Happens.{closed_between, closed_same}
 use Rattle.host_world.proofs.Sides.{Has}
 use Rattle.host_world.proofs.Stepping.{Changes, by_parts, steps}
 use Rattle.host_world.proofs.Shown.{Nearly, Passes, Shows, as_closed, first, nearly, settled, shown_as}
-use Rattle.host_world.proofs.Untold.{kept_id}
 
 -- ---- the program is told
 
@@ -48,7 +48,7 @@ pub record Reports (x : Happening) (d : Dialogue) (g h : Guest) : Type 0 where
 pub after_hand : AConnectionKeepsItsEnd → (now : ℕ) (d : Dialogue) (g h : Guest) (m : Message) → Shows d g → GuestTells now g h → waiting_message g.connection.conversation.side ≡ Some m
     → Reports (hands m) d g h
 after_hand ends now d g h m s t is = record {
-  id = kept_id g h keeps;
+  id = same_id g h keeps;
   passes = by d.ours refl;
   over = λ z. absurd (some (s.over (sym s.told ∙ (sym change.told ∙ z))).1);
 } where

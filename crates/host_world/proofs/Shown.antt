@@ -5,6 +5,7 @@ use Rattle.xns_spp.specs.Held.{StandsFor}
 use Rattle.xns_spp.specs.State.{State}
 use Rattle.xns_connection.specs.Ends.{KeepsEnd, peer_that_opened}
 use Rattle.xns_connection.specs.Story.{waiting_message}
+use Rattle.xns_host.proofs.Ends.{same_id}
 use Rattle.xns_host.specs.Went.{GuestTagged}
 use Rattle.xns_host.specs.declared.guest.Guest.{Guest}
 use Rattle.xns_connection.specs.declared.connection.Connection.{Connection}
@@ -16,7 +17,6 @@ use Rattle.host_world.specs.Seen.{closed_since}
 use Rattle.host_world.proofs.Happens.{Continues, closed_between, closed_same}
 use Rattle.host_world.proofs.Sides.{Has}
 use Rattle.host_world.proofs.Stepping.{Changes}
-use Rattle.host_world.proofs.Untold.{kept_id}
 
 -- ---- what is seen of a connection
 
@@ -130,7 +130,7 @@ pub record Alone (d : Dialogue) (g h : Guest) : Type 0 where
 pub by_itself : (d : Dialogue) (g h : Guest) → Shows d g → KeepsEnd g.connection h.connection → h.heard_of ≡ g.heard_of → h.opening_untold ≡ g.opening_untold
     → Changes g.connection.conversation.side g.connection.conversation.closing.wanted g.connection h.connection → Alone d g h
 by_itself d g h s keeps heard opening c = record {
-  continues = record { id = kept_id g h keeps; opener = keeps.opener; told = c.told; closed = c.stays };
+  continues = record { id = same_id g h keeps; opener = keeps.opener; told = c.told; closed = c.stays };
   passes = settled d g h s.closed (nearly_by d g h d.asked g.connection.conversation.closing.wanted s keeps.opener heard opening c s.asked);
 }
 

@@ -1,26 +1,25 @@
 -- What leaves it as it was whether the program was told that a connection is closed, and which identifier the connection has; and that a new
 -- connection has another identifier.
-use Rattle.std.proofs.Common.{◌≡◌, ◌≢◌, ap, refl, sym, ℕ, Bool, true, false, List, Option, Some, None, Result, ◌∙◌, get_or}
+use Rattle.std.proofs.Common.{◌≡◌, ◌≢◌, ap, refl, sym, ℕ, Bool, true, false, List, Option, Some, None, Result, ◌∙◌}
 use Rattle.std.specs.Prelude.{if◌then◌else◌, slice_get}
-use Rattle.std.specs.Option.{is_none, is_some}
-use Rattle.std.proofs.lemmas.List.Quantifiers.{position-Some}
-use Rattle.std.proofs.lemmas.Option.{get_or_from_slice_get}
+use Rattle.std.specs.Option.{is_some}
 use Rattle.std.specs.declared.alloc.AllocError.{AllocError}
 use Rattle.xns_connection.specs.Deeds as deeds
 use Rattle.xns_connection.specs.Deeds.{Parts, acted_by, unserved}
-use Rattle.xns_connection.specs.Ends.{AConnectionKeepsItsEnd, KeepsEnd}
+use Rattle.xns_connection.specs.Ends.{AConnectionKeepsItsEnd}
 use Rattle.xns_connection.specs.Step.{GivesNext, Hands, MovesOwed, none_waits, calmly, moving_on}
 use Rattle.xns_agenda.specs.declared.act.Act.{Act}
 use Rattle.xns_agenda.specs.declared.act.Act.TheVariants.{Nothing, Again, Ask, GiveUp, Forget}
 use Rattle.xns_connection.specs.declared.connection.Connection.{Connection}
-use Rattle.xns_host.specs.Identifiers.{Ids, IsNextIdentifier, is_free}
+use Rattle.xns_host.proofs.Ends.{same_id}
+use Rattle.xns_host.proofs.Joining.{unowned}
+use Rattle.xns_host.specs.Identifiers.{IsNextIdentifier}
 use Rattle.xns_host.specs.Knowing.{id_of}
 use Rattle.xns_host.specs.Register.{owner_in}
 use Rattle.xns_host.specs.Registered.{IsAllRegistered}
 use Rattle.xns_host.specs.Went.{GuestHears, hears, lost}
 use Rattle.xns_host.specs.declared.guest.Guest.{Guest}
 use Rattle.xns_host.specs.declared.register.Register.{Register}
-use Rattle.xns_spp.specs.declared.ends.Ends.{Ends}
 
 -- ---- whether the program was told
 
@@ -52,29 +51,15 @@ handed_told now old new (moving_on waits moves step) = step.told
 
 -- ---- which identifier it has
 
-pub kept_id : (g h : Guest) → KeepsEnd g.connection h.connection → id_of h ≡ id_of g
-kept_id g h keeps = ap (λ (e : Ends). e.id) keeps.end.same
-
 pub heard_id : AConnectionKeepsItsEnd → (now : ℕ) (bytes : List ℕ) (confirming : Bool) (g h : Guest) → GuestHears now bytes confirming g h → id_of h ≡ id_of g
-heard_id ends now bytes confirming g h (hears step) = kept_id g h (ends.steps now (deeds.heard bytes) g.connection h.connection step.step)
+heard_id ends now bytes confirming g h (hears step) = same_id g h (ends.steps now (deeds.heard bytes) g.connection h.connection step.step)
 heard_id ends now bytes confirming g h (lost stores) = refl
 
 -- ---- the identifier that comes next
-
-free_owner : (o : Option ℕ) → is_none o ≡ true → o ≡ None
-free_owner None e = refl
-free_owner (Some n) e = absurd (cc)
-
--- nobody had the identifier that comes next
-next_owner : (ids : Ids) (id : ℕ) → IsNextIdentifier ids id → owner_in ids id ≡ None
-next_owner ids id next =
-    let found = position-Some (is_free ids.owners) ids.ahead next.place id next.first in
-    let at : get_or ids.ahead next.place id ≡ id = get_or_from_slice_get ids.ahead next.place id id next.there in
-    free_owner (owner_in ids id) (ap (λ (i : ℕ). is_free ids.owners i) (sym at) ∙ found.1)
 
 -- none that was there has it
 pub another_id : (register : Register) (gs : List (Option Guest)) (h : Guest) → IsAllRegistered register gs → IsNextIdentifier register.identifiers (id_of h)
     → (n : ℕ) (g : Guest) → slice_get gs n ≡ Some (Some g) → id_of h ≢ id_of g
 another_id register gs h all next n g e same =
-    let none : None ≡ Some n = sym (next_owner register.identifiers (id_of h) next) ∙ ap (owner_in register.identifiers) same ∙ (all.each n g e).own in
+    let none : None ≡ Some n = sym (unowned register.identifiers (id_of h) next) ∙ ap (owner_in register.identifiers) same ∙ (all.each n g e).own in
     absurd (cc)

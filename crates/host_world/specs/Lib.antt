@@ -1,5 +1,6 @@
 pub mod Station
 pub mod Meeting
+pub mod MeetingLaws
 pub mod Meets
 pub mod Pairing
 pub mod Going

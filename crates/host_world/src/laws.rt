@@ -13,6 +13,7 @@ ghost use Rattle.host_world.specs.Following.{EachFollowed, ProgramHasDone, HasGi
 ghost use Rattle.host_world.specs.Going.{CanFinish};
 ghost use Rattle.host_world.specs.Guests.{WhatAHostDoesIsAStepOfTheMeeting};
 ghost use Rattle.host_world.specs.Meeting.{Meeting, at};
+ghost use Rattle.host_world.specs.MeetingLaws.{MeetingLaws};
 ghost use Rattle.host_world.specs.Meets.{Meets, IsMet};
 ghost use Rattle.host_world.specs.Pairing.{MayCome, WasMade, with_no_more};
 ghost use Rattle.host_world.specs.Seen.{NumberHasHistory, HasLived};
@@ -31,6 +32,17 @@ ghost use Rattle.xns_host.specs.declared.host_fault.HostFault.{HostFault};
 ghost use Rattle.xns_host.specs.declared.outgoing.Outgoing.{Outgoing};
 ghost use Rattle.xns_connection.specs.declared.why.Why.{Why};
 
+/// The laws of the crates below that the laws here stand on.
+fn meeting_laws_are_given()
+    ensures { MeetingLaws }
+{
+    item_world::laws::end_laws_are_given();
+    item_world::laws::each_step_keeps_the_order();
+    item_world::laws::no_world_is_stuck();
+    xns_connection::laws::one_story_goes_on();
+    xns_connection::laws::two_programs_agree();
+}
+
 /// Two connections over a network that loses, repeats and reorders packets, where packets that come to one were made by the other, or are
 /// no packets of the connection, and none comes once either end has taken more than 30,000 further items since it was made: what each end
 /// hands up begins what the other's accepted, and the two programs agree. Each packet that a connection gives was made by its end.
@@ -41,10 +53,7 @@ pub fn two_connections_over_a_network_agree()
     ensures { (a b : Station) (programs : List Program) (m : Meeting) → IsStation a → IsStation b → Meets a b programs m
         → IsMet programs m }
 {
-    item_world::laws::end_laws_are_given();
-    item_world::laws::each_step_keeps_the_order();
-    xns_connection::laws::one_story_goes_on();
-    xns_connection::laws::two_programs_agree();
+    meeting_laws_are_given();
 }
 
 /// As long as neither end has taken more than 30,000 items, each packet that a connection gave may come to the other, now or later, once or
@@ -54,10 +63,7 @@ pub fn a_given_packet_may_come()
         → Meets a b programs m → ((s : Side) → length (at m s).story.state.taken ≤ lifetime) → Contains (at m side).given bytes
         → MayCome m (other side) bytes }
 {
-    item_world::laws::end_laws_are_given();
-    item_world::laws::each_step_keeps_the_order();
-    xns_connection::laws::one_story_goes_on();
-    xns_connection::laws::two_programs_agree();
+    meeting_laws_are_given();
 }
 
 /// Each packet that a connection gave was made at a moment that the world keeps with it. It may come to the other connection, now or in any
@@ -67,10 +73,7 @@ pub fn a_given_packet_may_come_while_it_lives()
     ensures { (a b : Station) (programs : List Program) (m : Meeting) (side : Side) (bytes : List ℕ) → IsStation a → IsStation b
         → Meets a b programs m → Contains (at m side).given bytes → WasMade m side bytes }
 {
-    item_world::laws::end_laws_are_given();
-    item_world::laws::each_step_keeps_the_order();
-    xns_connection::laws::one_story_goes_on();
-    xns_connection::laws::two_programs_agree();
+    meeting_laws_are_given();
 }
 
 /// What a host does at a connection of a meeting leads on, in few steps, to a meeting that has the connection as it is then. At most one step
@@ -152,11 +155,7 @@ pub fn two_hosts_come_to_a_meeting()
         → TakesIn now way bytes result k l → slice_get k.guests.items there ≡ Some None → slice_get l.guests.items there ≡ Some (Some g)
         → IsSentFrom a bytes → HasOpened k l there bytes a }
 {
-    item_world::laws::end_laws_are_given();
-    item_world::laws::each_step_keeps_the_order();
-    item_world::laws::no_world_is_stuck();
-    xns_connection::laws::one_story_goes_on();
-    xns_connection::laws::two_programs_agree();
+    meeting_laws_are_given();
     xns_connection::laws::a_step_keeps_its_promises();
 }
 
@@ -170,11 +169,7 @@ pub fn two_hosts_come_to_a_meeting()
 pub fn the_ends_of_a_meeting_are_not_stuck()
     ensures { (a b : Station) (programs : List Program) (m : Meeting) → IsStation a → IsStation b → Meets a b programs m → CanFinish m }
 {
-    item_world::laws::end_laws_are_given();
-    item_world::laws::each_step_keeps_the_order();
-    item_world::laws::no_world_is_stuck();
-    xns_connection::laws::one_story_goes_on();
-    xns_connection::laws::two_programs_agree();
+    meeting_laws_are_given();
 }
 
 /// What every history of one number of a host comes to. The k-th answer is to the k-th call, and at most one call is not answered

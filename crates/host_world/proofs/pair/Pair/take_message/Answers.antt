@@ -1,6 +1,7 @@
 use Rattle.xns_connection.specs.Step.{Hands}
 use Rattle.xns_connection.specs.declared.connection.Connection.{Connection}
-use Rattle.host_world.proofs.Paired.{at_side, hands_steps, one_waits, pair_hands, pair_hands_none}
+use Rattle.xns_host.proofs.Meant.{handing_steps}
+use Rattle.host_world.proofs.Paired.{at_side, one_waits, pair_hands, pair_hands_none}
 use Rattle.host_world.proofs.pair.Pair.take_message.Goals as goal
 
 pub returns-clause-steps : goal.returns-clause-steps
@@ -11,7 +12,7 @@ returns-clause-steps c =
 pub returns-clause-waits : goal.returns-clause-waits
 returns-clause-waits c =
     one_waits c.args.self.now c.at.result.now c.take_message.new.self c.args.side c.args.now c.at.ensures.value
-    (hands_steps c.a_message_is_handed_as_by_a_step.ensures c.args.now c.at.result.now c.take_message.new.self c.take_message.ensures.step)
+    (handing_steps c.a_message_is_handed_as_by_a_step.ensures c.args.now c.at.result.now c.take_message.new.self c.take_message.ensures.step)
 
 pub returns-clause-none : goal.returns-clause-none
 returns-clause-none c =
