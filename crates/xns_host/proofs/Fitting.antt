@@ -1,7 +1,7 @@
 -- Where no setting is out of its range, each is in its range.
 use Rattle.std.proofs.Common.{◌≡◌, refl, ℕ, ◌≤◌, Bool, true, false, Option, Some, None, arith}
-use Rattle.std.specs.Prelude.{◌==◌, not, if◌then◌else◌}
-use Rattle.std.proofs.lemmas.Bool.{ltb-false}
+use Rattle.std.specs.Prelude.{not, if◌then◌else◌}
+use Rattle.std.proofs.lemmas.Bool.{eqb-false, ltb-false}
 use Rattle.xns_host.specs.Settings.{IsFit, is_within, wrong_setting}
 use Rattle.xns_host.specs.declared.setting.Setting.{Setting}
 use Rattle.xns_host.specs.declared.settings.Settings.{Settings}
@@ -12,9 +12,6 @@ past false x rest none = (refl, none)
 
 within : (low n high : ℕ) → not (is_within low n high) ≡ false → (low ≤ n) × (n ≤ high)
 within low n high is = grind arith
-
-some : (n : ℕ) → (n == 0) ≡ false → 1 ≤ n
-some n is = grind arith
 
 pub fit_of : (s : Settings) → wrong_setting s ≡ None → IsFit s
 fit_of s none =
@@ -36,11 +33,11 @@ fit_of s none =
       connections = connections.1;
       window = within _ _ _ b.0;
       backlog = within _ _ _ c.0;
-      first_wait = some s.first_wait d.0;
+      first_wait = omega (arith, eqb-false s.first_wait 0 d.0);
       longest_wait = ltb-false s.longest_wait s.first_wait e.0;
       some_least_wait = least.0;
       least_wait = least.1;
-      tries = some s.tries g.0;
+      tries = omega (arith, eqb-false s.tries 0 g.0);
       some_patience = patience.0;
       patience = patience.1;
       some_strays = strays.0;

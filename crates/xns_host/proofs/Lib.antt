@@ -16,6 +16,7 @@ pub mod Meant
 pub mod Noting
 mod OnTerms
 mod Openers
+mod Passing
 mod Ordered
 pub mod Placed
 pub mod Registered

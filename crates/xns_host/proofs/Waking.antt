@@ -103,12 +103,9 @@ waking a gs strays time all for_most sized empty wake = record {
   wanted = λ t is. wanted_by a gs strays all for_most sized (wake.wanted t is);
 }
 
-at_zero : (o : Option ℕ) (t : ℕ) → o ≡ Some 0 → IsBy o t
-at_zero o t is = let least : 0 ≤ t = omega arith in subst (λ (p : Option ℕ). IsBy p t) (sym is) least
-
 pub stray_first : (gs : Places) (strays : List Outgoing) (short : Option ℕ) → strays ≢ [] → IsFirstWant strays gs short (Some 0)
 stray_first gs strays short some = record {
-  least = λ t w. at_zero (Some 0) t refl;
+  least = λ t w. let least : 0 ≤ t = omega arith in least;
   wanted = λ t is. let zero_is : 0 ≡ t = cc in subst (λ (n : ℕ). May strays gs short n) zero_is (inl (for_stray some));
 }
 

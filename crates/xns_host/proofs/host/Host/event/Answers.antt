@@ -1,15 +1,15 @@
-use Rattle.std.proofs.Common.{◌≡◌, ◌∙◌, ◌<◌, ap, refl, rules, arith, subst, sym, length, get_or, ℕ, Option, None, Some}
+use Rattle.std.proofs.Common.{◌≡◌, ◌∙◌, ap, refl, rules, subst, sym, ℕ, Option, None, Some}
 use Rattle.std.specs.Prelude.{slice_set}
-use Rattle.std.proofs.lemmas.List.{length-set}
-use Rattle.xns_agenda.specs.Agenda.{Plan, noted}
+use Rattle.xns_agenda.specs.Agenda.{noted}
 use Rattle.xns_host.specs.Hosting.{facts_of}
 use Rattle.xns_host.specs.Events.{event_in}
 use Rattle.xns_host.specs.Places.{AsksEvent, places_with}
 use Rattle.xns_host.specs.declared.guest.Guest.{Guest}
-use Rattle.xns_host.proofs.Noting.{passed_but, told_nothing}
+use Rattle.xns_host.proofs.Noting.{passed_but}
 use Rattle.xns_host.proofs.Apart.{set_there}
 use Rattle.xns_host.proofs.Placed.{asked_quiet, asked_tells}
-use Rattle.xns_host.proofs.Turns.{is_there, back_registered, back_undone, settled_undone, stays_noted, stays_registered, told_stays, told_undone}
+use Rattle.xns_host.proofs.Passing.{none_told}
+use Rattle.xns_host.proofs.Turns.{is_there, settled_undone, stays_noted, stays_registered, told_stays, told_undone}
 use Rattle.xns_host.proofs.host.Host.event.Goals as goal
 
 pub settle_in-requires-clause-others : goal.settle_in-requires-clause-others
@@ -48,21 +48,9 @@ returns-clause-asks c =
 pub invariant_of-self : goal.invariant_of-self
 invariant_of-self c =
     let none : c.index_mut.result.now ≡ None = search rules in
-    let size : length (slice_set c.args.self.now.guests.items c.args.number c.index_mut.result.now) ≡ length c.args.self.now.guests.items
-    = length-set c.args.self.now.guests.items c.args.number c.index_mut.result.now in
-    let less : c.args.number < length c.args.self.now.agenda.dues = omega (arith, c.requires, c.args.self.now.sized) in
-    let read : c.index_mut.result.now ≡ get_or c.args.self.now.guests.items c.args.number c.index_mut.result.now = search rules in
-    record {
-      fit = c.args.self.now.fit;
-      sized = size ∙ c.args.self.now.sized ∙ ap (λ (a : Plan). length a.dues) (sym c.pass_event.ensures.passed);
-      few = omega (arith, size, c.args.self.now.few);
-      settled = size ∙ c.args.self.now.settled;
-      noted = rw c.pass_event.ensures.passed (told_nothing c.args.self.now.agenda c.args.self.now.guests.items c.args.number (length c.args.self.now.agenda.dues)
-          c.index_mut.result.now c.index_mut.result.now c.args.self.now.noted c.pass_event.ensures.room less c.requires read refl
-          (ap (λ (p : Option Guest). event_in c.args.number p) none));
-      registered = back_registered c.args.self.now.register c.args.self.now.guests.items c.args.number c.index_mut.result.now c.index_mut.result.now c.args.self.now.registered refl read;
-      not_done = back_undone c.args.self.now.guests.items c.args.number c.index_mut.result.now c.index_mut.result.now c.args.self.now.not_done refl read;
-    }
+    let kept = none_told c.args.self.now c.pass_event.new.self c.args.number c.index_mut.result.now c.index_mut.result.now
+    c.pass_event.ensures.passed c.pass_event.ensures.room c.requires (search rules) refl (ap (λ (p : Option Guest). event_in c.args.number p) none) in
+    record { fit = c.args.self.now.fit; sized = kept.sized; few = kept.few; settled = kept.settled; noted = kept.noted; registered = kept.registered; not_done = kept.not_done }
 
 pub returns-in_default-clause-asks : goal.returns-in_default-clause-asks
 returns-in_default-clause-asks c =
@@ -74,21 +62,10 @@ pub invariant_of-self-in-Break-1 : goal.invariant_of-self-in-Break-1
 invariant_of-self-in-Break-1 c =
     let none : c.tell.result ≡ None = search rules in
     let same : Some c.tell.new.self ≡ c.index_mut.result.now = ap Some (c.tell.ensures.none none) ∙ sym c.in-Some.is in
-    let size : length (slice_set c.args.self.now.guests.items c.args.number (Some c.tell.new.self)) ≡ length c.args.self.now.guests.items
-    = length-set c.args.self.now.guests.items c.args.number (Some c.tell.new.self) in
-    let less : c.args.number < length c.args.self.now.agenda.dues = omega (arith, c.requires, c.args.self.now.sized) in
-    let read : c.index_mut.result.now ≡ get_or c.args.self.now.guests.items c.args.number c.index_mut.result.now = search rules in
-    record {
-      fit = c.args.self.now.fit;
-      sized = size ∙ c.args.self.now.sized ∙ ap (λ (a : Plan). length a.dues) (sym c.pass_event.ensures.passed);
-      few = omega (arith, size, c.args.self.now.few);
-      settled = size ∙ c.args.self.now.settled;
-      noted = rw c.pass_event.ensures.passed (told_nothing c.args.self.now.agenda c.args.self.now.guests.items c.args.number (length c.args.self.now.agenda.dues)
-          c.index_mut.result.now (Some c.tell.new.self) c.args.self.now.noted c.pass_event.ensures.room less c.requires read same
-          (ap (λ (p : Option Guest). event_in c.args.number p) c.in-Some.is ∙ (sym c.tell.ensures.event ∙ none)));
-      registered = back_registered c.args.self.now.register c.args.self.now.guests.items c.args.number c.index_mut.result.now (Some c.tell.new.self) c.args.self.now.registered same read;
-      not_done = back_undone c.args.self.now.guests.items c.args.number c.index_mut.result.now (Some c.tell.new.self) c.args.self.now.not_done same read;
-    }
+    let kept = none_told c.args.self.now c.pass_event.new.self c.args.number c.index_mut.result.now (Some c.tell.new.self)
+    c.pass_event.ensures.passed c.pass_event.ensures.room c.requires (search rules) same
+    (ap (λ (p : Option Guest). event_in c.args.number p) c.in-Some.is ∙ (sym c.tell.ensures.event ∙ none)) in
+    record { fit = c.args.self.now.fit; sized = kept.sized; few = kept.few; settled = kept.settled; noted = kept.noted; registered = kept.registered; not_done = kept.not_done }
 
 pub returns-in_err-event-clause-asks : goal.returns-in_err-event-clause-asks
 returns-in_err-event-clause-asks c =
