@@ -13,14 +13,12 @@ use Rattle.courier_messages.specs.Phases.{run, said, ◌then◌}
 use Rattle.courier_messages.specs.Called.{called_ending}
 use Rattle.courier_messages.specs.Rejects.{no_such_program, no_such_version, is_outside, version_words}
 use Rattle.courier_messages.specs.Text.{signs}
-use Rattle.courier_sessions.specs.Feeding as feeding
-use Rattle.courier_sessions.specs.Feeding.{most_item}
+use Rattle.courier_sessions.specs.Feeding.{fed_unless}
 use Rattle.courier_sessions.specs.declared.answer.Answer.{Answer}
 use Rattle.courier_sessions.specs.declared.answer.Answer.TheVariants as answers
 use Rattle.courier_sessions.specs.declared.answer_refusal.AnswerRefusal.{AnswerRefusal}
 use Rattle.courier_sessions.specs.declared.answer_refusal.AnswerRefusal.TheVariants as refusals
 use Rattle.courier_sessions.specs.declared.feed_refusal.FeedRefusal.{FeedRefusal}
-use Rattle.courier_sessions.specs.declared.feed_refusal.FeedRefusal.TheVariants as unfed
 use Rattle.courier_sessions.specs.declared.program.Program.{Program}
 use Rattle.courier_sessions.specs.declared.unlisted.Unlisted.{Unlisted}
 use Rattle.courier_sessions.specs.declared.unlisted.Unlisted.TheVariants as unlisted
@@ -75,12 +73,7 @@ after_item a x = after_messages a (said a.phase (signs x)) (run a.phase (signs x
 
 -- the side once an item is taken in, or the first reason why the item is refused, in this order
 abbrev pub fed : Answering → Item → Result Answering FeedRefusal
-fed a x =
-    if a.failed then Err unfed.Stopped
-    else if is_busy a then Err unfed.Busy
-    else if x.attention then Err unfed.Attention
-    else if nat_lt most_item (length x.body) then Err unfed.TooLong
-    else feeding.feed_result (after_item a x)
+fed a x = fed_unless a.failed (is_busy a) x (after_item a x)
 
 -- the side is stopped, and otherwise stays as it was
 abbrev pub IsStopped : Answering → Answering → Type 0

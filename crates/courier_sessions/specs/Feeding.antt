@@ -1,7 +1,8 @@
 -- What is told of an item that is fed to a side of a conversation.
 use Rattle.std.specs.Prelude.{ℕ, ◌+◌, ◌<◌, ◌≡◌, length, Bool, if◌then◌else◌, nat_lt, Result, Ok, Err, IsOk}
 use Rattle.xns_spp.specs.declared.item.Item.{Item}
-use Rattle.courier_messages.specs.Refusal.{Stops}
+use Rattle.courier_messages.specs.Refusal.{Stops, KeepsNothing}
+use Rattle.courier_messages.specs.Conversation.{Phase}
 use Rattle.courier_messages.specs.Message.{most_bytes}
 use Rattle.courier_messages.specs.declared.fault.SessionFault.{SessionFault}
 use Rattle.courier_messages.specs.declared.fault.SessionFault.TheVariants as faults
@@ -48,3 +49,7 @@ Judges (Err e) q = Stops e ⊥ (q ≡ Err e)
 -- an item at which memory may be refused: it would be taken in, and has bytes
 abbrev pub MayGrow : {S : Type 0} → Result S FeedRefusal → Item → Type 0
 MayGrow fed x = IsOk fed × (0 < length x.body)
+
+-- an item that needs no copy: it would be taken in, and nothing is kept of what came before, so its bytes take no memory
+abbrev pub NeedsNoCopy : {S : Type 0} → Result S FeedRefusal → Phase → Type 0
+NeedsNoCopy fed kept = IsOk fed × KeepsNothing kept

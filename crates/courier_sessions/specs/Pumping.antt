@@ -1,7 +1,7 @@
 -- Items that move between a side of a conversation and an end until nothing moves. What is out is sent, as far as the
 -- end accepts it. Once nothing is out, what waits at the end is fed to the side, as far as the side takes it.
-use Rattle.std.specs.Prelude.{◌≡◌, List, [], ◌∷◌, Option, Some, None, Result, Ok, Err, IsOk}
-use Rattle.courier_messages.specs.Refusal.{Stops, KeepsNothing}
+use Rattle.std.specs.Prelude.{◌≡◌, List, [], ◌∷◌, Option, Some, None, Result, Ok, Err}
+use Rattle.courier_messages.specs.Refusal.{Stops}
 use Rattle.xns_spp.specs.Held.{Held, StandsFor}
 use Rattle.xns_spp.specs.Sending.{send_fault, after_send, take_answer, after_take}
 use Rattle.xns_spp.specs.State.{State}
@@ -24,17 +24,13 @@ pub record Side (S : Type 0) : Type 1 where
   pub fed : S → Item → Result S FeedRefusal
   -- how a fault leaves the side
   pub stops : S → S → Type 0
-  -- an item at which memory may be refused
-  pub grows : S → Item → Type 0
-  -- an item whose bytes can be kept where they are, without memory
-  pub uncopied : S → Item → Type 0
 
 -- ---- one item that is fed
 
 -- what a function that feeds an item returns, and the side afterwards; a fault is one that a peer makes
 abbrev pub IsFed : {S : Type 0} → Side S → S → Item → Result (Unit {0}) FeedRefusal → S → Type 0
 IsFed side t x (Ok u) n = side.fed t x ≡ Ok n
-IsFed side t x (Err NoMemory) n = (n ≡ t) × side.grows t x
+IsFed side t x (Err NoMemory) n = (n ≡ t) × MayGrow (side.fed t x) x
 IsFed side t x (Err Attention) n = side.stops t n × (side.fed t x ≡ Err Attention)
 IsFed side t x (Err (Fault f)) n = Stops f ⊥ (side.stops t n × (side.fed t x ≡ Err (Fault f)))
 IsFed side t x (Err Stopped) n = (n ≡ t) × (side.fed t x ≡ Err Stopped)
@@ -84,8 +80,6 @@ caller_side = record {
   with_out = λ t xs. record t { out = xs };
   fed = talk.fed;
   stops = talk.IsStopped;
-  grows = λ t x. MayGrow (talk.fed t x) x;
-  uncopied = λ t x. IsOk (talk.fed t x) × KeepsNothing t.phase;
 }
 
 -- ---- the side that is called
@@ -96,8 +90,6 @@ server_side = record {
   with_out = λ a xs. record a { out = xs };
   fed = answering.fed;
   stops = answering.IsStopped;
-  grows = λ a x. MayGrow (answering.fed a x) x;
-  uncopied = λ a x. IsOk (answering.fed a x) × KeepsNothing a.phase;
 }
 
 -- ---- steps that are taken

@@ -12,11 +12,10 @@ use Rattle.courier_messages.specs.Conversation.{Phase, opening}
 use Rattle.courier_messages.specs.Cutting.{cut, versions_item}
 use Rattle.courier_messages.specs.Phases.{run, said, ◌then◌}
 use Rattle.courier_messages.specs.Text.{signs}
-use Rattle.courier_sessions.specs.Feeding.{most_item, feed_result}
+use Rattle.courier_sessions.specs.Feeding.{fed_unless}
 use Rattle.courier_sessions.specs.declared.call_refusal.CallRefusal.{CallRefusal}
 use Rattle.courier_sessions.specs.declared.call_refusal.CallRefusal.TheVariants as refusals
 use Rattle.courier_sessions.specs.declared.feed_refusal.FeedRefusal.{FeedRefusal}
-use Rattle.courier_sessions.specs.declared.feed_refusal.FeedRefusal.TheVariants as unfed
 
 pub record Talk : Type 0 where
   -- what is kept of the peer's text
@@ -83,11 +82,7 @@ after_item t x = run t.phase (signs x) then λ p. with_ended_messages (record t 
 
 -- the side once an item is taken in, or the first reason why the item is refused, in this order
 abbrev pub fed : Talk → Item → Result Talk FeedRefusal
-fed t x =
-    if t.failed then Err unfed.Stopped
-    else if x.attention then Err unfed.Attention
-    else if nat_lt most_item (length x.body) then Err unfed.TooLong
-    else feed_result (after_item t x)
+fed t x = fed_unless t.failed false x (after_item t x)
 
 -- the side is stopped; what is out and the answer that is there stay
 abbrev pub IsStopped : Talk → Talk → Type 0

@@ -216,12 +216,6 @@ impl Hearer for WordCaller {
     }
 
     ghost fed = { λ s x. refl };
-
-    ghost grows = { λ s x may. may };
-
-    ghost uncopied = { λ s x right empty. (right, empty) };
-
-    ghost right = { λ s x uncopied. uncopied };
 }
 
 impl WordSide for WordCaller {

@@ -17,9 +17,9 @@ pub trait Hearer {
     ghost use Rattle.courier_messages.specs.declared.fault.SessionFault.{SessionFault};
     ghost use Rattle.courier_messages.specs.declared.fault.SessionFault.TheVariants.{NoMemory};
     ghost use Rattle.courier_messages.specs.Conversation.{Phase};
-    ghost use Rattle.courier_messages.specs.Refusal.{ComesTo, KeepsNothing, MakeSecondPiece};
+    ghost use Rattle.courier_messages.specs.Refusal.{ComesTo, KeepsNothing, MayBeKept};
     ghost use Rattle.courier_messages.specs.Text.{item_of};
-    ghost use Rattle.courier_sessions.specs.Feeding.{Judges, MayGrow, fed_unless, look_result};
+    ghost use Rattle.courier_sessions.specs.Feeding.{Judges, fed_unless, look_result};
     ghost use Rattle.courier_sessions.specs.Pumping.{Side};
 
     // What is out at the side, and what comes of an item that it is fed.
@@ -60,8 +60,7 @@ pub trait Hearer {
     /// Takes in one more item, and keeps the message that it ends.
     fn take_item(&mut self, alloc: Global, item: Item) -> Result<(), SessionFault>
         ensures hears { ComesTo result (after self.old item) self.new }
-        ensures memory { result ≡ Err NoMemory → (self.new ≡ self.old) × (0 < length item.body) }
-        ensures kept { result ≡ Err NoMemory → MakeSecondPiece (phase self.old) item.body }
+        ensures memory { result ≡ Err NoMemory → (self.new ≡ self.old) × MayBeKept (phase self.old) item.body }
         ensures out { side.out self.new ≡ side.out self.old };
 
     /// Takes in an item of these parts, whose bytes are copied once nothing is wrong with them.
@@ -101,12 +100,6 @@ pub trait Hearer {
         }
     }
 
-    // Where an item that is fed leads, at which items memory may be refused, and which need no copy.
+    // Where an item that is fed leads.
     ghost fed: { (s : Self) (x : Item) → side.fed s x ≡ fed_unless (stopped s) (busy s) x (after s x) };
-
-    ghost grows: { (s : Self) (x : Item) → MayGrow (side.fed s x) x → side.grows s x };
-
-    ghost uncopied: { (s : Self) (x : Item) → IsOk (side.fed s x) → KeepsNothing (phase s) → side.uncopied s x };
-
-    ghost right: { (s : Self) (x : Item) → side.uncopied s x → IsOk (side.fed s x) × KeepsNothing (phase s) };
 }

@@ -6,6 +6,7 @@ ghost use Rattle.xns_spp.specs.Held.{StandsFor};
 ghost use Rattle.xns_spp.specs.Sending.{send_fault, after_send, take_answer, after_take};
 ghost use Rattle.xns_spp.specs.State.{State};
 ghost use Rattle.xns_spp.specs.declared.item.Item.{Item};
+ghost use Rattle.courier_sessions.specs.Feeding.{NeedsNoCopy};
 ghost use Rattle.courier_sessions.specs.Pumping.{Pumped, RefusesNext, feeds};
 
 use crate::feed_refusal::FeedRefusal;
@@ -54,8 +55,8 @@ fn send_first<S: WordSide>(side: &mut S, endpoint: &mut Endpoint) -> bool
 /// Feeds a side the first item that waits at an endpoint, which hands the item up. The item needs no copy.
 #[inline(always)]
 fn feed_uncopied<S: WordSide>(side: &mut S, alloc: Global, endpoint: &mut Endpoint)
-    ensures fed { (s : State) (x : Item) → StandsFor endpoint.old s → take_answer s ≡ Some x → S.side.uncopied side.old x →
-        S.side.fed side.old x ≡ Ok side.new }
+    ensures fed { (s : State) (x : Item) → StandsFor endpoint.old s → take_answer s ≡ Some x
+        → NeedsNoCopy (S.side.fed side.old x) (S.phase side.old) → S.side.fed side.old x ≡ Ok side.new }
     ensures stands { (s : State) → StandsFor endpoint.old s → StandsFor endpoint.new (after_take s) }
     ensures out { S.side.out side.new ≡ S.side.out side.old }
 {

@@ -311,12 +311,6 @@ impl Hearer for WordServer {
     }
 
     ghost fed = { λ s x. refl };
-
-    ghost grows = { λ s x may. may };
-
-    ghost uncopied = { λ s x right empty. (right, empty) };
-
-    ghost right = { λ s x uncopied. uncopied };
 }
 
 impl WordSide for WordServer {

@@ -12,6 +12,7 @@ use xns_spp::Item;
 pub trait WordSide: Hearer {
     ghost use Rattle.std.specs.Prelude.{◌≡◌, ◌≢◌, ◌<◌, List, [], ◌∷◌, length, true, Some, None, Ok, option_copied};
     ghost use Rattle.xns_spp.specs.declared.item.Item.{Item};
+    ghost use Rattle.courier_sessions.specs.Feeding.{NeedsNoCopy};
     ghost use Rattle.courier_sessions.specs.Pumping.{IsFed};
 
     /// The first item that is to go out, which stays.
@@ -79,7 +80,7 @@ pub trait WordSide: Hearer {
     /// the item's bytes take no memory. The side may also say no where it does not know that nothing is kept.
     #[inline(always)]
     final fn needs_no_copy(&self, item: &Item) -> bool
-        ensures { result ≡ true → Self.side.uncopied self.now item.now }
+        ensures { result ≡ true → NeedsNoCopy (Self.side.fed self.now item.now) (Self.phase self.now) }
     {
         if !self.is_empty() || self.is_stopped() || self.is_busy() {
             return false;
@@ -94,7 +95,7 @@ pub trait WordSide: Hearer {
     /// Takes in an item that needs no copy, and keeps the message that the item ends. For other items there is `feed`.
     #[inline(always)]
     final fn feed_uncopied(&mut self, alloc: Global, item: Item)
-        ensures fed { Self.side.uncopied self.old item → Self.side.fed self.old item ≡ Ok self.new }
+        ensures fed { NeedsNoCopy (Self.side.fed self.old item) (Self.phase self.old) → Self.side.fed self.old item ≡ Ok self.new }
         ensures out { Self.side.out self.new ≡ Self.side.out self.old }
     {
         let _ = self.take_item(alloc, item);
