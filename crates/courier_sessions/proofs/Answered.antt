@@ -188,6 +188,26 @@ idle_by true s o h = absurd cc
 idle_by false true o h = absurd cc
 idle_by false false o h = (refl, refl)
 
+-- one more item was fed, behind which the side is at p, and the call that o holds waits
+takes_on : (programs : List Program) (fed given : List Item) (taken handed answers : List Message) (a : Answering) (x : Item) (p : Phase)
+    (o : Option Message) → HasAnswered programs fed given taken handed answers a → a.asked ≡ None
+    → taken ++ option_to_list o ≡ conversation (fed ++ x ∷ []) → server_ending (fed ++ x ∷ []) ≡ Ok p →
+    HasAnswered programs (fed ++ x ∷ []) given taken handed answers (record a { phase = p; call = o })
+takes_on programs fed given taken handed answers a x p o h idle calls ends = record {
+  table = h.table;
+  going = h.going;
+  items = h.items;
+  good = h.good;
+  numbers = h.numbers;
+  calls = calls;
+  listed = h.listed;
+  single = nothing_asked o;
+  ending = ends;
+} where
+  nothing_asked : (o : Option Message) → IfSome o (λ m. a.asked ≡ None)
+  nothing_asked None = tt
+  nothing_asked (Some m) = idle
+
 feeds_by : (law : OneItemMore) (server : AServerHearsOneItemMore) (programs : List Program) (fed given : List Item)
     (taken handed answers : List Message) (a n : Answering) (x : Item) (p : Phase) (ms : List Message) →
     HasAnswered programs fed given taken handed answers a → a.call ≡ None → a.asked ≡ None
@@ -197,36 +217,14 @@ feeds_by law server programs fed given taken handed answers a n x p [] h empty i
     let more : conversation (fed ++ x ∷ []) ≡ conversation fed = (server.goes fed a.phase x h.ending).said_then
     ∙ ap (λ (ms : List Message). conversation fed ++ ms) hm ∙ append-nil (conversation fed) in
     subst (HasAnswered programs (fed ++ x ∷ []) given taken handed answers) is
-    (record {
-      table = h.table;
-      going = h.going;
-      items = h.items;
-      good = h.good;
-      numbers = h.numbers;
-      listed = h.listed;
-      calls = h.calls
-          ∙ sym more;
-      single = h.single;
-      ending = ends;
-    })
+    (takes_on programs fed given taken handed answers a x p a.call h idle (h.calls ∙ sym more) ends)
 feeds_by law server programs fed given taken handed answers a n x p (m ∷ []) h empty idle hm ends is =
     let more : conversation (fed ++ x ∷ []) ≡ conversation fed ++ m ∷ [] = (server.goes fed a.phase x h.ending).said_then
     ∙ ap (λ (ms : List Message). conversation fed ++ ms) hm in
     let all : taken ≡ conversation fed = sym (append-nil taken) ∙ ap (λ (o : Option Message). taken ++ option_to_list o) (sym empty)
     ∙ h.calls in
     subst (HasAnswered programs (fed ++ x ∷ []) given taken handed answers) is
-    (record {
-      table = h.table;
-      going = h.going;
-      items = h.items;
-      good = h.good;
-      numbers = h.numbers;
-      listed = h.listed;
-      calls =
-          ap (λ (ms : List Message). ms ++ m ∷ []) all ∙ sym more;
-      single = idle;
-      ending = ends;
-    })
+    (takes_on programs fed given taken handed answers a x p (Some m) h idle (ap (λ (ms : List Message). ms ++ m ∷ []) all ∙ sym more) ends)
 feeds_by law server programs fed given taken handed answers a n x p (m ∷ m' ∷ ms) h empty idle hm ends is =
     absurd (two_are_no_one (said a.phase (signs x)) m m' ms hm (law.single x a.phase))
 

@@ -52,16 +52,13 @@ pub none_there : {A : Type 0} (o : Option A) → is_some o ≡ false → o ≡ N
 none_there None h = refl
 none_there (Some m) h = absurd cc
 
-next_number : (t n : ℕ) → t ≡ n % 65536 → (t + 1) % 65536 ≡ (1 + n) % 65536
-next_number t n h = omega (arith, h)
-
 pub calls : (out : MoreCallsGoOut) (made : List RawCall) (fed given : List Item) (handed : List Message) (t : Talk) (c : RawCall) →
     HasDone made fed given handed t → call_refusal t c ≡ None → HasDone (made ++ c ∷ []) fed given handed (called t c)
 calls out made fed given handed t c h free =
     let f = free_by t.failed t.waiting (is_some t.outcome) (length c.words) free in
     let none : t.outcome ≡ None = none_there t.outcome f.1 in
     let last : List Item = cut (call_message (next_transaction t) c) in
-    let next : next_transaction t ≡ (1 + length made) % 65536 = next_number t.transaction (length made) h.transaction in
+    let next : next_transaction t ≡ (1 + length made) % 65536 = omega (arith, h.transaction) in
     let more : length (made ++ c ∷ []) ≡ length made + 1 = length-append made (c ∷ []) in
     let idle : length made ≡ length (conversation fed) + 0 = h.count ∙ ap (λ (w : Bool). length (conversation fed) + count_if w) f.0 in
     record {

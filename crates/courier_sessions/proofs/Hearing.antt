@@ -3,15 +3,15 @@ use Rattle.std.proofs.Common.{◌≡◌, ◌∙◌, ap, sym, refl, subst, List, 
 use Rattle.std.specs.Prelude.{if◌then◌else◌, Some}
 use Rattle.xns_spp.specs.declared.item.Item.{Item}
 use Rattle.courier_messages.specs.declared.fault.SessionFault.{SessionFault}
-use Rattle.courier_messages.specs.declared.fault.SessionFault.TheVariants.{NoCommonVersion, BadVersions, BadMessage, WrongTransaction}
-use Rattle.courier_messages.specs.declared.fault.SessionFault.TheVariants.{BadReply, Stream, NoMemory, Failed}
+use Rattle.courier_messages.specs.declared.fault.SessionFault.TheVariants.{BadReply}
 use Rattle.courier_messages.specs.declared.message.Message.{Message}
 use Rattle.courier_messages.specs.declared.message.Message.TheVariants.{Call, Reject, Return, Abort}
 use Rattle.courier_messages.specs.Conversation.{Phase}
 use Rattle.courier_messages.specs.Phases.{run, said, ◌then◌}
-use Rattle.courier_messages.specs.Refusal.{ComesTo, Stops, UnlessMemory}
+use Rattle.courier_messages.specs.Refusal.{ComesTo, UnlessMemory}
 use Rattle.courier_messages.specs.Called.{all_calls}
 use Rattle.courier_messages.specs.Text.{signs}
+use Rattle.courier_messages.proofs.Runs.{weaker}
 use Rattle.courier_sessions.specs.Answering.{Answering, after_messages, after_item, is_a_call}
 
 pub alone : (m : Message) → all_calls (m ∷ []) ≡ is_a_call m
@@ -46,17 +46,6 @@ pub no_call : (a : Answering) (x y : Item) (p : Phase) (m : Message) → is_a_ca
     said a.phase (signs y) ≡ m ∷ [] → after_item a x ≡ Err BadReply
 no_call a x y p m is e r s = item_is a x y (m ∷ []) (Ok p) e r s ∙ one_said a m (Ok p)
     ∙ ap (λ (b : Bool). (if b then Ok p else Err BadReply) then λ p. Ok (record a { phase = p; call = Some m })) is
-
--- what follows from a fault, and from a want of memory
-pub weaker : {M N P Q : Type 0} (e : SessionFault) → (M → N) → (P → Q) → Stops e M P → Stops e N Q
-weaker NoCommonVersion g f h = f h
-weaker BadVersions g f h = f h
-weaker (BadMessage m) g f h = f h
-weaker WrongTransaction g f h = f h
-weaker BadReply g f h = f h
-weaker (Stream kind) g f h = f h
-weaker NoMemory g f h = g h
-weaker Failed g f h = h
 
 stops_by : (a : Answering) (x y : Item) (e : SessionFault) → y ≡ x → (run a.phase (signs y) ≡ Err e) × (said a.phase (signs y) ≡ []) →
     after_item a x ≡ Err e

@@ -15,7 +15,8 @@ use Rattle.courier_messages.specs.Refusal.{Stops}
 use Rattle.courier_sessions.specs.Answering as answering
 use Rattle.courier_sessions.specs.Answering.{Answering, is_a_call, after_messages}
 use Rattle.courier_sessions.specs.Talk.{Talk, reply_fault, wrong_unless, answered_unless, with_ended_messages, after_item}
-use Rattle.courier_sessions.proofs.Hearing.{nothing_said, one_said, weaker}
+use Rattle.courier_messages.proofs.Runs.{weaker}
+use Rattle.courier_sessions.proofs.Hearing.{nothing_said, one_said}
 
 whole : (m : Message) → m ≡ with_words (head_in m) (words_in m)
 whole (Call t p v q words) = refl

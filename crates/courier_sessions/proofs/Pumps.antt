@@ -1,13 +1,13 @@
 -- What holds while items move.
-use Rattle.std.proofs.Common.{◌≡◌, ℕ, ◌+◌, ◌<◌, ◌≤◌, ◌≢◌, ◌⊎◌, inl, inr, get_or, slice_get, List, [], ◌∷◌, length, Option, Some, None, Ok}
-use Rattle.std.proofs.Common.{Err, refl, sym, ◌∙◌, ap, subst, arith}
-use Rattle.std.proofs.lemmas.Option.{slice_get_past, slice_get_cases}
+use Rattle.std.proofs.Common.{◌≡◌, ℕ, ◌+◌, ◌<◌, ◌≤◌, ◌≢◌, List, [], ◌∷◌, length, Option, Some, None, Result, Ok, Err, refl, sym, ◌∙◌, ap}
+use Rattle.std.proofs.Common.{subst, arith}
+use Rattle.std.proofs.lemmas.Option.{slice_get_past}
 use Rattle.xns_spp.specs.Held.{Held, StandsFor}
 use Rattle.xns_spp.specs.Sending.{send_fault, after_send, take_answer, handing, after_take}
 use Rattle.xns_spp.specs.State.{State}
 use Rattle.xns_spp.specs.declared.item.Item.{Item}
 use Rattle.xns_spp.specs.declared.send_fault.SendFault.{SendFault}
-use Rattle.courier_sessions.specs.Pumping.{Side, sending, feeds, moving, one_step, Leads, on, RefusesNext, Pumped}
+use Rattle.courier_sessions.specs.Pumping.{Side, sending, feeds, moving, one_step, Leads, on, RefusesNext, Settles, Pumped}
 use Rattle.courier_sessions.specs.declared.feed_refusal.FeedRefusal.{FeedRefusal}
 
 -- steps led from the first side and end to these
@@ -23,16 +23,17 @@ pub record Feeding {S : Type 0} (side : Side S) (first : S × State) (session : 
   pub stands : StandsFor endpoint end
   pub left : length end.taken + fed ≡ end.handed + all
 
-there_in : {X : Type 0} (xs : List X) (i : ℕ) → i < length xs → ((x : X) × (i < length xs) × (slice_get xs i ≡ Some x)
-    × (get_or xs i x ≡ x)) ⊎ ((length xs ≤ i) × (slice_get xs i ≡ None)) → (x : X) × (slice_get xs i ≡ Some x)
-there_in xs i h (inl k) = (k.0, k.2)
-there_in xs i h (inr k) = absurd (omega (arith, h, k.0))
-
--- a list has an item of each number below its length
-there_is : {X : Type 0} (xs : List X) (i : ℕ) → i < length xs → (x : X) × (slice_get xs i ≡ Some x)
-there_is xs i h = there_in xs i h (slice_get_cases xs i).1
-
 module _ {S : Type 0} (side : Side S) where
+  -- the items stop moving at the side t and the end that g comes to, with this result
+  rests : (first : S × State) (t n : S) (e f : Held) (r : Result (Unit {0}) FeedRefusal) (v : State) → f ≡ e → Leads side first (t, v) →
+      StandsFor e v → Settles side (t, v) r n → Pumped side first r n f
+  rests first t n e f r v still leads stands settled = record {
+    last = (t, v);
+    leads = leads;
+    stands = subst (λ (d : Held). StandsFor d v) (sym still) stands;
+    settled = settled;
+  }
+
   -- ---- items that are sent
 
   sends : (t : S) (v : State) (x : Item) (xs : List Item) → side.out t ≡ x ∷ xs → send_fault v x ≡ None →
@@ -76,27 +77,27 @@ module _ {S : Type 0} (side : Side S) where
   pub full : (first : S × State) (t n : S) (e f : Held) → n ≡ t → f ≡ e → side.out t ≢ []
       → ((s : State) (x : Item) (xs : List Item) → StandsFor e s → side.out t ≡ x ∷ xs → send_fault s x ≢ None)
       → Going side first t e → Pumped side first (Ok tt) n f
-  full first t n e f same still some h g =
-      record {
-        last = (t, g.end);
-        leads = g.leads;
-        stands = subst (λ (d : Held). StandsFor d g.end) (sym still) g.stands;
-        settled = (same, no_send t g.end (side.out t) refl some (λ x xs is. h g.end x xs g.stands is));
-      }
+  full first t n e f same still some h g = rests first t n e f (Ok tt) g.end still g.leads g.stands
+      (same, no_send t g.end (side.out t) refl some (λ x xs is. h g.end x xs g.stands is))
 
   -- ---- items that are fed
 
   feeding_step : (t : S) (v : State) → side.out t ≡ [] → one_step side (t, v) ≡ feeds side t v (take_answer v)
   feeding_step t v none = ap (λ (o : List Item). moving side t v o) none
 
+  -- a step that feeds the next item hands one up
+  one_handed : (t : S) (v : State) (o : Option Item) (r : Result (S × State) FeedRefusal) → take_answer v ≡ o → feeds side t v o ≡ Some r →
+      after_take v ≡ record v { handed = v.handed + 1 }
+  one_handed t v None r is step = absurd cc
+  one_handed t v (Some x) r is step = ap (λ (o : Option Item). handing o v) is
+
   -- one more item was fed
-  pub fed : (first : S × State) (t n : S) (e f : Held) (all k : ℕ) → side.out t ≡ [] → k < all
+  pub fed : (first : S × State) (t n : S) (e f : Held) (all k : ℕ) → side.out t ≡ []
       → ((s : State) → StandsFor e s → (feeds side t s (take_answer s) ≡ Some (Ok (n, after_take s))) × StandsFor f (after_take s))
       → Feeding side first t e all k → Feeding side first n f all (k + 1)
-  fed first t n e f all k none less h g =
+  fed first t n e f all k none h g =
       let more = h g.end g.stands in
-      let there = there_is g.end.taken g.end.handed (omega (arith, less, g.left)) in
-      let after : after_take g.end ≡ record g.end { handed = g.end.handed + 1 } = ap (λ (o : Option Item). handing o g.end) there.1 in
+      let after = one_handed t g.end (take_answer g.end) (Ok (n, after_take g.end)) refl more.0 in
       let left : length (after_take g.end).taken + (k + 1) ≡ (after_take g.end).handed + all =
       subst (λ (s : State). length s.taken + (k + 1) ≡ s.handed + all) (sym after) (omega (arith, g.left)) in
       record { end = after_take g.end; leads = on g.leads (feeding_step t g.end none ∙ more.0); stands = more.1; left = left }
@@ -106,34 +107,19 @@ module _ {S : Type 0} (side : Side S) where
       ((s : State) → StandsFor e s → RefusesNext side t (take_answer s) refusal n)
       → Feeding side first t e all k → Pumped side first (Err refusal) n f
   refused first t n e f all k refusal none still h g =
-      record {
-        last = (t, g.end);
-        leads = g.leads;
-        stands = subst (λ (d : Held). StandsFor d g.end) (sym still) g.stands;
-        settled =
-            (none, h g.end g.stands);
-      }
+      rests first t n e f (Err refusal) g.end still g.leads g.stands (none, h g.end g.stands)
 
   -- no step applies any more
   pub settles : (first : S × State) (t n : S) (e f : Held) (all k : ℕ) → n ≡ t → f ≡ e → side.out t ≡ [] →
       ((s : State) → StandsFor e s → feeds side t s (take_answer s) ≡ None)
       → Feeding side first t e all k → Pumped side first (Ok tt) n f
-  settles first t n e f all k same still none h g =
-      record {
-        last = (t, g.end);
-        leads = g.leads;
-        stands = subst (λ (d : Held). StandsFor d g.end) (sym still) g.stands;
-        settled = (same, feeding_step t g.end none ∙ h g.end g.stands);
-      }
+  settles first t n e f all k same still none h g = rests first t n e f (Ok tt) g.end still g.leads g.stands
+      (same, feeding_step t g.end none ∙ h g.end g.stands)
 
   -- all that waited was fed
   pub all_fed : (first : S × State) (t : S) (e : Held) (all k : ℕ) → side.out t ≡ [] → all ≤ k → Feeding side first t e all k →
       Pumped side first (Ok tt) t e
   all_fed first t e all k none most g =
       let nothing : take_answer g.end ≡ None = slice_get_past g.end.taken g.end.handed (omega (arith, most, g.left)) in
-      record {
-        last = (t, g.end);
-        leads = g.leads;
-        stands = g.stands;
-        settled = (refl, feeding_step t g.end none ∙ ap (λ (o : Option Item). feeds side t g.end o) nothing);
-      }
+      rests first t t e e (Ok tt) g.end refl g.leads g.stands
+      (refl, feeding_step t g.end none ∙ ap (λ (o : Option Item). feeds side t g.end o) nothing)

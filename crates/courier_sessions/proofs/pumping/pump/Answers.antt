@@ -42,7 +42,7 @@ returns-then-not-branch g c =
 pub loop-2-preserved : goal.loop-2-preserved
 loop-2-preserved g c =
     let one = ap (λ (b : Bool). Ok b) c.if-not-branch.false in (
-      λ s stands. fed g.S.Hearer.side (c.args.side.now, s) c.loop-2.side c.feed_first.new.side c.loop-2.endpoint c.feed_first.new.endpoint c.waiting-end.result c.loop-2.counter c.loop-2.invariant.1 c.loop-2-test.true
+      λ s stands. fed g.S.Hearer.side (c.args.side.now, s) c.loop-2.side c.feed_first.new.side c.loop-2.endpoint c.feed_first.new.endpoint c.waiting-end.result c.loop-2.counter c.loop-2.invariant.1
           (λ u standing. c.in_ok-feed_first.ensures.fed u standing one) (c.loop-2.invariant.0 s stands),
       c.in_ok-feed_first.ensures.out ∙ c.loop-2.invariant.1,
     )
