@@ -1,4 +1,5 @@
--- What a session that answers calls has done with one step more.
+-- What a session that answers calls has done with one step more. Each proof names what the step changes, and takes the rest from what
+-- held before.
 use Rattle.std.proofs.Common.{◌≡◌, ◌∙◌, ap, sym, refl, subst, ℕ, List, [], ◌∷◌, ◌++◌, map, append_assoc, append-nil, length, arith, Bool}
 use Rattle.std.proofs.Common.{true, false, Ok, Err}
 use Rattle.std.specs.Prelude.{Result, Option, Some, None, IfSome, not, cond, nat_lt, ◌||◌, if◌then◌else◌}
@@ -14,7 +15,7 @@ use Rattle.courier_messages.specs.declared.fault.SessionFault.{SessionFault}
 use Rattle.courier_messages.specs.declared.message.Message.{Message}
 use Rattle.courier_messages.specs.Conversation.{Phase, conversation, conversation_fault, ending}
 use Rattle.courier_messages.specs.Cutting.{cut, versions_item}
-use Rattle.courier_messages.specs.Laws.{IsShort, OneItemMore, AServerHearsOneItemMore}
+use Rattle.courier_messages.specs.Laws.{items_of, IsShort, OneItemMore, AServerHearsOneItemMore}
 use Rattle.courier_messages.specs.Message.{most_words, message_words}
 use Rattle.courier_messages.specs.Phases.{run, said, ◌then◌}
 use Rattle.courier_messages.specs.Called.{all_calls, called_ending, server_ending}
@@ -33,34 +34,17 @@ use Rattle.courier_sessions.specs.Answerings.{HasAnswered, IsAnswer, is_answerab
 
 pub start : (programs : List Program) → HasAnswered programs [] [] [] [] [] (new_answering programs)
 unfolding conversation conversation_fault ending all_calls
-start programs = record {
-  table = refl;
-  going = refl;
-  items = refl;
-  good = tt;
-  numbers = refl;
-  calls = refl;
-  listed = refl;
-  single = tt;
-  ending = refl;
-}
+start programs = assumption
 
 -- an item that is given, a call that is handed, and an answer that is made
 
 pub gives : (programs : List Program) (fed given : List Item) (taken handed answers : List Message) (a : Answering) (x : Item)
     (xs : List Item) → HasAnswered programs fed given taken handed answers a → a.out ≡ x ∷ xs →
     HasAnswered programs fed (given ++ x ∷ []) taken handed answers (record a { out = xs })
-gives programs fed given taken handed answers a x xs h e = record {
-  table = h.table;
-  going = h.going;
-  items = append_assoc given (x ∷ []) xs ∙ ap (λ (ys : List Item). given ++ ys) (sym e) ∙ h.items;
-  good = h.good;
-  numbers = h.numbers;
-  calls = h.calls;
-  listed = h.listed;
-  single = h.single;
-  ending = h.ending;
-}
+gives programs fed given taken handed answers a x xs h e =
+    let items : (given ++ x ∷ []) ++ xs ≡ items_of answers = append_assoc given (x ∷ []) xs
+    ∙ ap (λ (ys : List Item). given ++ ys) (sym e) ∙ h.items in
+    assumption (items, h)
 
 listed_by : (old programs : List Program) (m : Message) (o : Option Unlisted) → old ≡ programs → why_unlisted old m ≡ o →
     is_answerable programs m ≡ not (is_some o)
@@ -74,26 +58,24 @@ hands programs fed given taken handed answers a m h e fine =
     let right : is_answerable programs m ≡ true = listed_by a.programs programs m None h.table fine in
     let before : map transaction_in taken ≡ map transaction_in answers = h.numbers
     ∙ ap (λ (o : Option ℕ). map transaction_in answers ++ option_to_list o) none ∙ append-nil (map transaction_in answers) in
-    record {
-      table = h.table;
-      going = h.going;
-      items = h.items;
-      good = h.good;
-      numbers = map-append transaction_in taken (m ∷ []) ∙ ap (λ (ks : List ℕ). ks ++ transaction_in m ∷ []) before;
-      calls = append-nil (taken ++ m ∷ []) ∙ ap (λ (o : Option Message). taken ++ option_to_list o) (sym e) ∙ h.calls;
-      listed = ap (λ (ms : List Message). ms ++ m ∷ []) h.listed ∙ sym
-          (filter-append (is_answerable programs) taken (m ∷ []) ∙ ap (λ (b : Bool). filter (is_answerable programs) taken ++ cond b (m ∷ [])
-          []) right);
-      single = tt;
-      ending = h.ending;
-    }
+    let numbers : map transaction_in (taken ++ m ∷ []) ≡ map transaction_in answers ++ transaction_in m ∷ [] =
+    map-append transaction_in taken (m ∷ []) ∙ ap (λ (ks : List ℕ). ks ++ transaction_in m ∷ []) before in
+    let calls : (taken ++ m ∷ []) ++ [] ≡ conversation fed = append-nil (taken ++ m ∷ [])
+    ∙ ap (λ (o : Option Message). taken ++ option_to_list o) (sym e) ∙ h.calls in
+    let listed : handed ++ m ∷ [] ≡ filter (is_answerable programs) (taken ++ m ∷ []) = ap (λ (ms : List Message). ms ++ m ∷ []) h.listed
+    ∙ sym (filter-append (is_answerable programs) taken (m ∷ []) ∙ ap (λ (b : Bool). filter (is_answerable programs) taken ++ cond b (m ∷ [])
+    []) right) in
+    assumption (numbers, calls, listed, h)
 
 none_waits : (o : Option Message) (s : Option ℕ) (k : ℕ) → IfSome o (λ n. s ≡ None) → s ≡ Some k → o ≡ None
 none_waits None s k h e = refl
 none_waits (Some n) s k h e = absurd cc
 
-cut_more : (ms : List Message) (m : Message) → flat_map cut (ms ++ m ∷ []) ≡ flat_map cut ms ++ cut m
-cut_more ms m = flat_map-append cut ms (m ∷ []) ∙ ap (λ (xs : List Item). flat_map cut ms ++ xs) (append-nil (cut m))
+-- the items of one more answer
+items_more : (given out : List Item) (ms : List Message) (m : Message) → given ++ out ≡ items_of ms →
+    (given ++ out) ++ cut m ≡ items_of (ms ++ m ∷ [])
+items_more given out ms m h = ap (λ (xs : List Item). xs ++ cut m) h ∙ ap (λ (xs : List Item). versions_item ∷ xs)
+    (sym (flat_map-append cut ms (m ∷ []) ∙ ap (λ (xs : List Item). flat_map cut ms ++ xs) (append-nil (cut m))))
 
 reject_number : (k : ℕ) (u : Unlisted) → transaction_in (reject_message k u) ≡ k
 reject_number k unlisted.Program = refl
@@ -115,22 +97,19 @@ rejects programs fed given taken handed answers a m u h e refused =
     let more : map transaction_in (answers ++ reject ∷ []) ≡ map transaction_in answers ++ transaction_in m ∷ [] =
     map-append transaction_in answers (reject ∷ []) ∙ ap (λ (n : ℕ). map transaction_in answers ++ n ∷ [])
     (reject_number (transaction_in m) u) in
-    record {
-      table = h.table;
-      going = h.going;
-      items = sym (append_assoc given a.out (cut reject)) ∙ ap (λ (xs : List Item). xs ++ cut reject) h.items
-          ∙ ap (λ (xs : List Item). versions_item ∷ xs) (sym (cut_more answers reject));
-      good = all_append IsAnswer answers (reject ∷ []) h.good (reject_good (transaction_in m) u, tt);
-      numbers = map-append transaction_in taken (m ∷ []) ∙ ap (λ (ks : List ℕ). ks ++ transaction_in m ∷ []) before ∙ sym more
-          ∙ sym (append-nil (map transaction_in (answers ++ reject ∷ [])))
-          ∙ ap (λ (o : Option ℕ). map transaction_in (answers ++ reject ∷ []) ++ option_to_list o) (sym none);
-      calls = append-nil (taken ++ m ∷ []) ∙ ap (λ (o : Option Message). taken ++ option_to_list o) (sym e) ∙ h.calls;
-      listed = h.listed ∙ sym (filter-append (is_answerable programs) taken (m ∷ [])
-          ∙ ap (λ (b : Bool). filter (is_answerable programs) taken ++ cond b (m ∷ []) []) wrong
-          ∙ append-nil (filter (is_answerable programs) taken));
-      single = tt;
-      ending = h.ending;
-    }
+    let items = sym (append_assoc given a.out (cut reject)) ∙ items_more given a.out answers reject h.items in
+    let good = all_append IsAnswer answers (reject ∷ []) h.good (reject_good (transaction_in m) u, tt) in
+    let numbers : map transaction_in (taken ++ m ∷ []) ≡ map transaction_in (answers ++ reject ∷ []) ++ option_to_list a.asked =
+    map-append transaction_in taken (m ∷ []) ∙ ap (λ (ks : List ℕ). ks ++ transaction_in m ∷ []) before ∙ sym more
+    ∙ sym (append-nil (map transaction_in (answers ++ reject ∷ [])))
+    ∙ ap (λ (o : Option ℕ). map transaction_in (answers ++ reject ∷ []) ++ option_to_list o) (sym none) in
+    let calls : (taken ++ m ∷ []) ++ [] ≡ conversation fed = append-nil (taken ++ m ∷ [])
+    ∙ ap (λ (o : Option Message). taken ++ option_to_list o) (sym e) ∙ h.calls in
+    let listed : handed ≡ filter (is_answerable programs) (taken ++ m ∷ []) = h.listed
+    ∙ sym (filter-append (is_answerable programs) taken (m ∷ [])
+    ∙ ap (λ (b : Bool). filter (is_answerable programs) taken ++ cond b (m ∷ []) []) wrong
+    ∙ append-nil (filter (is_answerable programs) taken)) in
+    assumption (items, good, numbers, calls, listed, h)
 
 answers_right : (answer : Answer) (k : ℕ) (words : List ℕ) → (transaction_in (answer_message answer k words) ≡ k)
     × (is_a_call (answer_message answer k words) ≡ false)
@@ -156,19 +135,14 @@ answers_one programs fed given taken handed answers a answer k words h e fine =
     let right = answers_right answer k words in
     let more : map transaction_in (answers ++ m ∷ []) ≡ map transaction_in answers ++ k ∷ [] = map-append transaction_in answers (m ∷ [])
     ∙ ap (λ (n : ℕ). map transaction_in answers ++ n ∷ []) right.0 in
-    record {
-      table = h.table;
-      going = h.going;
-      items = sym (append_assoc given a.out (cut m)) ∙ ap (λ (xs : List Item). xs ++ cut m) h.items
-          ∙ ap (λ (xs : List Item). versions_item ∷ xs) (sym (cut_more answers m));
-      good = all_append IsAnswer answers (m ∷ []) h.good ((fits a.asked answer k words fine e, right.1), tt);
-      numbers = h.numbers ∙ ap (λ (o : Option ℕ). map transaction_in answers ++ option_to_list o) e ∙ sym more
-          ∙ sym (append-nil (map transaction_in (answers ++ m ∷ [])));
-      calls = ap (λ (o : Option Message). taken ++ option_to_list o) (sym (none_waits a.call a.asked k h.single e)) ∙ h.calls;
-      listed = h.listed;
-      single = tt;
-      ending = h.ending;
-    }
+    let items = sym (append_assoc given a.out (cut m)) ∙ items_more given a.out answers m h.items in
+    let good = all_append IsAnswer answers (m ∷ []) h.good ((fits a.asked answer k words fine e, right.1), tt) in
+    let numbers : map transaction_in taken ≡ map transaction_in (answers ++ m ∷ []) ++ [] = h.numbers
+    ∙ ap (λ (o : Option ℕ). map transaction_in answers ++ option_to_list o) e ∙ sym more
+    ∙ sym (append-nil (map transaction_in (answers ++ m ∷ []))) in
+    let calls : taken ++ [] ≡ conversation fed = ap (λ (o : Option Message). taken ++ option_to_list o)
+    (sym (none_waits a.call a.asked k h.single e)) ∙ h.calls in
+    assumption (items, good, numbers, calls, h)
 
 -- a reject of a call that was not handed is as one of a call that was
 pub refuses : (programs : List Program) (fed given : List Item) (taken handed answers : List Message) (a : Answering) (reason : ℕ)
@@ -193,17 +167,7 @@ takes_on : (programs : List Program) (fed given : List Item) (taken handed answe
     (o : Option Message) → HasAnswered programs fed given taken handed answers a → a.asked ≡ None
     → taken ++ option_to_list o ≡ conversation (fed ++ x ∷ []) → server_ending (fed ++ x ∷ []) ≡ Ok p →
     HasAnswered programs (fed ++ x ∷ []) given taken handed answers (record a { phase = p; call = o })
-takes_on programs fed given taken handed answers a x p o h idle calls ends = record {
-  table = h.table;
-  going = h.going;
-  items = h.items;
-  good = h.good;
-  numbers = h.numbers;
-  calls = calls;
-  listed = h.listed;
-  single = nothing_asked o;
-  ending = ends;
-} where
+takes_on programs fed given taken handed answers a x p o h idle calls ends = assumption (calls, nothing_asked o, ends, h) where
   nothing_asked : (o : Option Message) → IfSome o (λ m. a.asked ≡ None)
   nothing_asked None = tt
   nothing_asked (Some m) = idle

@@ -1,4 +1,4 @@
--- What a session has done with one step more.
+-- What a session has done with one step more. Each proof names what the step changes, and takes the rest from what held before.
 use Rattle.std.proofs.Common.{◌≡◌, ◌∙◌, ap, sym, refl, subst, ℕ, ◌+◌, ◌%◌, ◌≤◌, List, [], ◌∷◌, ◌++◌, length, append_assoc, append-nil}
 use Rattle.std.proofs.Common.{length-append, Bool, true, false, arith, inl, inr, Ok, Err}
 use Rattle.std.specs.Prelude.{Result, Option, Some, None, ◌==◌, ◌&&◌, ◌||◌, nat_lt, if◌then◌else◌}
@@ -22,18 +22,7 @@ use Rattle.courier_sessions.specs.Talks.{HasDone, AreAnswers, answered_call, cou
 
 pub start : HasDone [] [] [] [] new_talk
 unfolding conversation conversation_fault ending call_items AreAnswers
-start = record {
-  going = refl;
-  items = refl;
-  short = tt;
-  transaction = refl;
-  messages = refl;
-  answers = tt;
-  count = refl;
-  single =
-      λ h. refl;
-  ending = refl;
-}
+start = assumption
 
 -- a call
 
@@ -61,49 +50,30 @@ calls out made fed given handed t c h free =
     let next : next_transaction t ≡ (1 + length made) % 65536 = omega (arith, h.transaction) in
     let more : length (made ++ c ∷ []) ≡ length made + 1 = length-append made (c ∷ []) in
     let idle : length made ≡ length (conversation fed) + 0 = h.count ∙ ap (λ (w : Bool). length (conversation fed) + count_if w) f.0 in
-    record {
-      going = h.going;
-      items = sym (append_assoc given t.out last) ∙ ap (λ (xs : List Item). xs ++ last) h.items
-          ∙ ap (λ (n : ℕ). caller_items made ++ cut (call_message n c)) next
-          ∙ ap (λ (xs : List Item). versions_item ∷ xs) (sym (out.one 1 made c));
-      short = all_append IsShortCall made (c ∷ []) h.short (f.2, tt);
-      transaction = next ∙ ap (λ (n : ℕ). n % 65536) (let e : 1 + length made ≡ length (made ++ c ∷ []) = omega (arith, more) in e);
-      messages = h.messages;
-      answers = h.answers;
-      count = omega (arith, more, idle);
-      single = λ w. none;
-      ending = h.ending;
-    }
+    let items : given ++ (t.out ++ last) ≡ caller_items (made ++ c ∷ []) = sym (append_assoc given t.out last)
+    ∙ ap (λ (xs : List Item). xs ++ last) h.items ∙ ap (λ (n : ℕ). caller_items made ++ cut (call_message n c)) next
+    ∙ ap (λ (xs : List Item). versions_item ∷ xs) (sym (out.one 1 made c)) in
+    let short = all_append IsShortCall made (c ∷ []) h.short (f.2, tt) in
+    let same : 1 + length made ≡ length (made ++ c ∷ []) = omega (arith, more) in
+    let transaction : next_transaction t ≡ length (made ++ c ∷ []) % 65536 = next ∙ ap (λ (n : ℕ). n % 65536) same in
+    let count : length (made ++ c ∷ []) ≡ length (conversation fed) + 1 = omega (arith, more, idle) in
+    assumption (items, short, transaction, count, none, h)
 
 -- an item that is given, and an answer that is handed
 
 pub gives : (made : List RawCall) (fed given : List Item) (handed : List Message) (t : Talk) (x : Item) (xs : List Item) →
     HasDone made fed given handed t → t.out ≡ x ∷ xs → HasDone made fed (given ++ x ∷ []) handed (record t { out = xs })
-gives made fed given handed t x xs h e = record {
-  going = h.going;
-  items = append_assoc given (x ∷ []) xs ∙ ap (λ (ys : List Item). given ++ ys) (sym e) ∙ h.items;
-  short = h.short;
-  transaction = h.transaction;
-  messages = h.messages;
-  answers = h.answers;
-  count = h.count;
-  single = h.single;
-  ending = h.ending;
-}
+gives made fed given handed t x xs h e =
+    let items : (given ++ x ∷ []) ++ xs ≡ caller_items made = append_assoc given (x ∷ []) xs
+    ∙ ap (λ (ys : List Item). given ++ ys) (sym e) ∙ h.items in
+    assumption (items, h)
 
 pub hands : (made : List RawCall) (fed given : List Item) (handed : List Message) (t : Talk) (m : Message) →
     HasDone made fed given handed t → t.outcome ≡ Some m → HasDone made fed given (handed ++ m ∷ []) (record t { outcome = None })
-hands made fed given handed t m h e = record {
-  going = h.going;
-  items = h.items;
-  short = h.short;
-  transaction = h.transaction;
-  messages = append-nil (handed ++ m ∷ []) ∙ ap (λ (o : Option Message). handed ++ option_to_list o) (sym e) ∙ h.messages;
-  answers = h.answers;
-  count = h.count;
-  single = λ w. refl;
-  ending = h.ending;
-}
+hands made fed given handed t m h e =
+    let messages : (handed ++ m ∷ []) ++ [] ≡ conversation fed = append-nil (handed ++ m ∷ [])
+    ∙ ap (λ (o : Option Message). handed ++ option_to_list o) (sym e) ∙ h.messages in
+    assumption (messages, h)
 
 -- an item that is fed
 
@@ -146,17 +116,11 @@ silent : (law : OneItemMore) (made : List RawCall) (fed given : List Item) (hand
 silent law made fed given handed t x p h hq hm =
     let same : conversation (fed ++ x ∷ []) ≡ conversation fed = conversation_by law made fed given handed t x h
     ∙ ap (λ (ms : List Message). conversation fed ++ ms) hm ∙ append-nil (conversation fed) in
-    record {
-      going = h.going;
-      items = h.items;
-      short = h.short;
-      transaction = h.transaction;
-      messages = h.messages ∙ sym same;
-      answers = subst (AreAnswers 1) (sym same) h.answers;
-      count = h.count ∙ ap (λ (ms : List Message). length ms + count_if t.waiting) (sym same);
-      single = h.single;
-      ending = ending_by law made fed given handed t x h ∙ hq;
-    }
+    let messages = h.messages ∙ sym same in
+    let answers = subst (AreAnswers 1) (sym same) h.answers in
+    let count = h.count ∙ ap (λ (ms : List Message). length ms + count_if t.waiting) (sym same) in
+    let ending = ending_by law made fed given handed t x h ∙ hq in
+    assumption (messages, answers, count, ending, h)
 
 replied : (law : OneItemMore) (made : List RawCall) (fed given : List Item) (handed : List Message) (t : Talk) (x : Item) (p : Phase)
     (m : Message) → HasDone made fed given handed t → run t.phase (signs x) ≡ Ok p → said t.phase (signs x) ≡ m ∷ [] →
@@ -174,17 +138,12 @@ replied law made fed given handed t x p m h hq hm good =
     ∙ ap (λ (n : ℕ). n % 65536) (let e : length made ≡ 1 + length (conversation fed) = omega (arith, waited) in e) in
     let longer : length (conversation fed ++ m ∷ []) ≡ length (conversation fed) + 1 = length-append (conversation fed) (m ∷ []) in
     let counted : length made ≡ length (conversation fed ++ m ∷ []) + 0 = omega (arith, waited, longer) in
-    record {
-      going = h.going;
-      items = h.items;
-      short = h.short;
-      transaction = h.transaction;
-      messages = ap (λ (ms : List Message). ms ++ m ∷ []) all ∙ sym more;
-      answers = subst (AreAnswers 1) (sym more) (answers_more 1 (conversation fed) m h.answers (is.1 ∙ ap (λ (n : ℕ). Some n) number));
-      count = counted ∙ ap (λ (ms : List Message). length ms + 0) (sym more);
-      single = λ w. absurd (let e = w in cc);
-      ending = ending_by law made fed given handed t x h ∙ hq;
-    }
+    let messages = ap (λ (ms : List Message). ms ++ m ∷ []) all ∙ sym more in
+    let answers = subst (AreAnswers 1) (sym more) (answers_more 1 (conversation fed) m h.answers (is.1 ∙ ap (λ (n : ℕ). Some n) number)) in
+    let count = counted ∙ ap (λ (ms : List Message). length ms + 0) (sym more) in
+    let single : false ≡ true → Some m ≡ None = λ w. absurd cc in
+    let ending = ending_by law made fed given handed t x h ∙ hq in
+    assumption (messages, answers, count, single, ending, h)
 
 pub two_are_no_one : (ms : List Message) (m n : Message) (more : List Message) → ms ≡ m ∷ n ∷ more → length ms ≤ 1 → ⊥
 two_are_no_one ms m n more e few = let l : length ms ≡ length (m ∷ n ∷ more) = ap (length {A = Message}) e in omega (arith, l, few)
