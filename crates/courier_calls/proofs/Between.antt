@@ -4,7 +4,7 @@ use Rattle.std.specs.Prelude.{Result}
 use Rattle.xns_spp.specs.declared.item.Item.{Item}
 use Rattle.courier_messages.specs.declared.fault.MessageFault.{MessageFault}
 use Rattle.courier_messages.specs.declared.fault.SessionFault.{SessionFault}
-use Rattle.courier_messages.specs.declared.fault.SessionFault.TheVariants.{NoCommonVersion, BadVersions, BadMessage, WrongTransaction, BadReply, Stream, NoMemory, Failed}
+use Rattle.courier_messages.specs.declared.fault.SessionFault.TheVariants.{NoMemory}
 use Rattle.courier_messages.specs.declared.message.Message.{Message}
 use Rattle.courier_messages.specs.Conversation.{Phase, opening, fresh, inside}
 use Rattle.courier_messages.specs.Message.{message_of}
@@ -58,11 +58,5 @@ looked p bytes (inr k) may = k
 
 -- what is so at a want of memory stands beside it
 pub wanting : {K : Type 0} (P : Type 0) (e : SessionFault) → (e ≡ NoMemory → K) → UnlessMemory e P → Stops e K P
-wanting P NoCommonVersion k h = h
-wanting P BadVersions k h = h
-wanting P (BadMessage m) k h = h
-wanting P WrongTransaction k h = h
-wanting P BadReply k h = h
-wanting P (Stream kind) k h = h
 wanting P NoMemory k h = k refl
-wanting P Failed k h = h
+wanting P e k h = h

@@ -13,7 +13,7 @@ use Rattle.courier_calls.specs.declared.answering.Target.{Target}
 use Rattle.courier_calls.specs.Calls.{SeenModel, found}
 use Rattle.courier_calls.specs.Table.{ProcedureModel, ErrorModel, EntryModel, table_model, error_of}
 use Rattle.courier_calls.specs.Caller.{CallerState, answer_to, results_in, abort_seen_as, error_in, refusal_in, message_refusal, RefusesMessage, head_fault, target_fault, is_answer_listed, listed_unless, IsRightButForWords, CallerJudges, CallerHears}
-use Rattle.courier_calls.proofs.Serves.{weaker}
+use Rattle.courier_messages.proofs.Runs.{weaker}
 
 whole : (m : Message) → m ≡ with_words (head_in m) (words_in m)
 whole (Call t p v q words) = refl

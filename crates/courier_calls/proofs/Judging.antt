@@ -17,7 +17,7 @@ use Rattle.xns_spp.specs.declared.item.Item.{Item}
 use Rattle.courier_calls.specs.Calls.{Serving}
 use Rattle.courier_calls.specs.Server.{ServerState, ServerJudges, TakesItem}
 use Rattle.courier_calls.specs.declared.call.Call as calls
-use Rattle.courier_calls.proofs.Serves.{weaker}
+use Rattle.courier_messages.proofs.Runs.{weaker}
 
 -- a fault of the text
 pub fault_first : (e : SessionFault) (ms : List Message) (q : Result Phase SessionFault) → Stops e ⊥ ((q ≡ Err e) × (ms ≡ []))

@@ -43,10 +43,10 @@ fn read_return(
     let Ok((_, listed)) = table.find(target.program, target.version, target.procedure) else {
         return Err(SessionFault::BadReply);
     };
-    match message.value(alloc, &listed.results)? {
-        Some(value) => Ok(Seen::Returned(value)),
-        None => Err(SessionFault::BadReply),
-    }
+    let value = message
+        .value(alloc, &listed.results)?
+        .ok_or(SessionFault::BadReply)?;
+    Ok(Seen::Returned(value))
 }
 
 /// Reads the message as the error of this number, of the program that was called.
@@ -70,10 +70,10 @@ fn read_abort(
     let Some(listed) = entry.error(error) else {
         return Err(SessionFault::BadReply);
     };
-    match message.value(alloc, &listed.arguments)? {
-        Some(value) => Ok(Seen::Aborted(error, value)),
-        None => Err(SessionFault::BadReply),
-    }
+    let value = message
+        .value(alloc, &listed.arguments)?
+        .ok_or(SessionFault::BadReply)?;
+    Ok(Seen::Aborted(error, value))
 }
 
 /// Reads the message as the answer to the call that waits. An `Err` says why the message is no answer, or that memory
