@@ -1,6 +1,6 @@
 //! What comes in at a side of a conversation.
 
-ghost use Rattle.std.specs.Prelude.{◌≡◌, [], true, OnOk, Err};
+ghost use Rattle.std.specs.Prelude.{◌≡◌, [], true, Err};
 ghost use Rattle.courier_messages.specs.declared.fault.SessionFault.TheVariants.{NoMemory};
 ghost use Rattle.courier_messages.specs.Conversation.{opening};
 ghost use Rattle.courier_messages.specs.Phases.{run, said};

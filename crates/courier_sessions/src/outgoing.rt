@@ -1,11 +1,9 @@
 //! The bytes of items that are fed, and the words of messages on their way out.
 
-ghost use Rattle.std.specs.Prelude.{◌≡◌, ◌<◌, ℕ, List, ◌++◌, length, false, OnErr, IfOk, Ok};
+ghost use Rattle.std.specs.Prelude.{◌≡◌, ◌<◌, ◌++◌, length, false, OnErr, IfOk, Ok};
 ghost use Rattle.courier_messages.specs.Cutting.{cut};
 ghost use Rattle.courier_messages.specs.Head.{with_words};
-ghost use Rattle.courier_messages.specs.Message.{message_words};
 ghost use Rattle.courier_messages.specs.Text.{item_of};
-ghost use Rattle.courier_messages.specs.declared.head.Head.TheVariants.{Call};
 
 use courier_messages::{Head, MOST_BYTES, put_long, put_whole};
 use std::alloc::{AllocError, Global};

@@ -1,6 +1,6 @@
 //! Items that move between a side of a conversation and an endpoint.
 
-ghost use Rattle.std.specs.Prelude.{◌≡◌, ◌≢◌, ◌<◌, List, ◌∷◌, length, true, false, None, Ok, IfErr, OnErr, Some};
+ghost use Rattle.std.specs.Prelude.{◌≡◌, ◌≢◌, ◌<◌, List, ◌∷◌, length, true, false, None, Ok, IfErr, Some};
 ghost use Rattle.std.specs.Option.{is_some};
 ghost use Rattle.xns_spp.specs.Held.{StandsFor};
 ghost use Rattle.xns_spp.specs.Sending.{send_fault, after_send, take_answer, after_take};

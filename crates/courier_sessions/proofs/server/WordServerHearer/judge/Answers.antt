@@ -1,7 +1,5 @@
-use Rattle.std.proofs.Common.{◌≡◌, ◌∙◌, ap, rules, subst, sym, Err, Option, Result}
-use Rattle.std.specs.Option.{option_to_list}
+use Rattle.std.proofs.Common.{◌≡◌, rules, subst, sym, Err, Result}
 use Rattle.courier_messages.specs.declared.fault.SessionFault.{SessionFault}
-use Rattle.courier_messages.specs.declared.head.Head.{Head}
 use Rattle.courier_messages.specs.Text.{item_of}
 use Rattle.courier_sessions.specs.Answering.{after_item}
 use Rattle.courier_sessions.specs.Feeding.{Judges}
@@ -17,21 +15,13 @@ returns-in_err-head c =
     (item_of c.args.stream c.args.last c.args.body.now) c.in_err-head.ensures))
 
 pub returns-in_default : goal.returns-in_default
-returns-in_default c =
-    let k = c.in_ok-head.ensures in
-    rw (← c.self.view_is) (no_call_yet _ (item_of c.args.stream c.args.last c.args.body.now) k.0
-    (k.1 ∙ ap (λ (o : Option Head). option_to_list o) c.in_default.is))
+returns-in_default c = rw (← c.self.view_is) (no_call_yet _ (item_of c.args.stream c.args.last c.args.body.now)
+    (rw c.in_default.is at c.in_ok-head.ensures))
 
 pub returns-then-is_call : goal.returns-then-is_call
-returns-then-is_call c =
-    let k = c.in_ok-head.ensures in
-    rw (← c.self.view_is) (one_call _
-    (item_of c.args.stream c.args.last c.args.body.now) c.in-Some.head c.is_call.result c.if-is_call.true k.0
-    (k.1 ∙ ap (λ (o : Option Head). option_to_list o) c.in-Some.is) c.is_call.ensures)
+returns-then-is_call c = rw (← c.self.view_is) (one_call _ (item_of c.args.stream c.args.last c.args.body.now) c.in-Some.head
+    c.is_call.result c.if-is_call.true (rw c.in-Some.is at c.in_ok-head.ensures) c.is_call.ensures)
 
 pub returns-else-is_call : goal.returns-else-is_call
-returns-else-is_call c =
-    let k = c.in_ok-head.ensures in
-    rw (← c.self.view_is) (another_message _
-    (item_of c.args.stream c.args.last c.args.body.now) c.in-Some.head c.is_call.result c.if-is_call.false k.0
-    (k.1 ∙ ap (λ (o : Option Head). option_to_list o) c.in-Some.is) c.is_call.ensures)
+returns-else-is_call c = rw (← c.self.view_is) (another_message _ (item_of c.args.stream c.args.last c.args.body.now) c.in-Some.head
+    c.is_call.result c.if-is_call.false (rw c.in-Some.is at c.in_ok-head.ensures) c.is_call.ensures)
