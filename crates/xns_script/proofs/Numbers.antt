@@ -4,7 +4,7 @@ use Rattle.std.specs.Prelude.{nat_le}
 use Rattle.std.specs.Int.{IsInRange}
 use Rattle.std.specs.Fmt.{decimal}
 use Rattle.std.specs.Str.{bytes_eq}
-use Rattle.std.proofs.lemmas.Bool.Decides.{nat_tests}
+use Rattle.std.proofs.lemmas.Bool.{le-leb, leb-true}
 use Rattle.std.proofs.lemmas.Fmt.{decimal-digits_value, decimal_digit, decimal_nonempty, digits_decimal, first_decimal, length-decimal-le}
 use Rattle.std.proofs.lemmas.Slice.Eq.{bytes_eq-Decides}
 use Rattle.std.proofs.lemmas.Str.Parse.{IsNumeralModel, digits_value_short, numerals_by_fold, tells_by_index}
@@ -42,19 +42,13 @@ not_both true true n never = absurd (never refl refl)
 not_both true false n never = refl
 not_both false q n never = refl
 
-le_of : (n most : ℕ) → nat_le n most ≡ true → n ≤ most
-le_of n most e = grind (arith, nat_tests)
-
-le_is : (n most : ℕ) → n ≤ most → nat_le n most ≡ true
-le_is n most le = grind (arith, nat_tests)
-
 -- a word that is no decimal, or that of a greater number
 pub refused : (most : ℕ) (word : List ℕ) → most < 2 ^ 32 → (IsDecimal word → digits_from 0 word ≤ most → ⊥) → None ≡ number_of most word
 unfolding number_of
 refused most word small never =
     not_both (nat_le (digits_from 0 word) most) (bytes_eq (decimal (digits_from 0 word)) word) (digits_from 0 word)
     (λ p q.
-    let le : digits_from 0 word ≤ most = le_of (digits_from 0 word) most p in
+    let le : digits_from 0 word ≤ most = leb-true (digits_from 0 word) most p in
     never (subst IsDecimal ((bytes_eq-Decides (decimal (digits_from 0 word)) word).0 q) (decimal_is (digits_from 0 word) (omega arith))) le)
 
 both : (p q : Bool) (m n : ℕ) → p ≡ true → q ≡ true → n ≡ m → Some n ≡ tested p q m
@@ -67,7 +61,7 @@ unfolding number_of
 accepted most n word small e d le =
     let le' : digits_from 0 word ≤ most = omega arith in
     both (nat_le (digits_from 0 word) most) (bytes_eq (decimal (digits_from 0 word)) word) (digits_from 0 word) n
-    (le_is (digits_from 0 word) most le')
+    (le-leb (digits_from 0 word) most le')
     ((bytes_eq-Decides (decimal (digits_from 0 word)) word).1 (decimal-digits_value own word d.0 d.1.0 d.1.2 (omega arith)))
     e
 

@@ -1,8 +1,8 @@
 -- Calls that a line can make.
-use Rattle.std.proofs.Common.{◌≡◌, ◌∙◌, ap, refl, arith, ℕ, suc, ◌<◌, ◌≤◌, ◌==◌, Bool, true, false, cond, List, [], ◌∷◌, ◌++◌, length, map, Option, Some, None, codes}
-use Rattle.std.specs.Prelude.{◌&&◌, nat_le, nat_lt, IfSome, option_map}
+use Rattle.std.proofs.Common.{◌≡◌, ◌∙◌, ap, refl, arith, ℕ, suc, ◌≤◌, ◌==◌, Bool, true, false, cond, List, [], ◌∷◌, ◌++◌, length, map, Option, Some, None, codes}
+use Rattle.std.specs.Prelude.{◌&&◌, nat_le, IfSome, option_map}
 use Rattle.std.specs.Str.{bytes_eq}
-use Rattle.std.proofs.lemmas.Bool.Decides.{nat_tests}
+use Rattle.std.proofs.lemmas.Bool.{le-leb, leb-true, lt-ltb}
 use Rattle.std.proofs.lemmas.List.Folds.{list_all-append}
 use Rattle.std.proofs.lemmas.List.{map-append}
 use Rattle.courier_messages.specs.RawCalls.{most_call_words}
@@ -26,15 +26,6 @@ either false x y p q = q
 
 -- ---- numbers and words
 
-le_of : (n most : ℕ) → nat_le n most ≡ true → n ≤ most
-le_of n most e = grind (arith, nat_tests)
-
-le_is : (n most : ℕ) → n ≤ most → nat_le n most ≡ true
-le_is n most le = grind (arith, nat_tests)
-
-lt_is : (n most : ℕ) → n < most → nat_lt n most ≡ true
-lt_is n most lt = grind (arith, nat_tests)
-
 tested_small : (p q : Bool) (n most : ℕ) → (p ≡ true → n ≤ most) → IfSome (cond p (cond q (Some n) None) None) (λ m. m ≤ most)
 tested_small true true n most h = h refl
 tested_small true false n most h = tt
@@ -42,7 +33,7 @@ tested_small false q n most h = tt
 
 number_small : (most : ℕ) (word : List ℕ) → IfSome (number_of most word) (λ n. n ≤ most)
 unfolding number_of
-number_small most word = tested_small (nat_le (digits_from 0 word) most) _ (digits_from 0 word) most (le_of (digits_from 0 word) most)
+number_small most word = tested_small (nat_le (digits_from 0 word) most) _ (digits_from 0 word) most (leb-true (digits_from 0 word) most)
 
 put_count : (b : Bool) (byte n : ℕ) (words : List (List ℕ)) → length words ≤ n → length (cond b ([] ∷ words) (put_byte byte words)) ≤ suc n
 put_count true byte n words h = omega arith
@@ -83,7 +74,7 @@ side_said f (Some k) = refl
 
 add_said : (o : Option ℕ) → IfSome o (λ n. n ≤ 65535) → is_said_command (option_map (λ n. calls (add_call n)) o) ≡ true
 add_said None h = refl
-add_said (Some n) h = lt_is n 65536 (omega arith)
+add_said (Some n) h = lt-ltb n 65536 (omega arith)
 
 foreign_said : (s : Option Side) (bs : Option (List ℕ)) → is_said_command (foreign_of s bs) ≡ true
 foreign_said None bs = refl
@@ -95,7 +86,7 @@ raw_said None v q ws h = refl
 raw_said (Some p) None q ws h = refl
 raw_said (Some p) (Some v) None ws h = refl
 raw_said (Some p) (Some v) (Some q) None h = refl
-raw_said (Some p) (Some v) (Some q) (Some ws) h = le_is (length ws) most_call_words h
+raw_said (Some p) (Some v) (Some q) (Some ws) h = le-leb (length ws) most_call_words h
 
 weaker : (o : Option (List ℕ)) (m n : ℕ) → m ≤ n → IfSome o (λ ws. length ws ≤ m) → IfSome o (λ ws. length ws ≤ n)
 weaker None m n le h = tt
