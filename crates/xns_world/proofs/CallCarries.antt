@@ -1,6 +1,6 @@
 -- What is true of a world of calls stays true as a side takes a step, and a side that settles comes to where no step applies.
 use Rattle.std.proofs.Common.{◌<◌, ◌≤◌, inl, inr, length, arith, ◌≡◌, ℕ, List, take, Some, ◌∙◌, ap, subst, sym, true, false, [], ◌∷◌, ◌++◌, refl, ◌+◌, ◌-◌, ◌*◌, Bool, Option, None, length-append}
-use Rattle.std.proofs.lemmas.List.{take-append-le}
+use Rattle.std.proofs.lemmas.List.{take-append-le, take_all}
 use Rattle.std.proofs.lemmas.Option.{slice_get_cases, slice_get_within, get_or_from_slice_get}
 use Rattle.std.specs.Prelude.{slice_get, is_ok, All, nat_lt, ◌==◌, is_some}
 use Rattle.xns_spp.specs.Growth.{Begins}
@@ -9,6 +9,7 @@ use Rattle.courier_messages.specs.Laws.{IsSendableItem}
 use Rattle.xns_spp.specs.Sending.{is_full, send_answer, take_answer, waiting_count, after_send, after_take}
 use Rattle.xns_spp.specs.State.{State, IsState}
 use Rattle.xns_spp.specs.declared.item.Item.{Item}
+use Rattle.item_world.proofs.Fronts.{element}
 use Rattle.item_world.specs.EndLaws.{EndLaws}
 use Rattle.std.proofs.lemmas.Bool.{ltb-true, and_parts, eqb-true, ne_eqb}
 use Rattle.std.proofs.lemmas.List.Elements.{All-take, All-weaker}
@@ -40,8 +41,13 @@ shorter_begins {X} xs ys zs p q h =
 pub front_stays : {X : Type 0} (n : ℕ) (xs ys : List X) → Begins xs ys → n ≤ length xs → take n ys ≡ take n xs
 front_stays n xs ys b h = ap (take n) (sym b.1) ∙ take-append-le n xs b.0 h
 
-pub element_at : {X : Type 0} (xs : List X) (k : ℕ) → k < length xs → (x : X) × (slice_get xs k ≡ Some x)
-element_at xs k less = elim (slice_get_cases xs k).1 [ inl there ↦ (there.0, there.2) | inr past ↦ absurd (omega (arith, less, past.0)) ]
+-- a list that begins another and is as long is the other
+pub same_list : {X : Type 0} (xs ys : List X) → Begins xs ys → length ys ≤ length xs → xs ≡ ys
+same_list xs ys b le = sym (front_of xs ys b) ∙ take_all (length xs) ys le
+
+-- where a list has no element, the list is past its end
+pub none_past : {X : Type 0} (xs : List X) (k : ℕ) → slice_get xs k ≡ None → length xs ≤ k
+none_past xs k none = elim (slice_get_cases xs k).1 [ inl there ↦ absurd (cc (there.2, none)) | inr past ↦ past.0 ]
 
 pub not_refused : EndLaws → (s : State) (x : Item) → IsSendableItem x → is_full s ≡ false → is_ok (send_answer s x) ≡ true
 not_refused laws s x p full = laws.accepts.fits s x p.short p.plain full
@@ -149,7 +155,7 @@ pub record Calls {S : Type 0} (p : Parties S) (w : CallWorld) : Type 0 where
 pub calls : {S : Type 0} (p : Parties S) (w : CallWorld) → PartiesLaws p → CallsHold p w → may_call p w ≡ true → Calls p w
 calls p w g h is =
     let parts = and_parts (length (outcomes_read p w) == w.made) (nat_lt w.made (length p.calls)) is in
-    let e = element_at p.calls w.made (ltb-true w.made (length p.calls) parts.1) in
+    let e = element p.calls w.made (ltb-true w.made (length p.calls) parts.1) in
     let more = one_more p.calls w.made e.0 e.1 in
     record {
       call = e.0;

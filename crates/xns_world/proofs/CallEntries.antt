@@ -12,12 +12,13 @@ use Rattle.xns_spp.specs.Item.{IsItem}
 use Rattle.xns_spp.specs.Sending.{take_answer}
 use Rattle.xns_spp.specs.declared.item.Item.{Item}
 use Rattle.item_world.specs.Channel.{HandsUp}
+use Rattle.item_world.proofs.Fronts.{element}
 use Rattle.item_world.specs.Events as events
 use Rattle.item_world.specs.World.{World, end_at, sends, takes, channel_of, sent_at, handed_at}
 use Rattle.item_world.specs.declared.setup.Setup.{Setup}
 use Rattle.item_world.specs.declared.side.Side.{Side}
 use Rattle.item_world.specs.declared.side.Side.TheVariants.{A, B}
-use Rattle.xns_world.proofs.CallCarries.{faces, begun_items, next_piece, read_more, feeds_hold, calls, not_refused, waiting_item, shorter_begins, front_stays, element_at}
+use Rattle.xns_world.proofs.CallCarries.{faces, begun_items, next_piece, read_more, feeds_hold, calls, not_refused, waiting_item, shorter_begins, front_stays}
 use Rattle.xns_world.proofs.CallRuns.{step_holds, outcomes_begin}
 use Rattle.xns_world.proofs.Stepping.{by_step}
 use Rattle.xns_spp.specs.Fronts.{begins_then, front_begins, one_more, last_of}
@@ -148,7 +149,7 @@ unfolding ledger_as
 lists_entry p w g h is =
     let read = outcomes_read p w in
     let answered = outcomes p.serving p.service (carried_at w) in
-    let e = element_at read w.listed (ltb-true w.listed (length read) is) in
+    let e = element read w.listed (ltb-true w.listed (length read) is) in
     let more = one_more read w.listed e.0 e.1 in
     let front : Begins (take (w.listed + 1) read) answered = begins_then (take (w.listed + 1) read) read answered (front_begins (w.listed + 1) read) (read_begins p w g h) in
     ledger.sees e.0

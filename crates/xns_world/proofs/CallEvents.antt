@@ -23,9 +23,9 @@ use Rattle.item_world.specs.declared.event.Event.TheVariants.{Deliver, Tick}
 use Rattle.item_world.specs.declared.setup.Setup.{Setup}
 use Rattle.item_world.specs.declared.side.Side.{Side}
 use Rattle.item_world.specs.declared.side.Side.TheVariants.{A, B}
-use Rattle.xns_world.proofs.CallCarries.{steps_hold, settles_end}
+use Rattle.xns_world.proofs.CallCarries.{none_past, same_list, steps_hold, settles_end}
 use Rattle.xns_world.proofs.CallMoves.{total, quiet_total, other_on, all_go_on}
-use Rattle.xns_world.proofs.CallStirs.{resting, next_same, not_full, not_both_out, sends_room, all_answered, none_left, none_past, same_items, handed_count, server_front, caller_front}
+use Rattle.xns_world.proofs.CallStirs.{resting, next_same, not_full, not_both_out, sends_room, all_answered, none_left, handed_count, server_front, caller_front}
 use Rattle.xns_world.proofs.CallProgress.{within_bound, bound, all_done, starts}
 use Rattle.xns_world.proofs.CallRuns.{settles_is, arrived, settles_between}
 use Rattle.xns_world.specs.CallLaws.{PartiesLaws}
@@ -238,8 +238,8 @@ idle_by p w g stuck sessions r left a b false false is that =
     let out_b = none_past (put_out p w B) (length (sent_at w.world B)) b in
     let all_b = ltb-false (length (handed_at w.world B)) (length (sent_at w.world A)) is in
     let all_a = ltb-false (length (handed_at w.world A)) (length (sent_at w.world B)) that in
-    let to : handed_at w.world B ≡ put_out p w A = same_items (handed_at w.world B) (put_out p w A) (server_front p w g h) (omega (arith, out_a, all_b)) in
-    let back : handed_at w.world A ≡ put_out p w B = same_items (handed_at w.world A) (put_out p w B) (caller_front p w g h) (omega (arith, out_b, all_a)) in
+    let to : handed_at w.world B ≡ put_out p w A = same_list (handed_at w.world B) (put_out p w A) (server_front p w g h) (omega (arith, out_a, all_b)) in
+    let back : handed_at w.world A ≡ put_out p w B = same_list (handed_at w.world A) (put_out p w B) (caller_front p w g h) (omega (arith, out_b, all_a)) in
     absurd (none_left p w g h (resting p w A (r.rests A)).caller (all_answered p w g sessions h to back) left)
 
 further_by_events : {S : Type 0} (p : Parties S) (w : CallWorld) → PartiesLaws p → NoWorldIsStuck

@@ -1,18 +1,18 @@
 -- How far a play of calls can come, and what is so where it has come there.
-use Rattle.std.proofs.Common.{◌≡◌, ℕ, zero, suc, ◌+◌, ◌≤◌, List, [], ◌∷◌, length, map, sym, ◌∙◌, subst, arith}
-use Rattle.std.proofs.lemmas.List.{length-map, take_all}
+use Rattle.std.proofs.Common.{◌≡◌, ℕ, zero, suc, ◌+◌, ◌≤◌, List, [], ◌∷◌, length, ◌∙◌, subst, arith}
+use Rattle.std.proofs.lemmas.List.{take_all}
 use Rattle.item_world.proofs.Later.{all_later}
-use Rattle.item_world.specs.Later.{Later, as_sent}
+use Rattle.item_world.proofs.Onward.{longer}
 use Rattle.courier_messages.specs.RawCalls.{RawCall, caller_items}
 use Rattle.courier_calls.specs.Calls.{outcomes}
 use Rattle.courier_calls.specs.Server.{server_items}
-use Rattle.xns_spp.specs.Fronts.{begins_length, front_of}
+use Rattle.xns_spp.specs.Fronts.{begins_length}
 use Rattle.xns_spp.specs.Growth.{Begins}
 use Rattle.item_world.specs.Events as events
 use Rattle.item_world.specs.Laws.{NoWorldIsStuck}
-use Rattle.item_world.specs.World.{World, sent_at, handed_at}
+use Rattle.item_world.specs.World.{sent_at, handed_at}
 use Rattle.item_world.specs.declared.side.Side.TheVariants.{A, B}
-use Rattle.xns_world.proofs.CallCarries.{faces}
+use Rattle.xns_world.proofs.CallCarries.{faces, same_list}
 use Rattle.xns_world.proofs.CallRuns.{steps_leave}
 use Rattle.xns_world.proofs.CallEntries.{outcomes_length}
 use Rattle.xns_world.specs.CallLaws.{PartiesLaws}
@@ -57,23 +57,16 @@ all_done p w g h all =
       carried = carried;
       seen = take_all w.listed (outcomes_read p w) (omega (arith, few, made, all)) ∙ read;
     }
-  where
-    same_list : {X : Type 0} (xs ys : List X) → Begins xs ys → length ys ≤ length xs → xs ≡ ys
-    same_list xs ys b le = sym (front_of xs ys b) ∙ take_all (length xs) ys le
-
--- the bag only grows
-pub later_bag : (u v : World) → Later u v → length u.bag ≤ length v.bag
-later_bag u v l = omega (arith, begins_length (map as_sent u.bag) (map as_sent v.bag) l.bag, length-map u.bag as_sent, length-map v.bag as_sent)
 
 step_longer : {S : Type 0} (p : Parties S) (w : CallWorld) (s : CallStep) → PartiesLaws p
     → length w.world.bag ≤ length (call_stepped p w s).world.bag
-step_longer p w (arrival k) g = later_bag w.world (events.stepped w.world (events.arrival k)) (all_later g.answering.ends w.world (events.arrival k ∷ []))
-step_longer p w (noise side bytes) g = later_bag w.world (events.stepped w.world (events.noise side bytes)) (all_later g.answering.ends w.world (events.noise side bytes ∷ []))
-step_longer p w (ticking side) g = later_bag w.world (events.stepped w.world (events.ticking side)) (all_later g.answering.ends w.world (events.ticking side ∷ []))
-step_longer p w (acting side) g = later_bag w.world (call_stepped p w (acting side)).world (steps_leave p g.answering side w (suc zero)).later
-step_longer p w (flushing side) g = later_bag w.world (events.stepped w.world (events.flushing side)) (all_later g.answering.ends w.world (events.flushing side ∷ []))
-step_longer p w (resending side) g = later_bag w.world (events.stepped w.world (events.resending side)) (all_later g.answering.ends w.world (events.resending side ∷ []))
-step_longer p w (telling side asks) g = later_bag w.world (events.stepped w.world (events.telling side asks)) (all_later g.answering.ends w.world (events.telling side asks ∷ []))
+step_longer p w (arrival k) g = longer w.world (events.stepped w.world (events.arrival k)) (all_later g.answering.ends w.world (events.arrival k ∷ []))
+step_longer p w (noise side bytes) g = longer w.world (events.stepped w.world (events.noise side bytes)) (all_later g.answering.ends w.world (events.noise side bytes ∷ []))
+step_longer p w (ticking side) g = longer w.world (events.stepped w.world (events.ticking side)) (all_later g.answering.ends w.world (events.ticking side ∷ []))
+step_longer p w (acting side) g = longer w.world (call_stepped p w (acting side)).world (steps_leave p g.answering side w (suc zero)).later
+step_longer p w (flushing side) g = longer w.world (events.stepped w.world (events.flushing side)) (all_later g.answering.ends w.world (events.flushing side ∷ []))
+step_longer p w (resending side) g = longer w.world (events.stepped w.world (events.resending side)) (all_later g.answering.ends w.world (events.resending side ∷ []))
+step_longer p w (telling side asks) g = longer w.world (events.stepped w.world (events.telling side asks)) (all_later g.answering.ends w.world (events.telling side asks ∷ []))
 
 pub bag_longer : {S : Type 0} (p : Parties S) (w : CallWorld) (ss : List CallStep) → PartiesLaws p
     → length w.world.bag ≤ length (all_call_stepped p w ss).world.bag

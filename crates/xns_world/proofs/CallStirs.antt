@@ -1,8 +1,8 @@
 -- What is so where no side of a play of calls can take a step.
-use Rattle.std.proofs.Common.{◌≡◌, inl, inr, ℕ, ◌-◌, ◌<◌, ◌≤◌, Bool, true, false, nat_lt, List, length, Option, Some, None, refl, sym, ◌∙◌, ap, arith}
+use Rattle.std.proofs.Common.{◌≡◌, inl, inr, ◌-◌, ◌<◌, ◌≤◌, Bool, true, false, nat_lt, List, length, Option, Some, None, refl, ◌∙◌, ap, arith}
 use Rattle.std.specs.Prelude.{slice_get, All, if◌then◌else◌, ◌||◌, ◌==◌, ◌&&◌}
-use Rattle.std.proofs.lemmas.Bool.{ltb-true, ltb-false, ne_eqb, eq-eqb}
-use Rattle.std.proofs.lemmas.List.{length-take, take_all}
+use Rattle.std.proofs.lemmas.Bool.{ltb-false, ne_eqb, eq-eqb}
+use Rattle.std.proofs.lemmas.List.{length-take}
 use Rattle.std.proofs.lemmas.List.Elements.{All-take}
 use Rattle.std.proofs.lemmas.Option.{slice_get_within}
 use Rattle.courier_messages.specs.RawCalls.{caller_items}
@@ -10,7 +10,7 @@ use Rattle.courier_calls.specs.Calls.{IsFitting}
 use Rattle.courier_calls.specs.Caller.{answers}
 use Rattle.courier_calls.specs.Server.{server_items}
 use Rattle.xns_spp.specs.Acceptance.{is_backlog_full}
-use Rattle.xns_spp.specs.Fronts.{begins_length, begins_then, front_begins, front_of}
+use Rattle.xns_spp.specs.Fronts.{begins_length, begins_then, front_begins}
 use Rattle.xns_spp.specs.Growth.{Begins}
 use Rattle.xns_spp.specs.Numbers.{most_items}
 use Rattle.xns_spp.specs.Sending.{is_full, waiting_count, after_send, after_take}
@@ -21,7 +21,7 @@ use Rattle.item_world.specs.Invariant.{Holds}
 use Rattle.item_world.specs.World.{World, end_at, channel_of, sent_at, handed_at}
 use Rattle.item_world.specs.declared.side.Side.{Side}
 use Rattle.item_world.specs.declared.side.Side.TheVariants.{A, B}
-use Rattle.xns_world.proofs.CallCarries.{element_at, faces}
+use Rattle.xns_world.proofs.CallCarries.{faces}
 use Rattle.xns_world.specs.CallLaws.{PartiesLaws}
 use Rattle.xns_world.specs.CallOrder.{CallsHold}
 use Rattle.xns_world.specs.CallProgress.{CarriesAll, CallsGoOn}
@@ -82,13 +82,6 @@ not_full s fits all less =
     ∙ ne_eqb (length s.accepted - s.acknowledged) s.ends.backlog (λ e. omega (arith, e, all, fits.ends.backlog_least))
 
 -- ---- the items that are out
-
-pub none_past : (xs : List Item) (k : ℕ) → slice_get xs k ≡ None → length xs ≤ k
-none_past xs k is = by_test (nat_lt k (length xs)) refl
-  where
-    by_test : (b : Bool) → nat_lt k (length xs) ≡ b → length xs ≤ k
-    by_test true h = let e = element_at xs k (ltb-true k (length xs) h) in absurd (cc (e.1, is))
-    by_test false h = ltb-false k (length xs) h
 
 -- nothing was sent where the end is full: it is not
 pub empty_full : (s : State) → IsState s → length s.accepted ≡ 0 → is_full s ≡ true → ⊥
@@ -154,9 +147,6 @@ pub quiet_caller : {S : Type 0} (p : Parties S) (w : CallWorld) (b c : Bool)
 quiet_caller p w true c h = absurd (cc)
 quiet_caller p w false true h = absurd (cc)
 quiet_caller p w false false h = (refl, refl)
-
-pub same_items : (xs ys : List Item) → Begins xs ys → length ys ≤ length xs → xs ≡ ys
-same_items xs ys b le = sym (front_of xs ys b) ∙ take_all (length xs) ys le
 
 pub all_answered : {S : Type 0} (p : Parties S) (w : CallWorld) → PartiesLaws p → AllIsAnswered p.serving p.service
     → CallsHold p w → handed_at w.world B ≡ put_out p w A → handed_at w.world A ≡ put_out p w B

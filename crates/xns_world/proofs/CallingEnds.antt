@@ -3,7 +3,7 @@ use Rattle.std.proofs.Common.{◌≡◌, ℕ, ◌+◌, ◌<◌, ◌≤◌, Bool,
 use Rattle.std.specs.Prelude.{slice_get, ◌≢◌, nat_lt, ◌==◌, ◌&&◌, if◌then◌else◌, is_some, option_map}
 use Rattle.std.specs.Option.{option_to_list}
 use Rattle.std.proofs.lemmas.Option.{slice_get-map}
-use Rattle.std.proofs.lemmas.Bool.{le-ltb, lt-ltb, ltb-false, eq-eqb, ne_eqb}
+use Rattle.std.proofs.lemmas.Bool.{and_right, le-ltb, lt-ltb, ltb-false, eq-eqb, ne_eqb}
 use Rattle.std.proofs.lemmas.List.{take_all, length-take-le, map-append, length-map}
 use Rattle.courier_messages.specs.RawCalls.{RawCall}
 use Rattle.courier_calls.specs.Calls.{SeenModel, seen_model, raw_call}
@@ -130,13 +130,9 @@ not_answered p e w holds h none apart =
     let n : ℕ = length (outcomes_read p w) in
     ap (λ (b : Bool). b && nat_lt w.made (length p.calls)) (ne_eqb n w.made (λ i. apart (omega (arith, i, all_seen p e w holds h none, h.made))))
 
-not_second : (b c : Bool) → c ≡ false → (b && c) ≡ false
-not_second true c h = h
-not_second false c h = refl
-
 pub none_remain : {S : Type 0} (p : Parties S) (e : CallingEnd) (w : CallWorld) (cs : List Call) → IsCalling p e w → p.calls ≡ map raw_call cs → length cs ≤ e.made → may_call p w ≡ false
 none_remain p e w cs h is most =
-    not_second (length (outcomes_read p w) == w.made) (nat_lt w.made (length p.calls))
+    and_right (length (outcomes_read p w) == w.made) (nat_lt w.made (length p.calls))
     (le-ltb w.made (length p.calls) (omega (arith, most, h.made, ap (length {A = RawCall}) is, length-map cs raw_call)))
 
 pub calling_makes : {S : Type 0} (p : Parties S) (e f : CallingEnd) (w : CallWorld) (cs : List Call) (call : Call) → PartiesLaws p → CallsHold p w → IsCalling p e w → p.calls ≡ map raw_call cs → has_outcome p w ≡ false

@@ -1,6 +1,6 @@
 -- A server's end that settles comes to where no step applies, and stays within its bounds, whatever packets come.
 use Rattle.std.proofs.Common.{◌≡◌, ℕ, ◌+◌, ◌≤◌, Bool, true, false, length, Option, Some, None, refl, sym, subst, arith, zero, suc, List, [], ◌∷◌, ◌++◌, drop, ◌∙◌, append-nil, length-append, inl, inr, fold, Result, Ok, Err, ap}
-use Rattle.std.specs.Prelude.{All, nat_lt, if◌then◌else◌, slice_get, is_ok}
+use Rattle.std.specs.Prelude.{All, nat_lt, if◌then◌else◌, is_ok}
 use Rattle.std.proofs.lemmas.List.Elements.{All-take, All-head, All-tail, All-weaker}
 use Rattle.courier_calls.specs.Calls.{Serving}
 use Rattle.courier_messages.specs.Laws.{IsSendableItem}
@@ -9,7 +9,7 @@ use Rattle.xns_spp.specs.Item.{IsItem, IsShortItem}
 use Rattle.xns_spp.specs.Sending.{is_full, waiting_count, after_send, after_take, after_flush, send_answer}
 use Rattle.xns_spp.specs.State.{State, IsState}
 use Rattle.xns_spp.specs.declared.item.Item.{Item}
-use Rattle.xns_world.proofs.CallCarries.{at_place, not_refused, room_of, room_most, send_room, take_waiting, waiting_item}
+use Rattle.xns_world.proofs.CallCarries.{at_place, none_past, not_refused, room_of, room_most, send_room, take_waiting, waiting_item}
 use Rattle.xns_world.proofs.Stepping.{by_end, steps_are, GoesOn, IfGoesOn, steps_keep, steps_end}
 use Rattle.xns_world.specs.CallLaws.{ServerLaws}
 use Rattle.xns_world.specs.ServeEnd.{next_item_out}
@@ -85,11 +85,6 @@ bytes_past k [] ys h = bytes_behind k ys
 bytes_past zero (x ∷ xs) ys h = absurd (omega (arith, h))
 bytes_past (suc k) (x ∷ xs) ys h = bytes_past k xs ys (omega (arith, h))
 
-none_at : (xs : List Item) (k : ℕ) → slice_get xs k ≡ None → length xs ≤ k
-none_at [] k h = omega arith
-none_at (x ∷ xs) zero h = absurd cc
-none_at (x ∷ xs) (suc k) h = let more = none_at xs k h in omega (arith, more)
-
 -- ---- an end that accepts and hands up nothing
 
 pub out_same : {S : Type 0} (serving : Serving S) (s : S) (v u : State) → u.accepted ≡ v.accepted → handed_up_by u ≡ handed_up_by v → IsOutShort serving s v → IsOutShort serving s u
@@ -139,7 +134,7 @@ takes_out serving s v a brings k none waits =
     let one = a.ends.hands_up.some v e.0 e.1 in
     let up = a.ends.hands_up.more v e.0 e.1 in
     let items : All IsItem (handed_up_by v ++ e.0 ∷ []) = subst (All IsItem) up (All-take IsItem (v.handed + 1) v.taken k.items) in
-    let there = out_after serving s (handed_up_by v) e.0 (length v.accepted) (none_at (server_items serving s (handed_up_by v)) (length v.accepted) none) (brings (handed_up_by v) e.0 items) in
+    let there = out_after serving s (handed_up_by v) e.0 (length v.accepted) (none_past (server_items serving s (handed_up_by v)) (length v.accepted) none) (brings (handed_up_by v) e.0 items) in
     subst (λ (u : State). IsOutShort serving s u) (sym one)
     (subst (λ (l : List Item). length (bytes_in (drop (length v.accepted) (server_items serving s l))) ≤ 131072) (sym up) there)
 

@@ -1,7 +1,7 @@
 -- Steps that are taken until none applies, what is so of the step that an end or a side takes, and what a call's clauses leave.
 use Rattle.std.proofs.Common.{◌≡◌, ℕ, zero, suc, ◌+◌, ◌-◌, ◌<◌, ◌≤◌, Bool, true, false, Option, Some, None, refl, sym, ◌∙◌, ap, subst, arith, Result, Ok, Err}
 use Rattle.xns_world.specs.Settling.{most_steps, onward, after_steps, stepped_out, Stepped, end_step_with}
-use Rattle.std.specs.Prelude.{OnOk, IfOk, nat_lt, if◌then◌else◌}
+use Rattle.std.specs.Prelude.{IfOk, nat_lt, if◌then◌else◌}
 use Rattle.xns_spp.specs.Sending.{is_full, waiting_count, after_send, after_take}
 use Rattle.xns_spp.specs.State.{State}
 use Rattle.xns_spp.specs.declared.item.Item.{Item}
@@ -123,10 +123,6 @@ stops_there step x n b P is few h =
     subst P (stepped_all step x n few stop.none) stop.here
 
 -- ---- what a call's clauses leave
-
-pub ok_then : {T E : Type 0} {P Q : Type 0} (r : Result T E) → OnOk r P → (P → Q) → OnOk r Q
-ok_then (Ok x) h f = f h
-ok_then (Err e) h f = h
 
 pub if_ok_then : {T E : Type 0} {P Q : T → Type 0} (r : Result T E) → IfOk r P → ((x : T) → P x → Q x) → IfOk r Q
 if_ok_then (Ok x) h f = f x h

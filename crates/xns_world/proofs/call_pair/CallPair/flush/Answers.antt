@@ -1,5 +1,5 @@
 use Rattle.xns_world.proofs.CallPlays.{moves_at}
-use Rattle.xns_world.proofs.Stepping.{ok_then}
+use Rattle.item_world.proofs.Quiet.{ok_then}
 use Rattle.item_world.specs.World.{flushes}
 use Rattle.item_world.specs.declared.side.Side.TheVariants.{A, B}
 use Rattle.xns_world.proofs.call_pair.CallPair.flush.Goals as goal

@@ -1,6 +1,6 @@
 use Rattle.std.proofs.Common.{◌≡◌, Some}
 use Rattle.xns_world.proofs.CallPlays.{acts_at}
-use Rattle.xns_world.proofs.Stepping.{ok_then}
+use Rattle.item_world.proofs.Quiet.{ok_then}
 use Rattle.item_world.specs.Landing.{landing}
 use Rattle.item_world.specs.World.{World}
 use Rattle.item_world.specs.declared.side.Side.{Side}

@@ -1,7 +1,7 @@
 use Rattle.std.proofs.Common.{sym, subst}
 use Rattle.courier_calls.specs.Calls.{Serving}
 use Rattle.xns_world.proofs.CallPlays.{caller_stepped, server_stepped}
-use Rattle.xns_world.proofs.Stepping.{ok_then}
+use Rattle.item_world.proofs.Quiet.{ok_then}
 use Rattle.xns_world.proofs.ServingEnds.{stepped_world}
 use Rattle.xns_world.specs.CallLaws.{ServerLaws}
 use Rattle.xns_world.specs.CallPlay.{IsCallPair}

@@ -1,7 +1,7 @@
 use Rattle.std.proofs.Common.{sym, subst}
 use Rattle.xns_world.proofs.CallPlays.{landed}
 use Rattle.xns_world.proofs.CallRuns.{arrived, arrived_nowhere}
-use Rattle.xns_world.proofs.Stepping.{ok_then}
+use Rattle.item_world.proofs.Quiet.{ok_then}
 use Rattle.xns_world.specs.CallPlay.{IsCallPlaying}
 use Rattle.xns_world.specs.CallWorld.{CallWorld, in_world}
 use Rattle.xns_world.proofs.call_play.CallPlay.deliver.Goals as goal

@@ -1,6 +1,6 @@
 use Rattle.std.proofs.Common.{List}
 use Rattle.xns_world.proofs.CallRuns.{settles_between}
-use Rattle.xns_world.proofs.Stepping.{ok_then}
+use Rattle.item_world.proofs.Quiet.{ok_then}
 use Rattle.xns_world.specs.CallPlay.{IsReady}
 use Rattle.xns_world.specs.CallWorld.{Parties, CallWorld, settles}
 use Rattle.item_world.specs.declared.side.Side.{Side}

@@ -1,5 +1,5 @@
 use Rattle.xns_world.proofs.CallPlays.{settled}
-use Rattle.xns_world.proofs.Stepping.{ok_then}
+use Rattle.item_world.proofs.Quiet.{ok_then}
 use Rattle.xns_world.proofs.call_play.CallPlay.settle.Goals as goal
 
 pub returns : goal.returns

@@ -1,5 +1,5 @@
 use Rattle.xns_world.proofs.CallPlays.{ticked}
-use Rattle.xns_world.proofs.Stepping.{ok_then}
+use Rattle.item_world.proofs.Quiet.{ok_then}
 use Rattle.xns_world.specs.CallWorld.{in_world}
 use Rattle.item_world.specs.World.{ticks}
 use Rattle.xns_world.proofs.call_play.CallPlay.tick.Goals as goal

@@ -1,4 +1,4 @@
-use Rattle.xns_world.proofs.Stepping.{ok_then}
+use Rattle.item_world.proofs.Quiet.{ok_then}
 use Rattle.xns_world.specs.Serve.{serve_settles}
 use Rattle.xns_world.proofs.serve.ServePlay.run.Goals as goal
 

@@ -1,7 +1,7 @@
 use Rattle.std.proofs.Common.{◌++◌, Option, refl, sym, ◌∙◌, ap, append-nil}
 use Rattle.std.specs.Option.{option_to_list}
 use Rattle.courier_calls.specs.declared.call.Call.{Call}
-use Rattle.xns_world.proofs.Stepping.{ok_then}
+use Rattle.item_world.proofs.Quiet.{ok_then}
 use Rattle.xns_world.proofs.ServingEnds.{hears_well, hears_badly}
 use Rattle.xns_world.specs.ServeEnd.{server_history}
 use Rattle.xns_world.proofs.serving.ServingEnd.hear.Goals as goal
