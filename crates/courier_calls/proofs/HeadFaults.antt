@@ -9,7 +9,7 @@ use Rattle.courier_messages.specs.declared.message.Message.TheVariants.{Call, Re
 use Rattle.courier_messages.specs.Conversation.{Phase}
 use Rattle.courier_messages.specs.Head.{head_in, with_words, words_in}
 use Rattle.courier_messages.specs.Refusal.{Stops}
-use Rattle.courier_calls.specs.declared.answering.Target.{Target}
+use Rattle.courier_calls.specs.declared.call.Target.{Target}
 use Rattle.courier_calls.specs.Calls.{SeenModel, found}
 use Rattle.courier_calls.specs.Table.{ProcedureModel, ErrorModel, EntryModel, table_model, error_of}
 use Rattle.courier_calls.specs.Caller.{CallerState, answer_to, results_in, abort_seen_as, error_in, refusal_in, message_refusal, RefusesMessage, head_fault, target_fault, is_answer_listed, listed_unless, IsRightButForWords, CallerJudges, CallerHears}

@@ -7,18 +7,10 @@ ghost use Rattle.courier_messages.specs.Head.{with_words, words_in};
 ghost use Rattle.courier_calls.specs.Calls.{SeenModel, found};
 ghost use Rattle.courier_calls.specs.Caller.{abort_seen_as, answer_to, head_fault, is_answer_listed, IsReadAs, results_in, unasked};
 
-use crate::call::Seen;
+use crate::call::{Seen, Target};
 use crate::table::Table;
 use courier_messages::{Head, PiecedMessage, SessionFault};
 use std::alloc::Global;
-
-/// What a call that waits for its answer has called.
-#[derive(Clone, Copy)]
-pub struct Target {
-    pub program: u32,
-    pub version: u16,
-    pub procedure: u16,
-}
 
 /// Reads the message as a reject of this reason, with its words.
 fn read_reject(alloc: Global, reason: u16, message: &PiecedMessage) -> Result<Seen, SessionFault>
