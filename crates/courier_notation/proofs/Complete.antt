@@ -10,7 +10,8 @@ use Rattle.courier_notation.specs.declared.written.Numeric.TheVariants as numeri
 use Rattle.courier_notation.specs.declared.written.Reference.{Reference}
 use Rattle.courier_notation.specs.declared.written.Reference.TheVariants as references
 use Rattle.courier_notation.specs.Written.{TypeModel, FieldModels, no_fields, field_and, CandidateModels, no_candidates, candidate_and, Designator, fields_from, candidates_from}
-use Rattle.courier_notation.specs.Reading.{Fault, ◌>>=◌, Reader, over, behind_comma, others_at, listed, most_parts, name_at, reference_behind, small_or_fault, numeric_at, token_at}
+use Rattle.courier_notation.specs.Failing.{◌>>=◌, over}
+use Rattle.courier_notation.specs.Reading.{Fault, Reader, behind_comma, others_at, listed, most_parts, name_at, reference_behind, small_or_fault, numeric_at, token_at}
 use Rattle.courier_notation.specs.Reading.{member_at, designator_behind, designator_at, field_at, fields_behind, fields_at, candidate_at, tag_at, maximum_at, enumeration_behind, array_behind, sequence_behind, choice_behind, record_behind, type_behind, type_at}
 use Rattle.courier_notation.specs.Spelling.{name_spelling, numeric_spelling, maximum_spelling, tag_spelling, member_spelling, designator_spelling, more_spelling, parts_spelling}
 use Rattle.courier_notation.specs.Spelling.{type_spelling, fields_spelling, more_fields_spelling, candidates_spelling, more_candidates_spelling, IsNumeric, IsNumberIfAny, AreParts, field_count, candidate_count, IsType, AreFields, AreCandidates, is_apart}

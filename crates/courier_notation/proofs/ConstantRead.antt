@@ -7,11 +7,13 @@ use Rattle.courier_notation.specs.declared.token.Token.{Token}
 use Rattle.courier_notation.specs.declared.token.Token.TheVariants as tokens
 use Rattle.courier_notation.specs.declared.written.Reference.{Reference}
 use Rattle.courier_notation.specs.declared.written.Reference.TheVariants as references
-use Rattle.courier_notation.specs.Reading.{Fault, ◌>>=◌, Reader, over, behind_comma, others_at, listed, most_parts, reference_behind, token_at}
+use Rattle.courier_notation.specs.Failing.{◌>>=◌, over}
+use Rattle.courier_notation.specs.Reading.{Fault, Reader, behind_comma, others_at, listed, most_parts, reference_behind, token_at}
 use Rattle.courier_notation.specs.Programs.{long_number, begins_constant, chosen_behind, component_behind, element_at, elements_behind, constant_behind, constant_at}
 use Rattle.courier_notation.specs.Spelling.{reference_spelling}
 use Rattle.courier_notation.specs.ProgramSpelling.{SpellsConstant, SpellsElement, SpellsElements, number, negative, quoted, is_true, is_false, named, chosen, nothing, listed as listed_elements, alone, component, last, more}
-use Rattle.courier_notation.proofs.Takes.{ok_is, bind_ok, over_ok, Takes, Takes-then, Takes-behind, Takes-one, reference_takes, others_ok, comma_is, close_bracket_is}
+use Rattle.courier_notation.proofs.Failing.{ok_is, bind_ok, over_ok}
+use Rattle.courier_notation.proofs.Takes.{Takes, Takes-then, Takes-behind, Takes-one, reference_takes, others_ok, comma_is, close_bracket_is}
 use Rattle.courier_notation.proofs.Complete.{last_read, more_read}
 
 -- ---- what is read is spelled

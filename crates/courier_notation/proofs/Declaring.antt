@@ -1,12 +1,14 @@
 -- Declarations that are read one after the other, as a loop does.
 use Rattle.std.proofs.Common.{◌≡◌, ℕ, zero, suc, ◌-◌, ◌+◌, ◌≤◌, ◌<◌, Bool, true, false, cond, List, [], ◌∷◌, ◌++◌, length, Result, Ok, Err, refl, sym, ap, ◌∙◌, arith}
 use Rattle.std.proofs.lemmas.List.{append-nil}
+use Rattle.courier_notation.specs.declared.reason.Reason.{Reason}
 use Rattle.courier_notation.specs.declared.reason.Reason.TheVariants.{TooManyDeclarations}
-use Rattle.courier_notation.specs.declared.stop.Stop.{Stop}
-use Rattle.courier_notation.specs.declared.stop.Stop.TheVariants as stops
+use Rattle.courier_notation.specs.declared.failure.Failure.{Failure}
+use Rattle.courier_notation.specs.declared.failure.Failure.TheVariants as failures
 use Rattle.courier_notation.specs.declared.token.Token.{Token}
 use Rattle.courier_notation.specs.ProgramModels.{DeclaredModel}
-use Rattle.courier_notation.specs.Reading.{Fault, ◌>>=◌, Fails, over}
+use Rattle.courier_notation.specs.Failing.{◌>>=◌, Fails, over}
+use Rattle.courier_notation.specs.Reading.{Fault}
 use Rattle.courier_notation.specs.Programs.{declaration_at, declarations_at, is_end}
 use Rattle.courier_notation.proofs.Listing.{regroup, with_front}
 
@@ -25,12 +27,12 @@ one_more front most i ts x after total lt goes h so_far =
     let stepped : with_front front (declarations_at (most - i) ts) ≡ with_front (front ++ x ∷ []) (declarations_at (most - (i + 1)) after) = rw (k, step (most - (i + 1)) ts goes, h) (regroup front x (declarations_at (most - (i + 1)) after)) in
     sym stepped ∙ so_far
 
-pub one_fails : (e : Stop) (front : Declarations) (most i : ℕ) (ts : List Token) (total : Result (Declarations × List Token) Fault) → i < most → is_end ts ≡ false → Fails e (declaration_at ts)
+pub one_fails : (e : Failure ℕ Reason) (front : Declarations) (most i : ℕ) (ts : List Token) (total : Result (Declarations × List Token) Fault) → i < most → is_end ts ≡ false → Fails e (declaration_at ts)
     → with_front front (declarations_at (most - i) ts) ≡ total → Fails e total
-one_fails stops.NoMemory front most i ts total lt goes h so_far = tt
-one_fails (stops.Wrong left reason) front most i ts total lt goes h so_far =
+one_fails failures.NoMemory front most i ts total lt goes h so_far = tt
+one_fails (failures.Wrong place reason) front most i ts total lt goes h so_far =
     let k : most - i ≡ suc (most - (i + 1)) = omega arith in
-    let stepped : with_front front (declarations_at (most - i) ts) ≡ Err (left, reason) = rw (k, step (most - (i + 1)) ts goes, h) refl in
+    let stepped : with_front front (declarations_at (most - i) ts) ≡ Err (place, reason) = rw (k, step (most - (i + 1)) ts goes, h) refl in
     sym so_far ∙ stepped
 
 end_step : (n : ℕ) (ts : List Token) → is_end ts ≡ true → declarations_at (suc n) ts ≡ Ok ([], ts)

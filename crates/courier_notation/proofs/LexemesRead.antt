@@ -1,8 +1,8 @@
 -- Lexemes that are written with a blank behind each are read again.
-use Rattle.std.proofs.Common.{◌≡◌, ℕ, zero, suc, ◌+◌, ◌-◌, ◌^◌, ◌<◌, ◌≤◌, ◌==◌, ◌&&◌, Bool, true, false, cond, List, [], ◌∷◌, ◌++◌, length, Option, Some, None, Result, Ok, Err, refl, sym, ap, ◌∙◌, append_assoc, arith, rules}
+use Rattle.std.proofs.Common.{◌≡◌, ℕ, zero, suc, ◌+◌, ◌-◌, ◌^◌, ◌<◌, ◌≤◌, ◌==◌, Bool, true, false, cond, List, [], ◌∷◌, ◌++◌, length, Option, Some, None, Result, Ok, Err, refl, sym, ap, ◌∙◌, append_assoc, arith, rules}
 use Rattle.std.specs.Fmt.{decimal}
 use Rattle.std.specs.List.{AllByRecursion, list_all}
-use Rattle.std.proofs.lemmas.Bool.{lt-ltb, le-leb}
+use Rattle.std.proofs.lemmas.Bool.{and_parts, lt-ltb, le-leb}
 use Rattle.std.proofs.lemmas.Bool.Decides.{nat_tests}
 use Rattle.std.proofs.lemmas.Fmt.{decimal_nonempty, digits_decimal, digits_value-decimal}
 use Rattle.std.proofs.lemmas.Str.Parse.{IsNumeralModel, numerals_by_fold}
@@ -14,21 +14,17 @@ use Rattle.courier_notation.specs.Lexing.{is_blank, is_letter, is_digit, is_name
 use Rattle.courier_notation.specs.LexemeSpelling.{lexeme_spelling, IsPlain, IsWord, IsLexeme, lexemes_spelling, lexing_with}
 use Rattle.courier_notation.specs.Laws.{SpelledLexemesAreRead}
 
-both : (a b : Bool) → (a && b) ≡ true → (a ≡ true) × (b ≡ true)
-both true b h = (refl, h)
-both false b h = absurd (cc)
-
 -- bytes that pass a test, up to one that fails it
 front_up : (test : ℕ → Bool) (bytes : List ℕ) (q : ℕ) (text : List ℕ) → list_all test bytes ≡ true → test q ≡ false → passing_front test (bytes ++ q ∷ text) ≡ bytes
 front_up test [] q text h f = ap (λ (t : Bool). cond t (q ∷ passing_front test text) []) f
 front_up test (b ∷ bytes) q text h f =
-    let p = both (test b) (list_all test bytes) h in
+    let p = and_parts (test b) (list_all test bytes) h in
     ap (λ (t : Bool). cond t (b ∷ passing_front test (bytes ++ q ∷ text)) []) p.0 ∙ ap (λ (l : List ℕ). b ∷ l) (front_up test bytes q text p.1 f)
 
 behind_up : (test : ℕ → Bool) (bytes : List ℕ) (q : ℕ) (text : List ℕ) → list_all test bytes ≡ true → test q ≡ false → behind_front test (bytes ++ q ∷ text) ≡ q ∷ text
 behind_up test [] q text h f = ap (λ (t : Bool). cond t (behind_front test text) (q ∷ text)) f
 behind_up test (b ∷ bytes) q text h f =
-    let p = both (test b) (list_all test bytes) h in
+    let p = and_parts (test b) (list_all test bytes) h in
     ap (λ (t : Bool). cond t (behind_front test (bytes ++ q ∷ text)) (b ∷ bytes ++ q ∷ text)) p.0 ∙ behind_up test bytes q text p.1 f
 
 -- ---- blanks
@@ -113,12 +109,12 @@ by_digit b bytes h = rw (digit_letter b h, h) refl
 
 number_read : (ds text : List ℕ) (n : ℕ) → 0 < length ds → list_all is_digit ds ≡ true → digits_number 0 ds ≡ n → n < 4294967296 → lexeme_in (ds ++ 32 ∷ text) ≡ Ok (LexemeModel.plain (tokens.Number n), 32 ∷ text)
 number_read [] text n some h e lt = absurd (omega arith)
-number_read (d ∷ ds) text n some h e lt = by_digit d (ds ++ 32 ∷ text) (both (is_digit d) (list_all is_digit ds) h).0 ∙ digits_read (d ∷ ds) text n h e lt
+number_read (d ∷ ds) text n some h e lt = by_digit d (ds ++ 32 ∷ text) (and_parts (is_digit d) (list_all is_digit ds) h).0 ∙ digits_read (d ∷ ds) text n h e lt
 
 number_clean : (ds text : List ℕ) → 0 < length ds → list_all is_digit ds ≡ true → skipped false (ds ++ 32 ∷ text) ≡ ds ++ 32 ∷ text
 number_clean [] text some h = absurd (omega arith)
 number_clean (d ∷ ds) text some h =
-    let digit = (both (is_digit d) (list_all is_digit ds) h).0 in
+    let digit = (and_parts (is_digit d) (list_all is_digit ds) h).0 in
     word_clean d ds text (digit_dash d digit) (digit_blank d digit)
 
 wide : (n : ℕ) → n < 4294967296 → n < 2 ^ 64

@@ -1,9 +1,11 @@
 -- A text read token by token, as the loop does.
 use Rattle.std.proofs.Common.{◌≡◌, ℕ, suc, ◌-◌, ◌+◌, ◌≤◌, ◌<◌, List, [], ◌∷◌, length, false, Result, Ok, Err, refl, sym, ap, ◌∙◌, ◌⊎◌, inl, inr, arith}
+use Rattle.courier_notation.specs.declared.reason.Reason.{Reason}
 use Rattle.courier_notation.specs.declared.reason.Reason.TheVariants.{TooManyTokens}
-use Rattle.courier_notation.specs.declared.stop.Stop.{Stop}
-use Rattle.courier_notation.specs.declared.stop.Stop.TheVariants as stops
-use Rattle.courier_notation.specs.Reading.{Fault, Fails}
+use Rattle.courier_notation.specs.declared.failure.Failure.{Failure}
+use Rattle.courier_notation.specs.declared.failure.Failure.TheVariants as failures
+use Rattle.courier_notation.specs.Failing.{Fails}
+use Rattle.courier_notation.specs.Reading.{Fault}
 use Rattle.courier_notation.specs.Lexing.{HasToken, Lexing, LexemeModel, with_lexeme, lexeme_in, skipped, lexed_at, lexed_from}
 
 -- a text that has bytes is its first byte and the others
@@ -15,13 +17,13 @@ text_ends most i lexing rest [] total lt h none so_far =
     sym so_far ∙ step
 text_ends most i lexing rest (b ∷ bytes) total lt h none so_far = absurd (omega arith)
 
-pub token_fails : (e : Stop) (most i : ℕ) (lexing : Lexing) (rest begun : List ℕ) (total : Result Lexing Fault) → i < most → begun ≡ skipped false rest → 0 < length begun → Fails e (lexeme_in begun) → lexed_from (most - i) lexing rest ≡ total → Fails e total
+pub token_fails : (e : Failure ℕ Reason) (most i : ℕ) (lexing : Lexing) (rest begun : List ℕ) (total : Result Lexing Fault) → i < most → begun ≡ skipped false rest → 0 < length begun → Fails e (lexeme_in begun) → lexed_from (most - i) lexing rest ≡ total → Fails e total
 unfolding lexed_from lexed_at
-token_fails stops.NoMemory most i lexing rest begun total lt h some f so_far = tt
-token_fails (stops.Wrong left reason) most i lexing rest [] total lt h some f so_far = absurd (omega arith)
-token_fails (stops.Wrong left reason) most i lexing rest (b ∷ bytes) total lt h some f so_far =
+token_fails failures.NoMemory most i lexing rest begun total lt h some f so_far = tt
+token_fails (failures.Wrong place reason) most i lexing rest [] total lt h some f so_far = absurd (omega arith)
+token_fails (failures.Wrong place reason) most i lexing rest (b ∷ bytes) total lt h some f so_far =
     let k : most - i ≡ suc (most - (i + 1)) = omega arith in
-    let step : lexed_from (most - i) lexing rest ≡ Err (left, reason) = rw (k, ← h, f) refl in
+    let step : lexed_from (most - i) lexing rest ≡ Err (place, reason) = rw (k, ← h, f) refl in
     sym so_far ∙ step
 
 pub token_read : (most i : ℕ) (lexing : Lexing) (rest begun : List ℕ) (lexeme : LexemeModel) (behind : List ℕ) (total : Result Lexing Fault) → i < most → begun ≡ skipped false rest → 0 < length begun → lexeme_in begun ≡ Ok (lexeme, behind)

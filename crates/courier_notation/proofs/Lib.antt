@@ -1,3 +1,4 @@
+pub mod Failing
 pub mod Listing
 pub mod Models
 pub mod Takes

@@ -1,12 +1,15 @@
 -- Parts that are read one after the other, as a loop does.
 use Rattle.std.proofs.Common.{◌≡◌, ℕ, zero, suc, ◌-◌, ◌+◌, ◌≤◌, ◌<◌, ◌⊎◌, inl, inr, IsOk, List, [], ◌∷◌, ◌++◌, length, map, Some, None, Result, Ok, Err, refl, sym, ap, ◌∙◌, append_assoc, arith}
 use Rattle.std.proofs.lemmas.List.{map_push}
+use Rattle.courier_notation.specs.declared.reason.Reason.{Reason}
 use Rattle.courier_notation.specs.declared.reason.Reason.TheVariants.{TooManyParts}
-use Rattle.courier_notation.specs.declared.stop.Stop.{Stop}
-use Rattle.courier_notation.specs.declared.stop.Stop.TheVariants as stops
+use Rattle.courier_notation.specs.declared.failure.Failure.{Failure}
+use Rattle.courier_notation.specs.declared.failure.Failure.TheVariants as failures
 use Rattle.courier_notation.specs.declared.token.Token.{Token}
-use Rattle.courier_notation.specs.Reading.{Fault, ◌>>=◌, Fails, IsWanted, Stops, Reader, over, passed, behind_comma, listed, most_parts, name_at, designator_at, field_at, candidate_at}
+use Rattle.courier_notation.specs.Failing.{◌>>=◌, Fails, Stops, over}
+use Rattle.courier_notation.specs.Reading.{Fault, Reader, passed, behind_comma, listed, most_parts, name_at, designator_at, field_at, candidate_at}
 use Rattle.courier_notation.specs.Written.{Designator, TypeModel}
+use Rattle.courier_notation.proofs.Failing.{bind_ok, first_was_right}
 
 -- what was read before, and what is still read
 abbrev pub with_front : {A : Type 0} → List A → Result (List A × List Token) Fault → Result (List A × List Token) Fault
@@ -51,12 +54,12 @@ goes_on {one} {most} {i} {front} {longer} {ts} {next} {x} r lt h comma more begi
     record { so_far = sym step ∙ r.so_far; first = inr (first_begins r begins) }
 
 -- a part that is none
-pub ends : {A B : Type 0} {one : Reader A} {start : Reader B} {most i : ℕ} {front : List A} {ts tokens : List Token} → IsReadTo one start most front i ts tokens → i < most → (e : Stop) → Fails e (one ts) → Fails e (listed one most tokens)
+pub ends : {A B : Type 0} {one : Reader A} {start : Reader B} {most i : ℕ} {front : List A} {ts tokens : List Token} → IsReadTo one start most front i ts tokens → i < most → (e : Failure ℕ Reason) → Fails e (one ts) → Fails e (listed one most tokens)
 unfolding listed
-ends r lt stops.NoMemory h = tt
-ends {one} {most} {i} {front} {ts} r lt (stops.Wrong left reason) h =
+ends r lt failures.NoMemory h = tt
+ends {one} {most} {i} {front} {ts} r lt (failures.Wrong place reason) h =
     let k : most - i ≡ suc (most - (i + 1)) = omega arith in
-    let step : with_front front (listed one (most - i) ts) ≡ Err (left, reason) = rw (k, h) refl in
+    let step : with_front front (listed one (most - i) ts) ≡ Err (place, reason) = rw (k, h) refl in
     sym r.so_far ∙ step
 
 -- a part, and no comma behind it
@@ -76,43 +79,21 @@ is_full {one} {most} {i} {front} {ts} r le =
     let step : with_front front (listed one (most - i) ts) ≡ Err (length ts, TooManyParts) = rw k refl in
     sym r.so_far ∙ step
 
--- a reader that wants no memory stops there
-pub stops_fails : {Y : Type 0} (e : Stop) (reading : Result Y Fault) → Stops e reading → Fails e reading
-stops_fails (stops.Wrong left reason) reading h = h
-stops_fails stops.NoMemory reading h = tt
-
 -- parts that are seen otherwise, and one more of them
 pub seen_push : {P A : Type 0} (view : P → A) (parts : List P) (x : P) {longer : List P} → longer ≡ parts ++ x ∷ [] → map view longer ≡ map view parts ++ view x ∷ []
 seen_push view parts x h = ap (map view) h ∙ map_push view parts x
 
 -- ---- the first part, behind which a list grows
 
--- memory was wanted of more, where it was of less
-pub wants_more : (e : Stop) (P Q : Type 0) → (P → Q) → IsWanted e P → IsWanted e Q
-wants_more (stops.Wrong left reason) P Q f h = tt
-wants_more stops.NoMemory P Q f h = f h
-
-pub wanted : (e : Stop) (P : Type 0) → P → IsWanted e P
-wanted (stops.Wrong left reason) P h = tt
-wanted stops.NoMemory P h = h
-
-pub is_right : {A : Type 0} {read : Result A Fault} {x : A} → read ≡ Ok x → IsOk read
-is_right h = rw h refl
-
--- a step was right, behind which something was answered
-first_of_step : {A B : Type 0} (read : Result A Fault) (f : A → Result B Fault) → IsOk (read >>= f) → IsOk read
-first_of_step (Ok y) f right = refl
-first_of_step (Err e) f right = absurd (cc)
-
 -- the first part of a list is right
-pub first_of_list : {A : Type 0} (one : Reader A) (most : ℕ) (ts : List Token) → IsOk (listed one most ts) → IsOk (one ts)
+pub first_of_list : {A : Type 0} {x : List A × List Token} (one : Reader A) (most : ℕ) (ts : List Token) → listed one most ts ≡ Ok x → IsOk (one ts)
 unfolding listed
-first_of_list one zero ts right = absurd (cc)
-first_of_list one (suc n) ts right = first_of_step (one ts) _ right
+first_of_list one zero ts is = absurd (cc)
+first_of_list {x} one (suc n) ts is = first_was_right (one ts) _ x is
 
 -- the first part is right of a list behind which something was answered
-first_of_parts : {A B : Type 0} (one : Reader A) (ts : List Token) (f : List A × List Token → Result B Fault) {x : B} → (listed one most_parts ts >>= f) ≡ Ok x → IsOk (one ts)
-first_of_parts one ts f is = first_of_list one most_parts ts (first_of_step (listed one most_parts ts) f (is_right is))
+first_of_parts : {A B : Type 0} {x : B} (one : Reader A) (ts : List Token) (f : List A × List Token → Result B Fault) → (listed one most_parts ts >>= f) ≡ Ok x → IsOk (one ts)
+first_of_parts {x} one ts f is = first_of_list one most_parts ts (bind_ok (listed one most_parts ts) f x is).1
 
 -- components begin with a name, and candidates with a designator
 pub first_name : (one : Reader TypeModel) (ts : List Token) {x : (List ℕ × TypeModel) × List Token} → field_at one ts ≡ Ok x → IsOk (name_at ts)
@@ -125,6 +106,6 @@ first_designator one ts is = first_of_parts designator_at ts _ is
 
 -- ---- parts that are passed over
 
-pub stops_past : {A B : Type 0} {one : Reader A} {start : Reader B} {most i : ℕ} {front : List A} {ts tokens : List Token} → IsReadTo one start most front i ts tokens → i < most → (e : Stop) → Stops e (one ts) → Stops e (passed (listed one most tokens))
-stops_past r lt stops.NoMemory h = absurd h
-stops_past r lt (stops.Wrong left reason) h = ap passed (ends r lt (stops.Wrong left reason) h)
+pub stops_past : {A B : Type 0} {one : Reader A} {start : Reader B} {most i : ℕ} {front : List A} {ts tokens : List Token} → IsReadTo one start most front i ts tokens → i < most → (e : Failure ℕ Reason) → Stops e (one ts) → Stops e (passed (listed one most tokens))
+stops_past r lt failures.NoMemory h = absurd h
+stops_past r lt (failures.Wrong place reason) h = ap passed (ends r lt (failures.Wrong place reason) h)

@@ -9,12 +9,13 @@ use Rattle.courier_notation.specs.declared.written.Reference.{Reference}
 use Rattle.courier_notation.specs.declared.written.Reference.TheVariants as references
 use Rattle.courier_notation.specs.Written.{TypeModel, fields_from}
 use Rattle.courier_notation.specs.ProgramModels.{DeclaredModel, FieldList, ProgramModel}
-use Rattle.courier_notation.specs.Reading.{Reader, most_parts, fields_at, type_at, record_behind, type_behind}
+use Rattle.courier_notation.specs.Reading.{Reader, enclosed, most_parts, fields_at, type_at, record_behind, type_behind}
 use Rattle.courier_notation.specs.Programs.{most_depth, small_at, constant_at, arguments_at, results_at, reference_at, reports_at}
 use Rattle.courier_notation.specs.Programs.{procedure_behind, error_behind, type_declared, constant_declared, declared_at, declaration_at, is_end, most_declarations, declarations_at, dependency_at, dependencies_at, header_at, body_at, program_with, program_of}
 use Rattle.courier_notation.specs.Spelling.{reference_spelling, parts_spelling, type_spelling, fields_spelling, AreFields, AreParts, field_count, is_apart}
 use Rattle.courier_notation.specs.ProgramSpelling.{SpellsFields, SaysNothing, SpellsArguments, SpellsResults, SpellsReports, numbered, SpellsDeclared, SpellsDeclaration, SpellsDeclarations, dependency_spelling, IsDependency, SpellsDependencies, SpellsProgram}
-use Rattle.courier_notation.proofs.Takes.{over_ok, Any}
+use Rattle.courier_notation.proofs.Failing.{over_ok}
+use Rattle.courier_notation.proofs.Takes.{Any}
 use Rattle.courier_notation.proofs.Complete.{any_all, got, own_read, IsComplete, small_word, some_read, type_read}
 use Rattle.courier_notation.proofs.ConstantRead.{constant_read}
 
@@ -114,7 +115,7 @@ whole_read (references.Own n) rest good apart = own_read n rest apart
 whole_read (references.Other p n) rest good apart = refl
 
 some_reports : (errors : List Reference) (rest : List Token) → AreParts errors → reports_at (tokens.Reports ∷ tokens.OpenBracket ∷ (parts_spelling reference_spelling errors ++ tokens.CloseBracket ∷ rest)) ≡ got errors rest
-unfolding reports_at
+unfolding reports_at enclosed
 some_reports errors rest parts = rw (some_read reference_spelling Any reference_at whole_read errors (tokens.CloseBracket ∷ rest) parts (any_all errors) refl refl) refl
 
 reports_read : (errors : List Reference) (text rest : List Token) → SpellsReports errors text → is_no_reports rest ≡ true → reports_at (text ++ rest) ≡ got errors rest
@@ -256,7 +257,7 @@ no_dependencies (tokens.Depends ∷ ts) h = absurd cc
 no_dependencies ts h = refl
 
 some_dependencies : (ds : List Dependency) (rest : List Token) → AreParts ds → AllByRecursion IsDependency ds → dependencies_at (tokens.Depends ∷ tokens.Upon ∷ (parts_spelling dependency_spelling ds ++ ended rest)) ≡ got ds rest
-unfolding dependencies_at
+unfolding dependencies_at enclosed
 some_dependencies ds rest parts good = rw (some_read dependency_spelling IsDependency dependency_at dependency_read ds (ended rest) parts good refl refl) refl
 
 dependencies_read : (ds : List Dependency) (text rest : List Token) → SpellsDependencies ds text → is_no_depends rest ≡ true → dependencies_at (text ++ rest) ≡ got ds rest

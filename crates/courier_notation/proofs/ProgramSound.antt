@@ -9,12 +9,14 @@ use Rattle.courier_notation.specs.declared.token.Token.TheVariants as tokens
 use Rattle.courier_notation.specs.declared.written.Reference.{Reference}
 use Rattle.courier_notation.specs.Written.{fields_from}
 use Rattle.courier_notation.specs.ProgramModels.{DeclaredModel, FieldList, ProgramModel}
-use Rattle.courier_notation.specs.Reading.{Fault, ◌>>=◌, over, listed, most_parts, token_at, name_at, fields_behind, fields_at, type_at}
+use Rattle.courier_notation.specs.Failing.{◌>>=◌, over}
+use Rattle.courier_notation.specs.Reading.{Fault, Reader, enclosed, listed, most_parts, token_at, name_at, fields_behind, fields_at, type_at}
 use Rattle.courier_notation.specs.Programs.{most_depth, long_number, small_at, constant_at, arguments_at, results_at, reference_at, reports_at}
 use Rattle.courier_notation.specs.Programs.{procedure_behind, error_behind, type_declared, constant_declared, declared_at, declaration_at, is_end, most_declarations, declarations_at, dependency_at, dependencies_at, nothing_at, Header, header_at, body_at, program_with, program_of}
 use Rattle.courier_notation.specs.Spelling.{reference_spelling, parts_spelling, type_spelling, fields_spelling, AreParts}
 use Rattle.courier_notation.specs.ProgramSpelling.{SpellsFields, SaysNothing, SpellsArguments, SpellsResults, SpellsReports, numbered, SpellsDeclared, SpellsDeclaration, SpellsDeclarations, dependency_spelling, IsDependency, SpellsDependencies, SpellsProgram}
-use Rattle.courier_notation.proofs.Takes.{done, ok_is, bind_ok, over_ok, Takes, Takes-then, Takes-behind, Takes-one, IsSound, IsSmall, Any, listed_takes, name_takes, reference_takes, small_behind_takes}
+use Rattle.courier_notation.proofs.Failing.{ok_is, bind_ok, over_ok}
+use Rattle.courier_notation.proofs.Takes.{done, Takes, Takes-then, Takes-behind, Takes-one, TakesOnly, IsSound, IsSmall, Any, listed_takes, name_takes, reference_takes, small_behind_takes}
 use Rattle.courier_notation.proofs.Takes.{colon_is, open_bracket_is, close_bracket_is, open_parenthesis_is, close_parenthesis_is, begin_is, end_is, program_is, version_is, upon_is, equal_is, semicolon_is, dot_is}
 use Rattle.courier_notation.proofs.Sound.{type_takes, fields_behind_take}
 use Rattle.courier_notation.proofs.ConstantRead.{constant_takes}
@@ -84,6 +86,20 @@ whole_takes ts x rest e =
     let t1 = reference_takes a.0.0 a.0.1 x rest a.2 in
     (subst (λ (t : List Token). Takes t (reference_spelling x) rest) (sym t0.0.parts) t1, tt)
 
+-- parts, with the opening and the closing token
+enclosed_takes : {A : Type 0} (opening closing : Token) (no_opening no_closing : Reason) → TakesOnly opening no_opening → TakesOnly closing no_closing → (spell : A → List Token) (Good : A → Type 0) (one : Reader A) → IsSound spell Good one
+    → (ts : List Token) (x : List A × List Token) → enclosed (opening, no_opening) (closing, no_closing) one ts ≡ Ok x → Takes ts (opening ∷ (parts_spelling spell x.0 ++ closing ∷ [])) x.1 × AreParts x.0 × AllByRecursion Good x.0
+unfolding enclosed
+enclosed_takes {A} opening closing no_opening no_closing opens closes spell Good one sound ts x e =
+    let a = bind_ok (token_at opening no_opening ts) _ x e in
+    let b = bind_ok (listed one most_parts a.0) _ x a.2 in
+    let c = bind_ok (token_at closing no_closing b.0.1) _ x b.2 in
+    let l = listed_takes spell Good one sound most_parts a.0 b.0.0 b.0.1 b.1 in
+    let inside = Takes-then l.takes (Takes-one closing (closes b.0.1 c.0 c.1)) in
+    let whole = Takes-behind opening (opens ts a.0 a.1) inside in
+    subst (λ (p : List A × List Token). Takes ts (opening ∷ (parts_spelling spell p.0 ++ closing ∷ [])) p.1 × AreParts p.0 × AllByRecursion Good p.0) (ok_is (b.0.0, c.0) x c.2)
+    (whole, (l.some, l.few), l.good)
+
 abbrev SaysReports : List Reference → List Token → Type 0
 SaysReports errors text = AreParts errors × (text ≡ tokens.Reports ∷ tokens.OpenBracket ∷ (parts_spelling reference_spelling errors ++ tokens.CloseBracket ∷ []))
 
@@ -91,16 +107,8 @@ reports_found : (ts : List Token) (x : List Reference × List Token) → reports
 unfolding reports_at
 reports_found [] x e = nothing_found SaysReports [] x e
 reports_found (tokens.Reports ∷ ts) x e =
-    let a = bind_ok (token_at tokens.OpenBracket reasons.NoOpenBracket ts) _ x e in
-    let b = bind_ok (listed reference_at most_parts a.0) _ x a.2 in
-    let c = bind_ok (token_at tokens.CloseBracket reasons.NoCloseBracket b.0.1) _ x b.2 in
-    let l = listed_takes reference_spelling Any reference_at whole_takes most_parts a.0 b.0.0 b.0.1 b.1 in
-    let text = parts_spelling reference_spelling b.0.0 ++ tokens.CloseBracket ∷ [] in
-    let inside = Takes-then l.takes (Takes-one tokens.CloseBracket (close_bracket_is b.0.1 c.0 c.1)) in
-    let opened = Takes-behind tokens.OpenBracket (open_bracket_is ts a.0 a.1) inside in
-    let whole = Takes-behind tokens.Reports refl opened in
-    subst (λ (p : List Reference × List Token). Found SpellsReports (tokens.Reports ∷ ts) p) (ok_is (b.0.0, c.0) x c.2)
-    (record { text = tokens.Reports ∷ tokens.OpenBracket ∷ text; takes = whole; spells = inr ((l.some, l.few), refl) })
+    let f = enclosed_takes tokens.OpenBracket tokens.CloseBracket reasons.NoOpenBracket reasons.NoCloseBracket open_bracket_is close_bracket_is reference_spelling Any reference_at whole_takes ts x e in
+    record { text = tokens.Reports ∷ tokens.OpenBracket ∷ (parts_spelling reference_spelling x.0 ++ tokens.CloseBracket ∷ []); takes = Takes-behind tokens.Reports refl f.0; spells = inr (f.1, refl) }
 reports_found (t ∷ ts) x e = nothing_found SaysReports (t ∷ ts) x e
 
 -- a number behind an equals sign
@@ -256,16 +264,8 @@ dependencies_found : (ts : List Token) (x : List Dependency × List Token) → d
 unfolding dependencies_at
 dependencies_found [] x e = nothing_found SaysDependencies [] x e
 dependencies_found (tokens.Depends ∷ ts) x e =
-    let a = bind_ok (token_at tokens.Upon reasons.NoUpon ts) _ x e in
-    let b = bind_ok (listed dependency_at most_parts a.0) _ x a.2 in
-    let c = bind_ok (token_at tokens.Semicolon reasons.NoSemicolon b.0.1) _ x b.2 in
-    let l = listed_takes dependency_spelling IsDependency dependency_at dependency_takes most_parts a.0 b.0.0 b.0.1 b.1 in
-    let text = parts_spelling dependency_spelling b.0.0 ++ tokens.Semicolon ∷ [] in
-    let inside = Takes-then l.takes (Takes-one tokens.Semicolon (semicolon_is b.0.1 c.0 c.1)) in
-    let upon = Takes-behind tokens.Upon (upon_is ts a.0 a.1) inside in
-    let whole = Takes-behind tokens.Depends refl upon in
-    subst (λ (p : List Dependency × List Token). Found SpellsDependencies (tokens.Depends ∷ ts) p) (ok_is (b.0.0, c.0) x c.2)
-    (record { text = tokens.Depends ∷ tokens.Upon ∷ text; takes = whole; spells = inr ((l.some, l.few), l.good, refl) })
+    let f = enclosed_takes tokens.Upon tokens.Semicolon reasons.NoUpon reasons.NoSemicolon upon_is semicolon_is dependency_spelling IsDependency dependency_at dependency_takes ts x e in
+    record { text = tokens.Depends ∷ tokens.Upon ∷ (parts_spelling dependency_spelling x.0 ++ tokens.Semicolon ∷ []); takes = Takes-behind tokens.Depends refl f.0; spells = inr (f.1, f.2, refl) }
 dependencies_found (t ∷ ts) x e = nothing_found SaysDependencies (t ∷ ts) x e
 
 abbrev header_spelling : Header → List Token

@@ -8,11 +8,13 @@ use Rattle.courier_notation.specs.declared.token.Token.TheVariants as tokens
 use Rattle.courier_notation.specs.declared.written.Numeric.{Numeric}
 use Rattle.courier_notation.specs.declared.written.Reference.{Reference}
 use Rattle.courier_notation.specs.Written.{TypeModel, Designator, fields_from, candidates_from}
-use Rattle.courier_notation.specs.Reading.{Fault, ◌>>=◌, Reader, over, listed, most_parts, name_at, reference_behind, numeric_at, token_at}
+use Rattle.courier_notation.specs.Failing.{◌>>=◌, over}
+use Rattle.courier_notation.specs.Reading.{Fault, Reader, listed, most_parts, name_at, reference_behind, numeric_at, token_at}
 use Rattle.courier_notation.specs.Reading.{member_at, designator_behind, designator_at, field_at, fields_behind, fields_at, candidate_at, tag_at, maximum_at, enumeration_behind, long_behind, array_behind, sequence_behind, choice_behind, record_behind, type_behind, type_at}
 use Rattle.courier_notation.specs.Spelling.{name_spelling, numeric_spelling, maximum_spelling, tag_spelling, number_spelling, member_spelling, designator_spelling, more_spelling, parts_spelling}
 use Rattle.courier_notation.specs.Spelling.{type_spelling, fields_spelling, more_fields_spelling, candidates_spelling, more_candidates_spelling, IsNumeric, IsNumberIfAny, AreParts, field_count, candidate_count, IsType, AreFields, AreCandidates}
-use Rattle.courier_notation.proofs.Takes.{ok_is, bind_ok, over_ok, Takes, Takes-then, Takes-behind, Takes-one, TakesOnly, IsSound, Any, GoodDesignator, GoodMember, listed_takes, name_takes, reference_takes, numeric_takes}
+use Rattle.courier_notation.proofs.Failing.{ok_is, bind_ok, over_ok}
+use Rattle.courier_notation.proofs.Takes.{Takes, Takes-then, Takes-behind, Takes-one, TakesOnly, IsSound, Any, GoodDesignator, GoodMember, listed_takes, name_takes, reference_takes, numeric_takes}
 use Rattle.courier_notation.proofs.Takes.{of_is, arrow_is, colon_is, open_brace_is, close_brace_is, open_bracket_is, close_bracket_is, open_parenthesis_is, close_parenthesis_is}
 
 -- ---- parts of types

@@ -11,25 +11,15 @@ use Rattle.courier_notation.specs.declared.written.Numeric.TheVariants as numeri
 use Rattle.courier_notation.specs.declared.written.Reference.{Reference}
 use Rattle.courier_notation.specs.declared.written.Reference.TheVariants as references
 use Rattle.courier_notation.specs.Written.{Designator}
-use Rattle.courier_notation.specs.Reading.{Fault, ◌>>=◌, Reader, over, behind_comma, others_at, listed, token_at, name_at, reference_behind, small_or_fault, numeric_at}
+use Rattle.courier_notation.specs.Failing.{over}
+use Rattle.courier_notation.specs.Reading.{Fault, Reader, behind_comma, others_at, listed, token_at, name_at, reference_behind, small_or_fault, numeric_at}
+use Rattle.courier_notation.proofs.Failing.{ok_is, bind_ok, over_ok}
 use Rattle.courier_notation.specs.Spelling.{name_spelling, reference_spelling, numeric_spelling, more_spelling, parts_spelling, IsNumeric, IsNumberIfAny}
 
 -- ---- results
 
 abbrev pub done : {A : Type 0} → A → Result A Fault
 done x = Ok x
-
-pub ok_is : {A : Type 0} (x y : A) → done x ≡ done y → x ≡ y
-ok_is x y e = cc
-
--- the value of a step that did not fail
-pub bind_ok : {A B : Type 0} (r : Result A Fault) (f : A → Result B Fault) (y : B) → (r >>= f) ≡ Ok y → (x : A) × (r ≡ Ok x) × (f x ≡ Ok y)
-bind_ok (Ok x) f y e = (x, refl, e)
-bind_ok (Err d) f y e = absurd cc
-
-pub over_ok : {A B : Type 0} (f : A → B) (r : Result (A × List Token) Fault) (y : B × List Token) → over f r ≡ Ok y → (x : A × List Token) × (r ≡ Ok x) × ((f x.0, x.1) ≡ y)
-over_ok f (Ok x) y e = (x, refl, ok_is (f x.0, x.1) y e)
-over_ok f (Err d) y e = absurd cc
 
 -- ---- texts
 

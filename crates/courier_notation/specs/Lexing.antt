@@ -10,7 +10,8 @@ use Rattle.courier_notation.specs.declared.lexemes.Lexeme.TheVariants as lexemes
 use Rattle.courier_notation.specs.declared.reason.Reason.TheVariants as reasons
 use Rattle.courier_notation.specs.declared.token.Token.{Token}
 use Rattle.courier_notation.specs.declared.token.Token.TheVariants as tokens
-use Rattle.courier_notation.specs.Reading.{Fault, ◌>>=◌}
+use Rattle.courier_notation.specs.Failing.{◌>>=◌}
+use Rattle.courier_notation.specs.Reading.{Fault}
 
 -- ---- bytes
 

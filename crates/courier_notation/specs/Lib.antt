@@ -1,4 +1,5 @@
 pub mod Written
+pub mod Failing
 pub mod Reading
 pub mod Spelling
 pub mod Laws

@@ -10,7 +10,8 @@ use Rattle.courier_notation.specs.declared.token.Token.TheVariants as tokens
 use Rattle.courier_notation.specs.declared.limits.TheConstants.{MOST_DEPTH}
 use Rattle.courier_notation.specs.declared.written.Reference.{Reference}
 use Rattle.courier_notation.specs.ProgramModels.{DeclaredModel, FieldList, ProgramModel}
-use Rattle.courier_notation.specs.Reading.{Fault, ◌>>=◌, Reader, over, listed, most_parts, name_at, reference_behind, small_or_fault, token_at, fields_at, type_at, Behind, Then, FieldsWant, TypeWants}
+use Rattle.courier_notation.specs.Failing.{◌>>=◌, over}
+use Rattle.courier_notation.specs.Reading.{Fault, Reader, enclosed, listed, most_parts, name_at, reference_behind, small_or_fault, token_at, fields_at, type_at, Behind, Then, FieldsWant, TypeWants}
 
 abbrev pub most_depth : ℕ
 most_depth = MOST_DEPTH
@@ -95,11 +96,7 @@ reference_at ts = name_at ts >>= λ name. reference_behind name.0 name.1
 
 -- the errors that a procedure reports
 unfoldable pub reports_at : Reader (List Reference)
-reports_at (tokens.Reports ∷ ts) = do
-  inside ← token_at tokens.OpenBracket reasons.NoOpenBracket ts
-  errors ← listed reference_at most_parts inside
-  rest ← token_at tokens.CloseBracket reasons.NoCloseBracket errors.1
-  Ok (errors.0, rest)
+reports_at (tokens.Reports ∷ ts) = enclosed (tokens.OpenBracket, reasons.NoOpenBracket) (tokens.CloseBracket, reasons.NoCloseBracket) reference_at ts
 reports_at ts = Ok ([], ts)
 
 unfoldable pub procedure_behind : Reader DeclaredModel
@@ -172,11 +169,7 @@ dependency_at ts = do
   Ok (record { name = name.0; number = number.0; version = version.0 }, version.1)
 
 unfoldable pub dependencies_at : Reader (List Dependency)
-dependencies_at (tokens.Depends ∷ ts) = do
-  inside ← token_at tokens.Upon reasons.NoUpon ts
-  dependencies ← listed dependency_at most_parts inside
-  rest ← token_at tokens.Semicolon reasons.NoSemicolon dependencies.1
-  Ok (dependencies.0, rest)
+dependencies_at (tokens.Depends ∷ ts) = enclosed (tokens.Upon, reasons.NoUpon) (tokens.Semicolon, reasons.NoSemicolon) dependency_at ts
 dependencies_at ts = Ok ([], ts)
 
 -- nothing stands behind the program

@@ -1,11 +1,9 @@
 -- Reading a type from left to right (XSIS 038112, Courier). Which fault is told is this project's rule: the first token that
 -- does not go on as a type does, or a limit that is passed there.
-use Rattle.std.specs.Prelude.{◌≡◌, ◌⊎◌, ℕ, zero, suc, ◌+◌, List, [], ◌∷◌, length, Option, Some, None, Result, Ok, Err, IsOk, Bool, nat_lt, if◌then◌else◌}
+use Rattle.std.specs.Prelude.{◌⊎◌, ℕ, zero, suc, ◌+◌, List, [], ◌∷◌, length, Option, Some, None, Result, Ok, Err, IsOk, Bool, nat_lt, if◌then◌else◌}
 use Rattle.courier_notation.specs.contracts.token.TokenPartialEq.TheImpl as token_eq
 use Rattle.courier_notation.specs.declared.reason.Reason.{Reason}
 use Rattle.courier_notation.specs.declared.reason.Reason.TheVariants as reasons
-use Rattle.courier_notation.specs.declared.stop.Stop.{Stop}
-use Rattle.courier_notation.specs.declared.stop.Stop.TheVariants as stops
 use Rattle.courier_notation.specs.declared.token.Token.{Token}
 use Rattle.courier_notation.specs.declared.token.Token.TheVariants as tokens
 use Rattle.courier_notation.specs.declared.limits.TheConstants.{MOST_PARTS}
@@ -13,54 +11,16 @@ use Rattle.courier_notation.specs.declared.written.Numeric.{Numeric}
 use Rattle.courier_notation.specs.declared.written.Numeric.TheVariants as numerics
 use Rattle.courier_notation.specs.declared.written.Reference.{Reference}
 use Rattle.courier_notation.specs.declared.written.Reference.TheVariants as references
+use Rattle.courier_notation.specs.Failing.{◌>>=◌, over}
 use Rattle.courier_notation.specs.Written.{TypeModel, Designator, fields_from, candidates_from}
 
 -- how many tokens are left where reading stops, the wrong token among them, and why
 abbrev pub Fault : Type 0
 Fault = ℕ × Reason
 
-infixl 10 ◌>>=◌
-abbrev pub ◌>>=◌ : {A B : Type 0} → Result A Fault → (A → Result B Fault) → Result B Fault
-(Ok x) >>= f = f x
-(Err e) >>= f = Err e
-
--- reading stops there, unless memory ran out
-abbrev pub Fails : {Y : Type 0} → Stop → Result Y Fault → Type 0
-Fails (stops.Wrong left reason) reading = reading ≡ Err (left, reason)
-Fails stops.NoMemory reading = Unit {0}
-
--- a function returned what reading gives, seen by view, unless memory ran out
-abbrev pub Gives : {X Y : Type 0} → (X → Y) → Result X Stop → Result Y Fault → Type 0
-Gives view (Ok x) reading = reading ≡ Ok (view x)
-Gives view (Err stop) reading = Fails stop reading
-
--- reading stops there, and wants no memory
-abbrev pub Stops : {Y : Type 0} → Stop → Result Y Fault → Type 0
-Stops (stops.Wrong left reason) reading = reading ≡ Err (left, reason)
-Stops stops.NoMemory reading = ⊥
-
--- a function that wants no memory returned what reading gives, seen by view
-abbrev pub Reads : {X Y : Type 0} → (X → Y) → Result X Stop → Result Y Fault → Type 0
-Reads view (Ok x) reading = reading ≡ Ok (view x)
-Reads view (Err stop) reading = Stops stop reading
-
--- if reading stopped for want of memory, it was wanted
-abbrev pub IsWanted : Stop → Type 0 → Type 0
-IsWanted (stops.Wrong left reason) wants = Unit {0}
-IsWanted stops.NoMemory wants = wants
-
-abbrev pub IfNoMemory : {X : Type 0} → Result X Stop → Type 0 → Type 0
-IfNoMemory (Ok x) wants = Unit {0}
-IfNoMemory (Err stop) wants = IsWanted stop wants
-
 -- what is read of tokens, and the tokens behind it
 abbrev pub Reader : Type 0 → Type 0
 Reader A = List Token → Result (A × List Token) Fault
-
--- what a reader returns, with a function applied to the value that was read
-abbrev pub over : {A B : Type 0} → (A → B) → Result (A × List Token) Fault → Result (B × List Token) Fault
-over f (Ok x) = Ok (f x.0, x.1)
-over f (Err e) = Err e
 
 -- the tokens behind what was read
 abbrev pub passed : {A : Type 0} → Result (A × List Token) Fault → Result (List Token) Fault
@@ -117,6 +77,14 @@ others_at others ts None = Ok ([], ts)
 unfoldable pub listed : {A : Type 0} → Reader A → ℕ → Reader (List A)
 listed one zero ts = Err (length ts, reasons.TooManyParts)
 listed one (suc n) ts = one ts >>= λ first. over (λ others. first.0 ∷ others) (others_at (listed one n) first.1 (behind_comma first.1))
+
+-- parts with commas between, behind an opening token and up to a closing one
+unfoldable pub enclosed : {A : Type 0} → Token × Reason → Token × Reason → Reader A → Reader (List A)
+enclosed opening closing one ts = do
+  inside ← token_at opening.0 opening.1 ts
+  parts ← listed one most_parts inside
+  rest ← token_at closing.0 closing.1 parts.1
+  Ok (parts.0, rest)
 
 -- ---- parts of types
 

@@ -1,7 +1,8 @@
 //! Constants read from tokens, from left to right.
 ghost use Rattle.std.specs.Prelude.{◌≡◌};
 ghost use Rattle.courier_notation.specs.declared.declared.Constant.TheVariants.{Other};
-ghost use Rattle.courier_notation.specs.Reading.{Reads, listed, most_parts, over, passed};
+ghost use Rattle.courier_notation.specs.Failing.{Finds, over};
+ghost use Rattle.courier_notation.specs.Reading.{listed, most_parts, passed};
 ghost use Rattle.courier_notation.specs.Programs.{begins_constant as begins_constant_of, chosen_behind};
 ghost use Rattle.courier_notation.specs.Programs.{component_behind, constant_at, constant_behind, element_at};
 ghost use Rattle.courier_notation.specs.Programs.{elements_behind, long_number};
@@ -34,7 +35,7 @@ fn begins_constant(tokens: &[Token]) -> bool
 #[cycle(constants)]
 #[tactic(auto, unfolding(crate::specs::Programs::chosen_behind))]
 fn chosen_of(depth: usize, name: u32, tokens: &[Token]) -> Result<(Constant, &[Token]), Stop>
-    ensures { Reads (λ x. (x.0, x.1.now)) result (chosen_behind (constant_at depth) name tokens.now) }
+    ensures { Finds (λ x. (x.0, x.1.now)) result (chosen_behind (constant_at depth) name tokens.now) }
 {
     let (reference, rest) = reference_of(name, tokens)?;
     if begins_constant(rest) {
@@ -51,7 +52,7 @@ fn component_of(
     constant: Constant,
     tokens: &[Token],
 ) -> Result<(Constant, &[Token]), Stop>
-    ensures { Reads (λ x. (x.0, x.1.now)) result (component_behind (constant_at depth) constant tokens.now) }
+    ensures { Finds (λ x. (x.0, x.1.now)) result (component_behind (constant_at depth) constant tokens.now) }
 {
     match tokens {
         [Token::Colon, rest @ ..] => constant_of(depth, rest),
@@ -63,7 +64,7 @@ fn component_of(
 #[cycle(constants)]
 #[tactic(auto, unfolding(crate::specs::Programs::element_at))]
 fn element_of(depth: usize, tokens: &[Token]) -> Result<(Constant, &[Token]), Stop>
-    ensures { Reads (λ x. (x.0, x.1.now)) result (element_at (constant_at depth) tokens.now) }
+    ensures { Finds (λ x. (x.0, x.1.now)) result (element_at (constant_at depth) tokens.now) }
 {
     let (constant, rest) = constant_of(depth, tokens)?;
     component_of(depth, constant, rest)
@@ -72,7 +73,7 @@ fn element_of(depth: usize, tokens: &[Token]) -> Result<(Constant, &[Token]), St
 /// The tokens behind elements with commas between.
 #[cycle(constants)]
 fn behind_elements(depth: usize, tokens: &[Token]) -> Result<&[Token], Stop>
-    ensures { Reads (λ x. x.now) result (passed (listed (element_at (constant_at depth)) most_parts tokens.now)) }
+    ensures { Finds (λ x. x.now) result (passed (listed (element_at (constant_at depth)) most_parts tokens.now)) }
 {
     let mut rest = tokens;
     for _ in 0..MOST_PARTS {
@@ -89,7 +90,7 @@ fn behind_elements(depth: usize, tokens: &[Token]) -> Result<&[Token], Stop>
 #[cycle(constants)]
 #[tactic(auto, unfolding(crate::specs::Programs::elements_behind))]
 fn elements_inside(depth: usize, tokens: &[Token]) -> Result<(Constant, &[Token]), Stop>
-    ensures { Reads (λ x. (x.0, x.1.now)) result (elements_behind (constant_at depth) tokens.now) }
+    ensures { Finds (λ x. (x.0, x.1.now)) result (elements_behind (constant_at depth) tokens.now) }
 {
     match tokens {
         [Token::CloseBracket, rest @ ..] => Ok((Constant::Other, rest)),
@@ -103,7 +104,7 @@ fn elements_inside(depth: usize, tokens: &[Token]) -> Result<(Constant, &[Token]
 
 /// A number behind a minus sign.
 fn negative_of(tokens: &[Token]) -> Result<(Constant, &[Token]), Stop>
-    ensures { Reads (λ x. (x.0, x.1.now)) result (over (λ n. Other) (long_number tokens.now)) }
+    ensures { Finds (λ x. (x.0, x.1.now)) result (over (λ n. Other) (long_number tokens.now)) }
 {
     let (_number, rest) = long_of(tokens)?;
     Ok((Constant::Other, rest))
@@ -113,7 +114,7 @@ fn negative_of(tokens: &[Token]) -> Result<(Constant, &[Token]), Stop>
 #[cycle(constants)]
 #[tactic(auto, unfolding(crate::specs::Programs::constant_behind))]
 fn constant_by(depth: usize, first: Token, tokens: &[Token]) -> Result<(Constant, &[Token]), Stop>
-    ensures { Reads (λ x. (x.0, x.1.now)) result (constant_behind (constant_at depth) first tokens.now) }
+    ensures { Finds (λ x. (x.0, x.1.now)) result (constant_behind (constant_at depth) first tokens.now) }
 {
     match first {
         Token::Number(number) => Ok((Constant::Number(number), tokens)),
@@ -122,7 +123,7 @@ fn constant_by(depth: usize, first: Token, tokens: &[Token]) -> Result<(Constant
         Token::Minus => negative_of(tokens),
         Token::OpenBracket => elements_inside(depth, tokens),
         _ => Err(Stop::Wrong {
-            left: tokens.len() + 1,
+            place: tokens.len() + 1,
             reason: Reason::NoConstant,
         }),
     }
@@ -132,7 +133,7 @@ fn constant_by(depth: usize, first: Token, tokens: &[Token]) -> Result<(Constant
 #[cycle(constants)]
 #[tactic(auto, unfolding(crate::specs::Programs::constant_at))]
 pub fn constant_of(depth: usize, tokens: &[Token]) -> Result<(Constant, &[Token]), Stop>
-    ensures { Reads (λ x. (x.0, x.1.now)) result (constant_at depth tokens.now) }
+    ensures { Finds (λ x. (x.0, x.1.now)) result (constant_at depth tokens.now) }
 {
     if depth == 0 {
         return Err(wrong(tokens, Reason::TooDeep));

@@ -4,7 +4,8 @@ ghost use Rattle.courier_notation.specs.declared.reason.Reason.TheVariants.{NoEq
 ghost use Rattle.courier_notation.specs.declared.token.Token.TheVariants.{Equal};
 ghost use Rattle.courier_notation.specs.ProgramModels.{declaration_view, declaration_views, declared_view};
 ghost use Rattle.courier_notation.specs.Written.{field_models};
-ghost use Rattle.courier_notation.specs.Reading.{FieldsWant, Gives, IfNoMemory, Then, TypeWants, token_at};
+ghost use Rattle.courier_notation.specs.Failing.{Gives, IfNoMemory};
+ghost use Rattle.courier_notation.specs.Reading.{FieldsWant, Then, TypeWants, token_at};
 ghost use Rattle.courier_notation.specs.Programs.{arguments_at, constant_declared, declaration_at, declarations_at};
 ghost use Rattle.courier_notation.specs.Programs.{declared_at, error_behind, most_declarations, most_depth, DeclarationWants, DeclarationsWant, DeclaredWants, ProcedureWants, ReportsWant, ResultsWant, procedure_behind};
 ghost use Rattle.courier_notation.specs.Programs.{reports_at, results_at, type_declared};
@@ -13,7 +14,8 @@ use crate::constants::constant_of;
 use crate::declared::{Constant, Declaration, Declared};
 use crate::limits::{MOST_DECLARATIONS, MOST_DEPTH};
 use crate::marks::{behind, is_end, wrong};
-use crate::parts::{name_of, references_of, small_of};
+use crate::part::enclosed;
+use crate::parts::{name_of, small_of};
 use crate::reason::Reason;
 use crate::stop::Stop;
 use crate::token::Token;
@@ -58,12 +60,12 @@ fn reports_of(alloc: Global, tokens: &[Token]) -> Result<(Vec<Reference>, &[Toke
     ensures memory { IfNoMemory result (ReportsWant tokens.now) }
 {
     match tokens {
-        [Token::Reports, rest @ ..] => {
-            let inside = behind(Token::OpenBracket, Reason::NoOpenBracket, rest)?;
-            let (errors, rest) = references_of(alloc, inside)?;
-            let rest = behind(Token::CloseBracket, Reason::NoCloseBracket, rest)?;
-            Ok((errors, rest))
-        }
+        [Token::Reports, rest @ ..] => enclosed(
+            alloc,
+            (Token::OpenBracket, Reason::NoOpenBracket),
+            (Token::CloseBracket, Reason::NoCloseBracket),
+            rest,
+        ),
         _ => Ok((Vec::new(alloc), tokens)),
     }
 }

@@ -4,7 +4,7 @@ ghost use Rattle.courier_notation.specs.Lexing.{digits_number, long_of, behind_f
 ghost use Rattle.courier_notation.specs.Lexing.{equal_at, passing_front, is_digit as is_digit_of};
 ghost use Rattle.courier_notation.specs.Lexing.{is_name_byte as is_name_byte_of, is_no_quote, lexeme_at, lexeme_in};
 ghost use Rattle.courier_notation.specs.Lexing.{lexeme_view, mark_at, number_at, quoted_at, skipped, word_lexeme};
-ghost use Rattle.courier_notation.specs.Reading.{Reads};
+ghost use Rattle.courier_notation.specs.Failing.{Finds};
 
 use crate::bytes::{is_blank, is_digit, is_letter, is_line_end, is_name_byte};
 use crate::keywords::{keyword_of, mark_of};
@@ -126,14 +126,14 @@ fn number_of(digits: &[u8]) -> Option<u32>
 
 /// A keyword or a name.
 fn word_of(bytes: &[u8]) -> Result<(Lexeme<'_>, &[u8]), Stop>
-    ensures { Reads (λ x. (lexeme_view x.0, x.1.now)) result (word_lexeme bytes.now) }
+    ensures { Finds (λ x. (lexeme_view x.0, x.1.now)) result (word_lexeme bytes.now) }
 {
     let (word, rest) = name_and_rest(bytes);
     match keyword_of(word) {
         Some(token) => Ok((Lexeme::Plain(token), rest)),
         None if word.len() <= MOST_NAME => Ok((Lexeme::Name(word), rest)),
         None => Err(Stop::Wrong {
-            left: bytes.len(),
+            place: bytes.len(),
             reason: Reason::LongName,
         }),
     }
@@ -141,13 +141,13 @@ fn word_of(bytes: &[u8]) -> Result<(Lexeme<'_>, &[u8]), Stop>
 
 /// A number.
 fn number_lexeme(bytes: &[u8]) -> Result<(Lexeme<'_>, &[u8]), Stop>
-    ensures { Reads (λ x. (lexeme_view x.0, x.1.now)) result (number_at bytes.now) }
+    ensures { Finds (λ x. (lexeme_view x.0, x.1.now)) result (number_at bytes.now) }
 {
     let (digits, rest) = digits_and_rest(bytes);
     match number_of(digits) {
         Some(number) => Ok((Lexeme::Plain(Token::Number(number)), rest)),
         None => Err(Stop::Wrong {
-            left: bytes.len(),
+            place: bytes.len(),
             reason: Reason::HugeNumber,
         }),
     }
@@ -155,12 +155,12 @@ fn number_lexeme(bytes: &[u8]) -> Result<(Lexeme<'_>, &[u8]), Stop>
 
 /// A string, behind its first quote.
 fn quoted_of(bytes: &[u8]) -> Result<(Lexeme<'_>, &[u8]), Stop>
-    ensures { Reads (λ x. (lexeme_view x.0, x.1.now)) result (quoted_at bytes.now) }
+    ensures { Finds (λ x. (lexeme_view x.0, x.1.now)) result (quoted_at bytes.now) }
 {
     let (string, rest) = string_and_rest(bytes);
     match rest {
         [] => Err(Stop::Wrong {
-            left: bytes.len() + 1,
+            place: bytes.len() + 1,
             reason: Reason::OpenString,
         }),
         [_, rest @ ..] => Ok((Lexeme::Quoted(string), rest)),
@@ -169,7 +169,7 @@ fn quoted_of(bytes: &[u8]) -> Result<(Lexeme<'_>, &[u8]), Stop>
 
 /// An arrow, or an equals sign alone, from what stands behind the equals sign.
 fn equal_of(bytes: &[u8]) -> Result<(Lexeme<'_>, &[u8]), Stop>
-    ensures { Reads (λ x. (lexeme_view x.0, x.1.now)) result (equal_at bytes.now) }
+    ensures { Finds (λ x. (lexeme_view x.0, x.1.now)) result (equal_at bytes.now) }
 {
     match bytes {
         [b'>', rest @ ..] => Ok((Lexeme::Plain(Token::Arrow), rest)),
@@ -178,12 +178,12 @@ fn equal_of(bytes: &[u8]) -> Result<(Lexeme<'_>, &[u8]), Stop>
 }
 
 fn mark_lexeme(mark: Option<Token>, bytes: &[u8]) -> Result<(Lexeme<'_>, &[u8]), Stop>
-    ensures { Reads (λ x. (lexeme_view x.0, x.1.now)) result (mark_at mark bytes.now) }
+    ensures { Finds (λ x. (lexeme_view x.0, x.1.now)) result (mark_at mark bytes.now) }
 {
     match mark {
         Some(token) => Ok((Lexeme::Plain(token), bytes)),
         None => Err(Stop::Wrong {
-            left: bytes.len() + 1,
+            place: bytes.len() + 1,
             reason: Reason::BadByte,
         }),
     }
@@ -193,7 +193,7 @@ fn mark_lexeme(mark: Option<Token>, bytes: &[u8]) -> Result<(Lexeme<'_>, &[u8]),
 #[tactic(auto, unfolding(crate::specs::Lexing::lexeme_at))]
 fn lexeme_by<'a>(first: u8, text: &'a [u8], bytes: &'a [u8]) -> Result<(Lexeme<'a>, &'a [u8]), Stop>
     requires { text.now ≡ first ∷ bytes.now }
-    ensures { Reads (λ x. (lexeme_view x.0, x.1.now)) result (lexeme_at first bytes.now) }
+    ensures { Finds (λ x. (lexeme_view x.0, x.1.now)) result (lexeme_at first bytes.now) }
 {
     if is_letter(first) {
         word_of(text)
@@ -211,7 +211,7 @@ fn lexeme_by<'a>(first: u8, text: &'a [u8], bytes: &'a [u8]) -> Result<(Lexeme<'
 /// The first lexeme of a text that begins with no blank.
 pub fn lexeme_of(text: &[u8]) -> Result<(Lexeme<'_>, &[u8]), Stop>
     requires { 0 < length text.now }
-    ensures { Reads (λ x. (lexeme_view x.0, x.1.now)) result (lexeme_in text.now) }
+    ensures { Finds (λ x. (lexeme_view x.0, x.1.now)) result (lexeme_in text.now) }
 {
     let first = text[0];
     lexeme_by(first, text, text.split_at(1).1)

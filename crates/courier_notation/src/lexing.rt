@@ -1,7 +1,7 @@
 //! A text read token by token.
 ghost use Rattle.std.specs.Prelude.{◌≡◌, ◌∷◌, [], ◌++◌, ◌+◌, ◌<◌, ◌≤◌, length, map, vec_len, IfOk, OnOk};
 ghost use Rattle.courier_notation.specs.Lexing.{HasToken, with_lexeme, with_token, lexed_from, lexeme_view, lexing_of, lexing_view, most_text, most_tokens, nothing_read};
-ghost use Rattle.courier_notation.specs.Reading.{Gives, IfNoMemory};
+ghost use Rattle.courier_notation.specs.Failing.{Gives, IfNoMemory};
 
 use crate::lexed::Lexed;
 use crate::lexemes::{Lexeme, behind_blanks, lexeme_of};
@@ -72,7 +72,7 @@ fn lex_within(alloc: Global, text: &[u8]) -> Result<Lexed, Stop>
         rest = behind;
     }
     Err(Stop::Wrong {
-        left: rest.len(),
+        place: rest.len(),
         reason: Reason::TooManyTokens,
     })
 }
@@ -89,7 +89,7 @@ pub fn lex(alloc: Global, text: &[u8]) -> Result<Lexed, Stop>
 {
     if text.len() > MOST_TEXT {
         return Err(Stop::Wrong {
-            left: text.len() - MOST_TEXT,
+            place: text.len() - MOST_TEXT,
             reason: Reason::TooLong,
         });
     }

@@ -9,6 +9,7 @@ mod bytes;
 mod constants;
 mod declarations;
 mod declared;
+mod failure;
 mod keywords;
 pub mod laws;
 mod lexed;
@@ -26,6 +27,7 @@ mod types;
 mod written;
 
 pub use declared::{Constant, Declaration, Declared, Dependency, WrittenProgram};
+pub use failure::Failure;
 pub use lexed::Lexed;
 pub use lexing::lex;
 pub use programs::read_program;

@@ -1,7 +1,8 @@
 //! Single tokens that have to stand first.
 ghost use Rattle.std.specs.Prelude.{◌≡◌, IfNone, IfSome, None, Some, length};
-ghost use Rattle.courier_notation.specs.declared.stop.Stop.TheVariants.{Wrong};
-ghost use Rattle.courier_notation.specs.Reading.{Reads, behind_comma, token_at};
+ghost use Rattle.courier_notation.specs.declared.failure.Failure.TheVariants.{Wrong};
+ghost use Rattle.courier_notation.specs.Failing.{Finds};
+ghost use Rattle.courier_notation.specs.Reading.{behind_comma, token_at};
 ghost use Rattle.courier_notation.specs.Programs.{is_end as is_end_of};
 
 use crate::reason::Reason;
@@ -13,14 +14,14 @@ pub fn wrong(tokens: &[Token], reason: Reason) -> Stop
     ensures { result ≡ Wrong (length tokens.now) reason }
 {
     Stop::Wrong {
-        left: tokens.len(),
+        place: tokens.len(),
         reason,
     }
 }
 
 /// The tokens behind the wanted one, which has to stand first.
 pub fn behind(wanted: Token, missing: Reason, tokens: &[Token]) -> Result<&[Token], Stop>
-    ensures { Reads (λ x. x.now) result (token_at wanted missing tokens.now) }
+    ensures { Finds (λ x. x.now) result (token_at wanted missing tokens.now) }
 {
     match tokens {
         [first, rest @ ..] if *first == wanted => Ok(rest),

@@ -1,6 +1,7 @@
 //! Names, numbers and the parts of types, read from tokens.
 ghost use Rattle.std.specs.Prelude.{IsOk};
-ghost use Rattle.courier_notation.specs.Reading.{Gives, IfNoMemory, Reads, designator_at, designator_behind, listed, maximum_at};
+ghost use Rattle.courier_notation.specs.Failing.{Finds, Gives, IfNoMemory};
+ghost use Rattle.courier_notation.specs.Reading.{designator_at, designator_behind, listed, maximum_at};
 ghost use Rattle.courier_notation.specs.Reading.{member_at, most_parts, name_at, numeric_at, reference_behind};
 ghost use Rattle.courier_notation.specs.Reading.{small_or_fault, tag_at};
 ghost use Rattle.courier_notation.specs.Programs.{long_number, reference_at, small_at};
@@ -15,7 +16,7 @@ use std::alloc::Global;
 
 /// The name that stands first, and the tokens behind it.
 pub fn name_of(tokens: &[Token]) -> Result<(u32, &[Token]), Stop>
-    ensures { Reads (λ x. (x.0, x.1.now)) result (name_at tokens.now) }
+    ensures { Finds (λ x. (x.0, x.1.now)) result (name_at tokens.now) }
 {
     match tokens {
         [Token::Name(name), rest @ ..] => Ok((*name, rest)),
@@ -25,7 +26,7 @@ pub fn name_of(tokens: &[Token]) -> Result<(u32, &[Token]), Stop>
 
 /// The reference that begins with the name.
 pub fn reference_of(name: u32, tokens: &[Token]) -> Result<(Reference, &[Token]), Stop>
-    ensures { Reads (λ x. (x.0, x.1.now)) result (reference_behind name tokens.now) }
+    ensures { Finds (λ x. (x.0, x.1.now)) result (reference_behind name tokens.now) }
 {
     match tokens {
         [Token::Dot, rest @ ..] => {
@@ -38,13 +39,13 @@ pub fn reference_of(name: u32, tokens: &[Token]) -> Result<(Reference, &[Token])
 
 /// The number, if it is a word; the tokens are those behind it.
 fn small_behind(number: u32, tokens: &[Token]) -> Result<(u16, &[Token]), Stop>
-    ensures { Reads (λ x. (x.0, x.1.now)) result (small_or_fault number tokens.now) }
+    ensures { Finds (λ x. (x.0, x.1.now)) result (small_or_fault number tokens.now) }
 {
     if number < 65_536 {
         Ok((number as u16, tokens))
     } else {
         Err(Stop::Wrong {
-            left: tokens.len() + 1,
+            place: tokens.len() + 1,
             reason: Reason::LargeNumber,
         })
     }
@@ -53,7 +54,7 @@ fn small_behind(number: u32, tokens: &[Token]) -> Result<(u16, &[Token]), Stop>
 /// A number of one word, or the name of a constant.
 #[tactic(auto, unfolding(crate::specs::Reading::numeric_at))]
 pub fn numeric_of(tokens: &[Token]) -> Result<(Numeric, &[Token]), Stop>
-    ensures { Reads (λ x. (x.0, x.1.now)) result (numeric_at tokens.now) }
+    ensures { Finds (λ x. (x.0, x.1.now)) result (numeric_at tokens.now) }
 {
     match tokens {
         [Token::Number(number), rest @ ..] => {
@@ -113,7 +114,7 @@ fn designator_of_name(
     name: u32,
     tokens: &[Token],
 ) -> Result<((u32, Option<Numeric>), &[Token]), Stop>
-    ensures { Reads (λ x. (x.0, x.1.now)) result (designator_behind name tokens.now) }
+    ensures { Finds (λ x. (x.0, x.1.now)) result (designator_behind name tokens.now) }
 {
     match tokens {
         [Token::OpenParenthesis, rest @ ..] => {
@@ -149,7 +150,7 @@ pub fn designators_of(
 
 /// The enumeration that designators are of; `None` where none is named.
 pub fn tag_of(tokens: &[Token]) -> Result<(Option<Reference>, &[Token]), Stop>
-    ensures { Reads (λ x. (x.0, x.1.now)) result (tag_at tokens.now) }
+    ensures { Finds (λ x. (x.0, x.1.now)) result (tag_at tokens.now) }
 {
     match tokens {
         [Token::Name(name), rest @ ..] => {
@@ -163,7 +164,7 @@ pub fn tag_of(tokens: &[Token]) -> Result<(Option<Reference>, &[Token]), Stop>
 /// A maximum; `None` where `OF` stands first.
 #[tactic(auto, unfolding(crate::specs::Reading::maximum_at))]
 pub fn maximum_of(tokens: &[Token]) -> Result<(Option<Numeric>, &[Token]), Stop>
-    ensures { Reads (λ x. (x.0, x.1.now)) result (maximum_at tokens.now) }
+    ensures { Finds (λ x. (x.0, x.1.now)) result (maximum_at tokens.now) }
 {
     match tokens {
         [Token::Of, ..] => Ok((None, tokens)),
@@ -176,7 +177,7 @@ pub fn maximum_of(tokens: &[Token]) -> Result<(Option<Numeric>, &[Token]), Stop>
 
 /// A number.
 pub fn long_of(tokens: &[Token]) -> Result<(u32, &[Token]), Stop>
-    ensures { Reads (λ x. (x.0, x.1.now)) result (long_number tokens.now) }
+    ensures { Finds (λ x. (x.0, x.1.now)) result (long_number tokens.now) }
 {
     match tokens {
         [Token::Number(number), rest @ ..] => Ok((*number, rest)),
@@ -187,7 +188,7 @@ pub fn long_of(tokens: &[Token]) -> Result<(u32, &[Token]), Stop>
 /// A number of one word.
 #[tactic(auto, unfolding(crate::specs::Programs::small_at))]
 pub fn small_of(tokens: &[Token]) -> Result<(u16, &[Token]), Stop>
-    ensures { Reads (λ x. (x.0, x.1.now)) result (small_at tokens.now) }
+    ensures { Finds (λ x. (x.0, x.1.now)) result (small_at tokens.now) }
 {
     let (number, rest) = long_of(tokens)?;
     small_behind(number, rest)
@@ -202,12 +203,4 @@ impl Part for Reference {
         let (name, rest) = name_of(tokens)?;
         reference_of(name, rest)
     }
-}
-
-/// Names that are referred to, with commas between.
-pub fn references_of(alloc: Global, tokens: &[Token]) -> Result<(Vec<Reference>, &[Token]), Stop>
-    ensures exact { Gives (λ x. (x.0.items, x.1.now)) result (listed reference_at most_parts tokens.now) }
-    ensures memory { IfNoMemory result (IsOk (reference_at tokens.now)) }
-{
-    parts_of(alloc, tokens)
 }

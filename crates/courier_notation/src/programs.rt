@@ -2,14 +2,15 @@
 
 ghost use Rattle.std.specs.Prelude.{IsOk};
 ghost use Rattle.courier_notation.specs.ProgramModels.{declaration_views, program_view};
-ghost use Rattle.courier_notation.specs.Reading.{Behind, Gives, IfNoMemory, Reads, listed, most_parts};
+ghost use Rattle.courier_notation.specs.Failing.{Finds, Gives, IfNoMemory};
+ghost use Rattle.courier_notation.specs.Reading.{Behind, listed, most_parts};
 ghost use Rattle.courier_notation.specs.Programs.{BodyWants, DependenciesWant, body_at, dependencies_at, dependency_at, header_at};
 ghost use Rattle.courier_notation.specs.Programs.{nothing_at, program_of};
 
 use crate::declarations::declarations_of;
 use crate::declared::{Declaration, Dependency, WrittenProgram};
 use crate::marks::{behind, wrong};
-use crate::part::{Part, parts_of};
+use crate::part::{Part, enclosed};
 use crate::parts::{long_of, name_of, small_of};
 use crate::reason::Reason;
 use crate::stop::Stop;
@@ -39,14 +40,6 @@ impl Part for Dependency {
     }
 }
 
-/// Dependencies with commas between.
-fn some_dependencies(alloc: Global, tokens: &[Token]) -> Result<(Vec<Dependency>, &[Token]), Stop>
-    ensures exact { Gives (λ x. (x.0.items, x.1.now)) result (listed dependency_at most_parts tokens.now) }
-    ensures memory { IfNoMemory result (IsOk (dependency_at tokens.now)) }
-{
-    parts_of(alloc, tokens)
-}
-
 /// The programs that are depended upon; none where `DEPENDS` does not stand first.
 #[tactic(auto, unfolding(crate::specs::Programs::dependencies_at))]
 fn dependencies_of(alloc: Global, tokens: &[Token]) -> Result<(Vec<Dependency>, &[Token]), Stop>
@@ -54,12 +47,12 @@ fn dependencies_of(alloc: Global, tokens: &[Token]) -> Result<(Vec<Dependency>, 
     ensures memory { IfNoMemory result (DependenciesWant tokens.now) }
 {
     match tokens {
-        [Token::Depends, rest @ ..] => {
-            let inside = behind(Token::Upon, Reason::NoUpon, rest)?;
-            let (dependencies, rest) = some_dependencies(alloc, inside)?;
-            let rest = behind(Token::Semicolon, Reason::NoSemicolon, rest)?;
-            Ok((dependencies, rest))
-        }
+        [Token::Depends, rest @ ..] => enclosed(
+            alloc,
+            (Token::Upon, Reason::NoUpon),
+            (Token::Semicolon, Reason::NoSemicolon),
+            rest,
+        ),
         _ => Ok((Vec::new(alloc), tokens)),
     }
 }
@@ -67,7 +60,7 @@ fn dependencies_of(alloc: Global, tokens: &[Token]) -> Result<(Vec<Dependency>, 
 /// The name, the number and the version of the program, up to its `BEGIN`.
 #[tactic(auto, unfolding(crate::specs::Programs::header_at))]
 fn header_of(tokens: &[Token]) -> Result<((u32, u32, u16), &[Token]), Stop>
-    ensures { Reads (λ x. (x.0, x.1.now)) result (header_at tokens.now) }
+    ensures { Finds (λ x. (x.0, x.1.now)) result (header_at tokens.now) }
 {
     let (name, rest) = name_of(tokens)?;
     let rest = behind(Token::Colon, Reason::NoColon, rest)?;
@@ -98,7 +91,7 @@ fn body_of(
 
 /// The program, if nothing stands behind it.
 fn ended(program: WrittenProgram, tokens: &[Token]) -> Result<WrittenProgram, Stop>
-    ensures { Reads program_view result (nothing_at (program_view program) tokens.now) }
+    ensures { Finds program_view result (nothing_at (program_view program) tokens.now) }
 {
     if tokens.len() > 0 {
         return Err(wrong(tokens, Reason::Trailing));

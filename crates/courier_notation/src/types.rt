@@ -2,10 +2,11 @@
 ghost use Rattle.std.specs.Prelude.{IsOk};
 ghost use Rattle.courier_notation.specs.Written.{TypeModel, candidate_model, candidate_models, field_model};
 ghost use Rattle.courier_notation.specs.Written.{field_models, type_model};
-ghost use Rattle.courier_notation.specs.Reading.{Gives, Reads, array_behind, member_at, name_at, designator_at, numeric_at, maximum_at, candidate_at, choice_behind};
+ghost use Rattle.courier_notation.specs.Failing.{Finds, Gives, IfNoMemory, over};
+ghost use Rattle.courier_notation.specs.Reading.{array_behind, member_at, name_at, designator_at, numeric_at, maximum_at, candidate_at, choice_behind};
 ghost use Rattle.courier_notation.specs.Reading.{enumeration_behind, field_at, fields_at, fields_behind, listed};
-ghost use Rattle.courier_notation.specs.Reading.{long_behind, most_parts, over, record_behind, reference_behind};
-ghost use Rattle.courier_notation.specs.Reading.{sequence_behind, type_at, type_behind, BehindWants, Behind, ChoiceWants, ElementWants, FieldsWant, IfNoMemory, TypeWants};
+ghost use Rattle.courier_notation.specs.Reading.{long_behind, most_parts, record_behind, reference_behind};
+ghost use Rattle.courier_notation.specs.Reading.{sequence_behind, type_at, type_behind, BehindWants, Behind, ChoiceWants, ElementWants, FieldsWant, TypeWants};
 
 use crate::limits::MOST_PARTS;
 use crate::marks::{behind, next_part, wrong};
@@ -31,7 +32,7 @@ fn enumeration_of(alloc: Global, tokens: &[Token]) -> Result<(WrittenType, &[Tok
 
 /// A long cardinal or a long integer, behind `LONG`.
 fn long_of(tokens: &[Token]) -> Result<(WrittenType, &[Token]), Stop>
-    ensures { Reads (λ x. (type_model x.0, x.1.now)) result (long_behind tokens.now) }
+    ensures { Finds (λ x. (type_model x.0, x.1.now)) result (long_behind tokens.now) }
 {
     match tokens {
         [Token::Cardinal, rest @ ..] => Ok((WrittenType::LongCardinal, rest)),
@@ -214,7 +215,7 @@ fn choice_of(alloc: Global, depth: usize, tokens: &[Token]) -> Result<(WrittenTy
 
 /// A type that is referred to, behind the first part of its name.
 fn named_of(name: u32, tokens: &[Token]) -> Result<(WrittenType, &[Token]), Stop>
-    ensures { Reads (λ x. (type_model x.0, x.1.now)) result (over TypeModel.named (reference_behind name tokens.now)) }
+    ensures { Finds (λ x. (type_model x.0, x.1.now)) result (over TypeModel.named (reference_behind name tokens.now)) }
 {
     let (reference, rest) = reference_of(name, tokens)?;
     Ok((WrittenType::Named(reference), rest))
@@ -246,7 +247,7 @@ fn type_behind(
         Token::Choice => choice_of(alloc, depth, tokens),
         Token::Name(name) => named_of(name, tokens),
         _ => Err(Stop::Wrong {
-            left: tokens.len() + 1,
+            place: tokens.len() + 1,
             reason: Reason::NoType,
         }),
     }

@@ -6,21 +6,9 @@ use Rattle.courier_notation.specs.declared.token.Token.{Token}
 use Rattle.courier_notation.specs.Lexing.{HasToken, Lexing, lexed_at, lexed_from, lexeme_in, lexing_of, most_text, most_tokens, nothing_read, skipped, with_lexeme}
 use Rattle.courier_notation.specs.ProgramModels.{ProgramModel}
 use Rattle.courier_notation.specs.Programs.{body_at, header_at, nothing_at, program_of, program_with}
-use Rattle.courier_notation.specs.Reading.{Fault, ◌>>=◌}
-use Rattle.courier_programs.specs.declared.program_refusal.ProgramRefusal.{ProgramRefusal}
-use Rattle.courier_programs.specs.declared.program_refusal.ProgramRefusal.TheVariants as refusals
-use Rattle.courier_programs.specs.Texts.{IfNoMemory}
-
--- what came behind a step came of an answer
-first_was_right : {A B : Type 0} (r : Result A Fault) (f : A → Result B Fault) (t : B) → (r >>= f) ≡ Ok t → IsOk r
-first_was_right (Ok x) f t is = refl
-first_was_right (Err e) f t is = absurd (cc)
-
--- memory was wanted of more, where it was of less
-pub text_wants_more : {X : Type 0} (r : Result X ProgramRefusal) (P Q : Type 0) → (P → Q) → IfNoMemory r P → IfNoMemory r Q
-text_wants_more (Ok x) P Q f h = tt
-text_wants_more (Err (refusals.Wrong place reason)) P Q f h = tt
-text_wants_more (Err refusals.NoMemory) P Q f h = f h
+use Rattle.courier_notation.specs.Failing.{◌>>=◌}
+use Rattle.courier_notation.specs.Reading.{Fault}
+use Rattle.courier_notation.proofs.Failing.{first_was_right}
 
 -- ---- texts
 

@@ -1,5 +1,6 @@
 -- The names that are lexed are plain, and so the types of a program that is read are named.
-use Rattle.std.proofs.Common.{◌≡◌, ℕ, zero, suc, ◌==◌, ◌&&◌, ◌||◌, Bool, true, false, cond, List, [], ◌∷◌, ◌++◌, length, Option, Some, None, Result, Ok, Err, refl, ap, subst, nat_le, arith}
+use Rattle.std.proofs.Common.{◌≡◌, ℕ, zero, suc, ◌==◌, ◌||◌, Bool, true, false, cond, List, [], ◌∷◌, ◌++◌, length, Option, Some, None, Result, Ok, Err, refl, ap, subst, nat_le, arith}
+use Rattle.std.proofs.lemmas.Bool.{and_from, and_parts}
 use Rattle.std.proofs.lemmas.Bool.Decides.{nat_tests}
 use Rattle.std.specs.List.{list_all}
 use Rattle.std.specs.Str.{bytes_eq}
@@ -10,8 +11,7 @@ use Rattle.courier_notation.specs.ProgramModels.{ProgramModel}
 use Rattle.courier_notation.specs.Programs.{program_of}
 use Rattle.courier_notation.specs.Reading.{Fault}
 use Rattle.courier_notation.proofs.ProgramSound.{program_spelled}
-use Rattle.courier_notation.proofs.Takes.{bind_ok, ok_is}
-use Rattle.courier_texts.proofs.Apart.{and_both}
+use Rattle.courier_notation.proofs.Failing.{bind_ok, ok_is}
 use Rattle.courier_texts.specs.Laws.{is_plain, is_plain_name}
 use Rattle.courier_programs.specs.declared.program.Program.{Program}
 use Rattle.courier_programs.specs.Laws.{AreTypesNamed, ReadTypesAreNamed}
@@ -58,13 +58,13 @@ first_is_no_name : (xs : List (Bool × Token)) → list_all (λ x. is_no_name x.
 unfolding first_of
 first_is_no_name [] h = tt
 first_is_no_name (x ∷ xs) h =
-    let p = and_both (is_no_name x.1) (list_all (λ y. is_no_name y.1) xs) h in
+    let p = and_parts (is_no_name x.1) (list_all (λ y. is_no_name y.1) xs) h in
     either x.0 x.1 (first_of xs) p.0 (first_is_no_name xs p.1)
 
 among_is_no_name : (ts : List Token) (word : List ℕ) → list_all is_no_name ts ≡ true → IfNoName (token_among ts word)
 among_is_no_name [] word h = tt
 among_is_no_name (t ∷ ts) word h =
-    let p = and_both (is_no_name t) (list_all is_no_name ts) h in
+    let p = and_parts (is_no_name t) (list_all is_no_name ts) h in
     either (bytes_eq word (token_spelling t)) t (token_among ts word) p.0 (among_is_no_name ts word p.1)
 
 keyword_is_no_name : (word : List ℕ) → IfNoName (keyword_of word)
@@ -93,13 +93,8 @@ name_byte_is_plain b h = grind (arith, nat_tests)
 letter_is_name_byte : (b : ℕ) → is_letter b ≡ true → is_name_byte b ≡ true
 letter_is_name_byte b h = ap (λ (t : Bool). t || is_digit b) h
 
-and_true : (a b : Bool) → a ≡ true → b ≡ true → (a && b) ≡ true
-and_true true true h k = refl
-and_true true false h k = absurd (cc)
-and_true false b h k = absurd (cc)
-
 front_step : (t : Bool) (b : ℕ) (rest : List ℕ) → (t ≡ true → is_plain b ≡ true) → list_all is_plain rest ≡ true → list_all is_plain (cond t (b ∷ rest) []) ≡ true
-front_step true b rest plain more = and_true (is_plain b) (list_all is_plain rest) (plain refl) more
+front_step true b rest plain more = and_from (is_plain b) (list_all is_plain rest) (plain refl) more
 front_step false b rest plain more = refl
 
 front_is_plain : (bytes : List ℕ) → list_all is_plain (passing_front is_name_byte bytes) ≡ true
@@ -107,7 +102,7 @@ front_is_plain [] = refl
 front_is_plain (b ∷ bytes) = front_step (is_name_byte b) b (passing_front is_name_byte bytes) (name_byte_is_plain b) (front_is_plain bytes)
 
 word_step : (t : Bool) (b : ℕ) (rest : List ℕ) → t ≡ true → is_plain b ≡ true → list_all is_plain rest ≡ true → is_plain_name (cond t (b ∷ rest) []) ≡ true
-word_step true b rest test plain more = and_true (is_plain b) (list_all is_plain rest) plain more
+word_step true b rest test plain more = and_from (is_plain b) (list_all is_plain rest) plain more
 word_step false b rest test plain more = absurd (cc)
 
 word_is_plain : (b : ℕ) (bytes : List ℕ) → is_letter b ≡ true → is_plain_name (passing_front is_name_byte (b ∷ bytes)) ≡ true

@@ -1,5 +1,5 @@
 -- A program that a text is (XSIS 038112, Courier). The places of faults are this project's rule.
-use Rattle.std.specs.Prelude.{◌≡◌, ℕ, ◌+◌, ◌-◌, ◌==◌, List, length, fold, Option, Some, None, Result, Ok, Err, Bool, false, if◌then◌else◌, slice_get}
+use Rattle.std.specs.Prelude.{ℕ, ◌+◌, ◌-◌, ◌==◌, List, length, fold, Option, Some, None, Result, Ok, Err, Bool, false, if◌then◌else◌, slice_get}
 use Rattle.std.specs.List.{position_from}
 use Rattle.courier_notation.specs.declared.token.Token.{Token}
 use Rattle.courier_notation.specs.declared.token.Token.TheVariants as tokens
@@ -10,8 +10,6 @@ use Rattle.courier_notation.specs.Reading.{Fault}
 use Rattle.courier_programs.specs.declared.program.Program.{Program}
 use Rattle.courier_programs.specs.declared.program_refusal.ProgramReason.{ProgramReason}
 use Rattle.courier_programs.specs.declared.program_refusal.ProgramReason.TheVariants as reasons
-use Rattle.courier_programs.specs.declared.program_refusal.ProgramRefusal.{ProgramRefusal}
-use Rattle.courier_programs.specs.declared.program_refusal.ProgramRefusal.TheVariants as refusals
 use Rattle.courier_programs.specs.Meanings.{ResolvedModel}
 use Rattle.courier_programs.specs.Refused.{NameFault}
 use Rattle.courier_programs.specs.Resolving.{resolved}
@@ -19,18 +17,6 @@ use Rattle.courier_programs.specs.Resolving.{resolved}
 -- how many bytes stand in front of a fault, and what is wrong
 abbrev pub TextFault : Type 0
 TextFault = ℕ × ProgramReason
-
--- a text was read as that program, or has that first fault, unless memory ran out
-abbrev pub ReadsProgram : {X Y : Type 0} → (X → Y) → Result X ProgramRefusal → Result Y TextFault → Type 0
-ReadsProgram view (Ok x) read = read ≡ Ok (view x)
-ReadsProgram view (Err (refusals.Wrong place reason)) read = read ≡ Err (place, reason)
-ReadsProgram view (Err refusals.NoMemory) read = Unit {0}
-
--- P holds where memory was refused
-abbrev pub IfNoMemory : {X : Type 0} → Result X ProgramRefusal → Type 0 → Type 0
-IfNoMemory (Ok x) P = Unit {0}
-IfNoMemory (Err (refusals.Wrong place reason)) P = Unit {0}
-IfNoMemory (Err refusals.NoMemory) P = P
 
 -- ---- places
 

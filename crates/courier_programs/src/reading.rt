@@ -4,12 +4,12 @@ ghost use Rattle.std.specs.Prelude.{◌≡◌, ◌≤◌, IsOk, length, take};
 ghost use Rattle.courier_notation.specs.Lexing.{HasToken, lexing_view, most_text};
 ghost use Rattle.courier_notation.specs.ProgramModels.{program_view};
 ghost use Rattle.courier_notation.specs.Programs.{header_at, program_of};
-ghost use Rattle.courier_notation.specs.Reading.{Gives};
+ghost use Rattle.courier_notation.specs.Failing.{Gives, IfNoMemory};
 ghost use Rattle.courier_programs.specs.Meanings.{resolved_model};
 ghost use Rattle.courier_programs.specs.Memory.{ResolvingWants};
 ghost use Rattle.courier_programs.specs.Resolving.{resolved};
 ghost use Rattle.courier_programs.specs.Scopes.{names_seen};
-ghost use Rattle.courier_programs.specs.Texts.{IfNoMemory, ReadsProgram, index_place, is_name as is_name_of, name_index, name_told, position_behind, text_meant};
+ghost use Rattle.courier_programs.specs.Texts.{index_place, is_name as is_name_of, name_index, name_told, position_behind, text_meant};
 ghost use Rattle.courier_programs.specs.Texts.{token_place, written_told};
 
 use crate::program::Program;
@@ -67,7 +67,7 @@ fn resolve_text(
     lexed: &Lexed,
     written: &WrittenProgram,
 ) -> Result<Program, ProgramRefusal>
-    ensures exact { ReadsProgram resolved_model result (name_told text.now (lexing_view lexed.now) (resolved (lexing_view lexed.now).names before.now (program_view written.now))) }
+    ensures exact { Gives resolved_model result (name_told text.now (lexing_view lexed.now) (resolved (lexing_view lexed.now).names before.now (program_view written.now))) }
     ensures memory { IfNoMemory result (ResolvingWants before.now (program_view written.now)) }
 {
     match resolve(alloc, &lexed.names, before, written) {
@@ -87,12 +87,17 @@ fn read_lexed(
     before: &[Program],
     lexed: &Lexed,
 ) -> Result<Program, ProgramRefusal>
-    ensures exact { ReadsProgram resolved_model result (written_told text.now before.now (lexing_view lexed.now) (program_of (lexing_view lexed.now).tokens)) }
+    ensures exact { Gives resolved_model result (written_told text.now before.now (lexing_view lexed.now) (program_of (lexing_view lexed.now).tokens)) }
     ensures memory { IfNoMemory result (IsOk (header_at (lexing_view lexed.now).tokens)) }
 {
     match read_program(alloc, &lexed.tokens) {
         Ok(written) => resolve_text(alloc, text, before, lexed, &written),
-        Err(Stop::Wrong { left, reason }) => {
+        Err(
+            Stop::Wrong {
+                place: left,
+                reason,
+            },
+        ) => {
             let index = lexed.tokens.len().saturating_sub(left);
             Err(ProgramRefusal::Wrong {
                 place: place_of_token(text, &lexed.left, index),
@@ -109,13 +114,18 @@ fn read_lexed(
 /// where a growth was refused: the text begins with a token, and has no more bytes than a text may have.
 #[tactic(auto, unfolding(crate::specs::Texts::text_meant))]
 pub fn read_text(alloc: Global, text: &[u8], before: &[Program]) -> Result<Program, ProgramRefusal>
-    ensures exact { ReadsProgram resolved_model result (text_meant text.now before.now) }
+    ensures exact { Gives resolved_model result (text_meant text.now before.now) }
     ensures memory { IfNoMemory result (HasToken text.now) }
     ensures fits { IfNoMemory result (length text.now ≤ most_text) }
 {
     match lex(alloc, text) {
         Ok(lexed) => read_lexed(alloc, text, before, &lexed),
-        Err(Stop::Wrong { left, reason }) => Err(ProgramRefusal::Wrong {
+        Err(
+            Stop::Wrong {
+                place: left,
+                reason,
+            },
+        ) => Err(ProgramRefusal::Wrong {
             place: text.len().saturating_sub(left),
             reason: ProgramReason::Notation(reason),
         }),

@@ -2,7 +2,8 @@ use Rattle.std.proofs.Common.{[], ◌∷◌, ◌++◌, ap, refl}
 use Rattle.std.proofs.lemmas.Result.{err_from_is_err_and}
 use Rattle.courier_notation.specs.Programs.{constant_at, element_at}
 use Rattle.courier_notation.specs.Reading.{most_parts, passed}
-use Rattle.courier_notation.proofs.Listing.{begun, goes_on, is_done, is_full, is_right, stops_past}
+use Rattle.courier_notation.proofs.Failing.{is_right}
+use Rattle.courier_notation.proofs.Listing.{begun, goes_on, is_done, is_full, stops_past}
 use Rattle.courier_notation.proofs.constants.+constants.Goals as goal
 
 pub behind_elements-loop-init : goal.behind_elements-loop-init

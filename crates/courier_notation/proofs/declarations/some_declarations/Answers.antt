@@ -2,7 +2,8 @@ use Rattle.std.proofs.Common.{inl, inr, sym}
 use Rattle.std.proofs.lemmas.Result.{err_from_is_err_and}
 use Rattle.courier_notation.specs.ProgramModels.{declaration_view, declaration_views}
 use Rattle.courier_notation.specs.Programs.{DeclarationWants, DeclarationsWant, declarations_at, most_declarations}
-use Rattle.courier_notation.proofs.Listing.{first_is_wanted, is_right, seen_push, wants_more}
+use Rattle.courier_notation.proofs.Failing.{is_right, wanted_more}
+use Rattle.courier_notation.proofs.Listing.{first_is_wanted, seen_push}
 use Rattle.courier_notation.proofs.Declaring.{one_more, one_fails, all_read, most_read, too_many}
 use Rattle.courier_notation.proofs.declarations.some_declarations.Goals as goal
 
@@ -34,7 +35,7 @@ returns-in_err-declaration-clause-memory c =
     let p = err_from_is_err_and c.from_residual.result c.from_residual.ensures.1 in
     let tokens = c.args.tokens.now in
     let rest = c.loop.rest.now in
-    rw (p.1, p.2) (wants_more c.in_err-declaration.field-0.0 (DeclarationWants rest) (DeclarationsWant tokens) (λ h. first_is_wanted DeclarationsWant tokens rest c.loop.invariant.first (inl h)) c.in_err-declaration.ensures.memory)
+    rw (p.1, p.2) (wanted_more c.in_err-declaration.field-0.0 (DeclarationWants rest) (DeclarationsWant tokens) (λ h. first_is_wanted DeclarationsWant tokens rest c.loop.invariant.first (inl h)) c.in_err-declaration.ensures.memory)
 
 pub returns-in_err-push-clause-memory : goal.returns-in_err-push-clause-memory
 returns-in_err-push-clause-memory c =

@@ -1,7 +1,7 @@
 use Rattle.std.proofs.Common.{arith, inr}
 use Rattle.std.proofs.lemmas.Result.{err_from_is_err_and}
 use Rattle.courier_notation.specs.Lexing.{lexing_view, lexeme_in, lexeme_view, lexed_from, most_tokens, nothing_read}
-use Rattle.courier_notation.proofs.Listing.{stops_fails}
+use Rattle.courier_notation.proofs.Failing.{stops_fails}
 use Rattle.courier_notation.proofs.Lexings.{text_ends, token_fails, token_read, token_there, too_many}
 use Rattle.courier_notation.proofs.lexing.lex_within.Goals as goal
 

@@ -1,6 +1,7 @@
 use Rattle.std.proofs.lemmas.Result.{err_from_is_err_and}
 use Rattle.courier_notation.specs.Reading.{most_parts}
-use Rattle.courier_notation.proofs.Listing.{begun, ends, goes_on, is_done, is_full, is_right, stops_fails}
+use Rattle.courier_notation.proofs.Failing.{is_right, stops_fails}
+use Rattle.courier_notation.proofs.Listing.{begun, ends, goes_on, is_done, is_full}
 use Rattle.courier_notation.proofs.part.parts_of.Goals as goal
 
 pub loop-init : goal.loop-init

@@ -2,7 +2,8 @@ use Rattle.std.proofs.Common.{IsOk, ap, refl}
 use Rattle.std.proofs.lemmas.Result.{err_from_is_err_and}
 use Rattle.courier_notation.specs.Written.{field_model, field_models, candidate_model, candidate_models}
 use Rattle.courier_notation.specs.Reading.{most_parts, type_at, field_at, candidate_at, choice_behind, designator_at, name_at}
-use Rattle.courier_notation.proofs.Listing.{begun, ends, first_begins, first_designator, first_name, first_of_list, goes_on, is_done, is_full, is_right, seen_push, wanted, wants_more}
+use Rattle.courier_notation.proofs.Failing.{wanted, wanted_more}
+use Rattle.courier_notation.proofs.Listing.{begun, ends, first_begins, first_designator, first_name, first_of_list, goes_on, is_done, is_full, seen_push}
 use Rattle.courier_notation.proofs.Models.{model_record, model_choice}
 use Rattle.courier_notation.proofs.types.+types.Goals as goal
 
@@ -57,7 +58,7 @@ choice_of-returns-clause-exact t c =
 pub fields_of-returns-in_err-field-clause-memory : goal.fields_of-returns-in_err-field-clause-memory
 fields_of-returns-in_err-field-clause-memory t c =
     let p = err_from_is_err_and c.from_residual.result c.from_residual.ensures.1 in
-    rw (p.1, p.2) (wants_more c.in_err-field.field-0.0 (IsOk (name_at c.loop.rest.now)) (IsOk (name_at c.args.tokens.now)) (first_begins c.loop.invariant) c.in_err-field.ensures.memory)
+    rw (p.1, p.2) (wanted_more c.in_err-field.field-0.0 (IsOk (name_at c.loop.rest.now)) (IsOk (name_at c.args.tokens.now)) (first_begins c.loop.invariant) c.in_err-field.ensures.memory)
 
 pub fields_of-returns-in_err-push-clause-memory : goal.fields_of-returns-in_err-push-clause-memory
 fields_of-returns-in_err-push-clause-memory t c =
@@ -67,7 +68,7 @@ fields_of-returns-in_err-push-clause-memory t c =
 pub candidates_of-returns-in_err-candidate-clause-memory : goal.candidates_of-returns-in_err-candidate-clause-memory
 candidates_of-returns-in_err-candidate-clause-memory t c =
     let p = err_from_is_err_and c.from_residual.result c.from_residual.ensures.1 in
-    rw (p.1, p.2) (wants_more c.in_err-candidate.field-0.0 (IsOk (designator_at c.loop.rest.now)) (IsOk (designator_at c.args.tokens.now)) (first_begins c.loop.invariant) c.in_err-candidate.ensures.memory)
+    rw (p.1, p.2) (wanted_more c.in_err-candidate.field-0.0 (IsOk (designator_at c.loop.rest.now)) (IsOk (designator_at c.args.tokens.now)) (first_begins c.loop.invariant) c.in_err-candidate.ensures.memory)
 
 pub candidates_of-returns-in_err-push-clause-memory : goal.candidates_of-returns-in_err-push-clause-memory
 candidates_of-returns-in_err-push-clause-memory t c =
@@ -77,9 +78,9 @@ candidates_of-returns-in_err-push-clause-memory t c =
 pub field_of-returns-in_err-written-clause-memory : goal.field_of-returns-in_err-written-clause-memory
 field_of-returns-in_err-written-clause-memory t c =
     let p = err_from_is_err_and c.from_residual-in_err-written.result c.from_residual-in_err-written.ensures.1 in
-    rw (p.1, p.2) (wanted c.in_err-written.field-0.0 (IsOk (name_at c.args.tokens.now)) (first_of_list name_at most_parts c.args.tokens.now (is_right c.in_ok-names.ensures.exact)))
+    rw (p.1, p.2) (wanted c.in_err-written.field-0.0 (IsOk (name_at c.args.tokens.now)) (first_of_list name_at most_parts c.args.tokens.now c.in_ok-names.ensures.exact))
 
 pub candidate_of-returns-in_err-written-clause-memory : goal.candidate_of-returns-in_err-written-clause-memory
 candidate_of-returns-in_err-written-clause-memory t c =
     let p = err_from_is_err_and c.from_residual-in_err-written.result c.from_residual-in_err-written.ensures.1 in
-    rw (p.1, p.2) (wanted c.in_err-written.field-0.0 (IsOk (designator_at c.args.tokens.now)) (first_of_list designator_at most_parts c.args.tokens.now (is_right c.in_ok-designators.ensures.exact)))
+    rw (p.1, p.2) (wanted c.in_err-written.field-0.0 (IsOk (designator_at c.args.tokens.now)) (first_of_list designator_at most_parts c.args.tokens.now c.in_ok-designators.ensures.exact))
