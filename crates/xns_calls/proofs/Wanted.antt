@@ -29,18 +29,18 @@ pub none_brings : (own : Side) (field : ℕ) → own.track ≡ None → brings_n
 none_brings own field none = ap (λ o. brings_new o field) none
 
 -- what is new once the flow has begun was new before, or the flow begins
-pub begun_brings : (h : Heading) (packet : PacketModel) (f : Header) (own own' : Side) (page page' : Page) (number : ℕ)
-    → ((other : Side) → scene own' other page' ≡ begun h packet f (scene own other page)) → new_number own'.track f.sequence ≡ Some number → brings_new own.track f.sequence ≡ true
+pub begun_brings : (h : Heading) (packet : PacketModel) (f : Header) (own own' other other' : Side) (page page' : Page) (number : ℕ)
+    → scene own' other' page' ≡ begun h packet f (scene own other page) → new_number own'.track f.sequence ≡ Some number → brings_new own.track f.sequence ≡ true
 unfolding begun
-begun_brings h packet f own own' page page' number e new = by_track own.track refl
+begun_brings h packet f own own' other other' page page' number e new = by_track own.track refl
   where
     s : Scene
-    s = scene own own page
+    s = scene own other page
 
     by_track : (o : Option Track) → own.track ≡ o → brings_new o f.sequence ≡ true
     by_track None at = refl
     by_track (Some track) at =
-        let same : own'.track ≡ Some track = ap (λ (x : Scene). x.own.track) (e own ∙ ap (λ o. begin_track h packet f o s) at) ∙ at in
+        let same : own'.track ≡ Some track = ap (λ (x : Scene). x.own.track) (e ∙ ap (λ o. begin_track h packet f o s) at) ∙ at in
         ap is_some (ap (λ o. new_number o f.sequence) (sym same) ∙ new)
 
 -- the flow behind is brought to a number

@@ -1,5 +1,5 @@
 -- What a packet does to the two flows of its connection.
-use Rattle.std.specs.Prelude.{ℕ, ◌+◌, min, ◌==◌, ◌||◌, nat_lt, not, Bool, if◌then◌else◌, List, [], ◌++◌, Option, Some, None, option_map}
+use Rattle.std.specs.Prelude.{◌≡◌, ℕ, ◌+◌, min, ◌==◌, ◌||◌, nat_lt, not, Bool, if◌then◌else◌, List, [], ◌++◌, Option, Some, None, option_map}
 use Rattle.std.specs.Prelude.{◌&&◌, true}
 use Rattle.std.specs.List.{list_any}
 use Rattle.std.specs.Option.{is_some}
@@ -10,6 +10,7 @@ use Rattle.xns_spp.specs.Header.{is_system}
 use Rattle.xns_spp.specs.Item.{item_with}
 use Rattle.courier_messages.specs.Conversation.{opening}
 use Rattle.xns_lines.specs.declared.page.Page.{Page}
+use Rattle.xns_calls.specs.declared.both_flows.BothFlows.{BothFlows}
 use Rattle.xns_calls.specs.declared.carried.Carried.{Carried}
 use Rattle.xns_calls.specs.declared.due.Due.{Due}
 use Rattle.xns_calls.specs.declared.heading.Heading.{Heading}
@@ -35,6 +36,16 @@ pub record Scene : Type 0 where
 
 abbrev pub scene : Side → Side → Page → Scene
 scene own other page = record { own = own; other = other; text = page.text.line; is_refused = page.is_refused }
+
+-- both flows, with the page on which their lines are printed
+abbrev pub scene_of : BothFlows → Scene
+scene_of flows = scene flows.own.now flows.other.now flows.page.now
+
+-- the same flows are seen from the same one, and what stands before the line on the page is as it was
+abbrev pub Continues : BothFlows → BothFlows → Type 0
+Continues old new = (new.heading ≡ old.heading) × (new.page.now.text.front ≡ old.page.now.text.front)
+    × (new.scratch.ghost_name ≡ old.scratch.ghost_name) × (new.page.ghost_name ≡ old.page.ghost_name)
+    × (new.own.ghost_name ≡ old.own.ghost_name) × (new.other.ghost_name ≡ old.other.ghost_name)
 
 -- a scene, seen from the flow behind
 abbrev pub seen_from_other : Scene → Scene
@@ -86,6 +97,10 @@ own_reached heading number s = advance_own heading (reached s.own.track number) 
 -- a heading for the other flow of the connection
 abbrev pub of_other : Heading → Heading
 of_other heading = record heading { is_behind = not heading.is_behind }
+
+-- both flows, seen from the other one
+abbrev pub turned : BothFlows → BothFlows
+turned flows = record flows { heading = of_other flows.heading; own = flows.other; other = flows.own }
 
 abbrev pub advance_other : Heading → Option ℕ → Scene → Scene
 advance_other heading None s = s

@@ -2,9 +2,10 @@
 ghost use Rattle.std.specs.Prelude.{◌≡◌, ◌<◌, IfSome, OnErr, OnOk, Some, true};
 ghost use Rattle.std.specs.Option.{is_some};
 ghost use Rattle.xns_calls.specs.AtEnd.{both_ended, end_line as end_line_of, end_turn as end_turn_of, ended_of, first_in, own_ended};
-ghost use Rattle.xns_calls.specs.Exchange.{scene};
+ghost use Rattle.xns_calls.specs.Exchange.{Continues, scene, scene_of};
 ghost use Rattle.xns_calls.specs.Numbers.{most_numbers};
 
+use crate::both_flows::BothFlows;
 use crate::exchange::{advance, reach_other};
 use crate::first_kept::FirstKept;
 use crate::heading::Heading;
@@ -40,55 +41,38 @@ fn end_turn(own: &Side, other: &Side) -> Option<bool>
 
 /// Reads the first item that a flow keeps, if it keeps one, once the flow behind is brought to what has to be read before.
 #[tactic(auto, unfolding(crate::specs::AtEnd::own_ended))]
-fn end_own(
-    scratch: &mut Scratch,
-    page: &mut Page,
-    heading: &Heading<'_>,
-    own: &mut Side,
-    other: &mut Side,
-) -> Result<(), AllocError>
-    ensures front { page.new.text.front ≡ page.old.text.front }
-    ensures scene { OnOk result (scene own.new other.new page.new ≡ own_ended heading.now (scene own.old other.old page.old)) }
+fn end_own(flows: &mut BothFlows<'_>) -> Result<(), AllocError>
+    ensures kept { Continues flows.old flows.new }
+    ensures scene { OnOk result (scene_of flows.new ≡ own_ended flows.old.heading (scene_of flows.old)) }
 {
-    let Some(first) = first_at_end(own) else {
+    let Some(first) = first_at_end(flows.own) else {
         return Ok(());
     };
-    reach_other(scratch, page, heading, own, other, first.acknowledged)?;
-    advance(scratch, page, heading, own, other, first.number + 1)
+    reach_other(flows, first.acknowledged)?;
+    advance(flows, first.number + 1)
 }
 
 /// Reads the first item that is kept, of a flow or of the one behind it.
-fn end_of(
-    scratch: &mut Scratch,
-    page: &mut Page,
-    heading: &Heading<'_>,
-    own: &mut Side,
-    other: &mut Side,
-    is_other: bool,
-) -> Result<(), AllocError>
-    ensures front { page.new.text.front ≡ page.old.text.front }
-    ensures scene { OnOk result (scene own.new other.new page.new ≡ ended_of heading.now (Some is_other) (scene own.old other.old page.old)) }
+fn end_of(flows: &mut BothFlows<'_>, is_other: bool) -> Result<(), AllocError>
+    ensures kept { Continues flows.old flows.new }
+    ensures scene { OnOk result (scene_of flows.new ≡ ended_of flows.old.heading (Some is_other) (scene_of flows.old)) }
 {
-    if is_other {
-        end_own(scratch, page, &heading.of_other(), other, own)
-    } else {
-        end_own(scratch, page, heading, own, other)
+    if !is_other {
+        return end_own(flows);
     }
+    flows.turn();
+    let done = end_own(flows);
+    flows.turn();
+    done
 }
 
 /// Reads all that two flows keep, item by item.
-fn end_all(
-    scratch: &mut Scratch,
-    page: &mut Page,
-    heading: &Heading<'_>,
-    own: &mut Side,
-    other: &mut Side,
-) -> Result<(), AllocError>
-    ensures front { page.new.text.front ≡ page.old.text.front }
-    ensures scene { OnOk result (scene own.new other.new page.new ≡ both_ended heading.now (scene own.old other.old page.old)) }
+fn end_all(flows: &mut BothFlows<'_>) -> Result<(), AllocError>
+    ensures kept { Continues flows.old flows.new }
+    ensures scene { OnOk result (scene_of flows.new ≡ both_ended flows.old.heading (scene_of flows.old)) }
 {
-    while let Some(is_other) = end_turn(own, other) {
-        end_of(scratch, page, heading, own, other, is_other)?;
+    while let Some(is_other) = end_turn(flows.own, flows.other) {
+        end_of(flows, is_other)?;
     }
     Ok(())
 }
@@ -109,5 +93,12 @@ pub fn end_flows(
     if end_turn(own, other).is_none() {
         return Ok(());
     }
-    end_all(scratch, page, heading, own, other)
+    let mut flows = BothFlows {
+        scratch,
+        page,
+        heading: *heading,
+        own,
+        other,
+    };
+    end_all(&mut flows)
 }

@@ -9,6 +9,7 @@ ghost use Rattle.xns_calls.specs.Exchange.{brings_new, no_side, scene, wants_mem
 ghost use Rattle.xns_calls.specs.Read.{handled};
 
 use crate::aheads::Aheads;
+use crate::arrived::Arrived;
 use crate::due::Due;
 use crate::ending::end_flows;
 use crate::heading::Heading;
@@ -17,9 +18,7 @@ use crate::side::Side;
 use crate::taking::take_packet;
 use std::alloc::{AllocError, Global};
 use std::marker::Model;
-use xns_idp::Packet;
 use xns_lines::Page;
-use xns_spp::Header;
 use xns_spp::control::SYSTEM;
 
 /// The flow of a connection that begins behind the other, in memory that is taken when it begins. Contracts see it as a side.
@@ -57,19 +56,15 @@ fn take_alone(
     heading: &Heading<'_>,
     own: &mut Side,
     due: Due,
-    packet: &Packet<'_>,
-    header: &Header,
-    content: &[u8],
+    arrived: &Arrived<'_>,
 ) -> Result<(), AllocError>
     ensures front { page.new.text.front ≡ page.old.text.front }
-    ensures memory { OnErr result (wants_memory due header.now (scene own.old no_side page.old) ≡ true) }
+    ensures memory { OnErr result (wants_memory due arrived.now.header.now (scene own.old no_side page.old) ≡ true) }
     ensures scene { OnOk result (scene own.new no_side page.new
-        ≡ handled heading.now due (packet_model packet.now) header.now content.now (scene own.old no_side page.old)) }
+        ≡ handled heading.now due (packet_model arrived.now.packet.now) arrived.now.header.now arrived.now.content.now (scene own.old no_side page.old)) }
 {
     let mut other = Side::none();
-    take_packet(
-        scratch, page, heading, own, &mut other, due, packet, header, content,
-    )
+    take_packet(scratch, page, heading, own, &mut other, due, arrived)
 }
 
 /// Takes a system packet of a flow that has not begun, which may say what has come of the one behind it.
@@ -79,20 +74,16 @@ fn take_before(
     heading: &Heading<'_>,
     other: &mut Side,
     due: Due,
-    packet: &Packet<'_>,
-    header: &Header,
-    content: &[u8],
+    arrived: &Arrived<'_>,
 ) -> Result<(), AllocError>
-    requires { is_system header.now ≡ true }
+    requires { is_system arrived.now.header.now ≡ true }
     ensures front { page.new.text.front ≡ page.old.text.front }
-    ensures memory { OnErr result (wants_memory due header.now (scene no_side other.old page.old) ≡ true) }
+    ensures memory { OnErr result (wants_memory due arrived.now.header.now (scene no_side other.old page.old) ≡ true) }
     ensures scene { OnOk result (scene no_side other.new page.new
-        ≡ handled heading.now due (packet_model packet.now) header.now content.now (scene no_side other.old page.old)) }
+        ≡ handled heading.now due (packet_model arrived.now.packet.now) arrived.now.header.now arrived.now.content.now (scene no_side other.old page.old)) }
 {
     let mut own = Side::none();
-    take_packet(
-        scratch, page, heading, &mut own, other, due, packet, header, content,
-    )
+    take_packet(scratch, page, heading, &mut own, other, due, arrived)
 }
 
 /// Reads all that a flow keeps, as at the end of the input, where the one behind it has not begun.
@@ -170,43 +161,21 @@ impl KeptSide {
         heading: &Heading<'_>,
         first: &mut Side,
         due: Due,
-        packet: &Packet<'_>,
-        header: &Header,
-        content: &[u8],
+        arrived: &Arrived<'_>,
     ) -> Result<(), AllocError>
         ensures front { page.new.text.front ≡ page.old.text.front }
-        ensures memory { OnErr result (wants_memory due header.now (scene self.old first.old page.old) ≡ true) }
+        ensures memory { OnErr result (wants_memory due arrived.now.header.now (scene self.old first.old page.old) ≡ true) }
         ensures scene { OnOk result (scene self.new first.new page.new
-            ≡ handled heading.now due (packet_model packet.now) header.now content.now (scene self.old first.old page.old)) }
+            ≡ handled heading.now due (packet_model arrived.now.packet.now) arrived.now.header.now arrived.now.content.now (scene self.old first.old page.old)) }
     {
         match &mut self.side {
-            Some(side) => take_packet(
-                scratch,
-                page,
-                heading,
-                side.as_mut(),
-                first,
-                due,
-                packet,
-                header,
-                content,
-            ),
-            None if header.control & SYSTEM != 0 => {
-                take_before(scratch, page, heading, first, due, packet, header, content)
+            Some(side) => take_packet(scratch, page, heading, side.as_mut(), first, due, arrived),
+            None if arrived.header.control & SYSTEM != 0 => {
+                take_before(scratch, page, heading, first, due, arrived)
             }
             None => {
                 let mut side = boxed_none(scratch.alloc)?;
-                take_packet(
-                    scratch,
-                    page,
-                    heading,
-                    side.as_mut(),
-                    first,
-                    due,
-                    packet,
-                    header,
-                    content,
-                )?;
+                take_packet(scratch, page, heading, side.as_mut(), first, due, arrived)?;
                 self.side = Some(side);
                 Ok(())
             }
@@ -222,28 +191,16 @@ impl KeptSide {
         heading: &Heading<'_>,
         first: &mut Side,
         due: Due,
-        packet: &Packet<'_>,
-        header: &Header,
-        content: &[u8],
+        arrived: &Arrived<'_>,
     ) -> Result<(), AllocError>
         ensures front { page.new.text.front ≡ page.old.text.front }
-        ensures memory { OnErr result (wants_memory due header.now (scene first.old self.old page.old) ≡ true) }
+        ensures memory { OnErr result (wants_memory due arrived.now.header.now (scene first.old self.old page.old) ≡ true) }
         ensures scene { OnOk result (scene first.new self.new page.new
-            ≡ handled heading.now due (packet_model packet.now) header.now content.now (scene first.old self.old page.old)) }
+            ≡ handled heading.now due (packet_model arrived.now.packet.now) arrived.now.header.now arrived.now.content.now (scene first.old self.old page.old)) }
     {
         match &mut self.side {
-            Some(side) => take_packet(
-                scratch,
-                page,
-                heading,
-                first,
-                side.as_mut(),
-                due,
-                packet,
-                header,
-                content,
-            ),
-            None => take_alone(scratch, page, heading, first, due, packet, header, content),
+            Some(side) => take_packet(scratch, page, heading, first, side.as_mut(), due, arrived),
+            None => take_alone(scratch, page, heading, first, due, arrived),
         }
     }
 

@@ -3,6 +3,8 @@
 
 mod ahead;
 mod aheads;
+mod arrived;
+mod both_flows;
 mod bringing;
 mod calling;
 mod capture;

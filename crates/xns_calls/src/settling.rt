@@ -1,19 +1,17 @@
 //! How the items that are kept are read, as soon as they may be.
 ghost use Rattle.std.specs.Prelude.{◌≡◌, OnErr, OnOk, Some, true};
 ghost use Rattle.std.specs.Option.{is_some};
-ghost use Rattle.xns_calls.specs.Exchange.{scene};
+ghost use Rattle.xns_calls.specs.Exchange.{Continues, scene_of};
 ghost use Rattle.xns_calls.specs.Read.{own_read, read_of, settled};
 ghost use Rattle.xns_calls.specs.Turns.{first_line as first_line_of, is_behind as is_behind_of, waits_for_none as waits_for_none_of, next_turn as next_turn_of};
 ghost use Rattle.xns_calls.specs.Turns.{readable as readable_of};
 
+use crate::both_flows::BothFlows;
 use crate::bringing::read_first;
 use crate::given::Given;
-use crate::heading::Heading;
-use crate::scratch::Scratch;
 use crate::side::Side;
 use crate::track::Track;
 use std::alloc::AllocError;
-use xns_lines::Page;
 use xns_spp::MOST_PENDING;
 
 /// Whether the items below a number were read or are waited for no longer, or no true packet acknowledges it.
@@ -72,82 +70,58 @@ fn next_turn(own: &Side, other: &Side, given: Given) -> Option<bool>
 
 /// Reads the first item that a flow keeps, if it comes next.
 #[tactic(auto, unfolding(crate::specs::Read::own_read))]
-fn read_own(
-    scratch: &mut Scratch,
-    page: &mut Page,
-    heading: &Heading<'_>,
-    own: &mut Side,
-    other: &mut Side,
-) -> Result<(), AllocError>
-    ensures front { page.new.text.front ≡ page.old.text.front }
-    ensures scene { OnOk result (scene own.new other.new page.new ≡ own_read heading.now (scene own.old other.old page.old)) }
+fn read_own(flows: &mut BothFlows<'_>) -> Result<(), AllocError>
+    ensures kept { Continues flows.old flows.new }
+    ensures scene { OnOk result (scene_of flows.new ≡ own_read flows.old.heading (scene_of flows.old)) }
 {
+    let own = &mut *flows.own;
     let Some(track) = &mut own.track else {
         return Ok(());
     };
     read_first(
-        scratch,
-        page,
-        heading,
+        flows.scratch,
+        flows.page,
+        &flows.heading,
         track,
         &mut own.call,
-        &mut other.call,
+        &mut flows.other.call,
     )
 }
 
 /// Reads the first item of a flow, or of the one behind it, if it comes next.
-fn read_turn(
-    scratch: &mut Scratch,
-    page: &mut Page,
-    heading: &Heading<'_>,
-    own: &mut Side,
-    other: &mut Side,
-    is_other: bool,
-) -> Result<(), AllocError>
-    ensures front { page.new.text.front ≡ page.old.text.front }
-    ensures scene { OnOk result (scene own.new other.new page.new ≡ read_of heading.now (Some is_other) (scene own.old other.old page.old)) }
+fn read_turn(flows: &mut BothFlows<'_>, is_other: bool) -> Result<(), AllocError>
+    ensures kept { Continues flows.old flows.new }
+    ensures scene { OnOk result (scene_of flows.new ≡ read_of flows.old.heading (Some is_other) (scene_of flows.old)) }
 {
-    if is_other {
-        read_own(scratch, page, &heading.of_other(), other, own)
-    } else {
-        read_own(scratch, page, heading, own, other)
+    if !is_other {
+        return read_own(flows);
     }
+    flows.turn();
+    let done = read_own(flows);
+    flows.turn();
+    done
 }
 
 /// Reads what two flows keep, item by item, until neither has one that can be read.
-fn read_all(
-    scratch: &mut Scratch,
-    page: &mut Page,
-    heading: &Heading<'_>,
-    own: &mut Side,
-    other: &mut Side,
-    given: Given,
-) -> Result<(), AllocError>
-    ensures front { page.new.text.front ≡ page.old.text.front }
-    ensures scene { OnOk result (scene own.new other.new page.new ≡ settled heading.now given (scene own.old other.old page.old)) }
+fn read_all(flows: &mut BothFlows<'_>, given: Given) -> Result<(), AllocError>
+    ensures kept { Continues flows.old flows.new }
+    ensures scene { OnOk result (scene_of flows.new ≡ settled flows.old.heading given (scene_of flows.old)) }
 {
-    while let Some(is_other) = next_turn(own, other, given) {
-        read_turn(scratch, page, heading, own, other, is_other)?;
+    while let Some(is_other) = next_turn(flows.own, flows.other, given) {
+        read_turn(flows, is_other)?;
     }
     Ok(())
 }
 
 /// Reads what two flows keep, until neither has an item that can be read. Memory is refused only where one has.
 #[tactic(auto, using(crate::proofs::LessKept::turn_end))]
-pub fn settle(
-    scratch: &mut Scratch,
-    page: &mut Page,
-    heading: &Heading<'_>,
-    own: &mut Side,
-    other: &mut Side,
-    given: Given,
-) -> Result<(), AllocError>
-    ensures front { page.new.text.front ≡ page.old.text.front }
-    ensures memory { OnErr result (is_some (next_turn_of given own.old.track other.old.track) ≡ true) }
-    ensures scene { OnOk result (scene own.new other.new page.new ≡ settled heading.now given (scene own.old other.old page.old)) }
+pub fn settle(flows: &mut BothFlows<'_>, given: Given) -> Result<(), AllocError>
+    ensures kept { Continues flows.old flows.new }
+    ensures memory { OnErr result (is_some (next_turn_of given flows.old.own.now.track flows.old.other.now.track) ≡ true) }
+    ensures scene { OnOk result (scene_of flows.new ≡ settled flows.old.heading given (scene_of flows.old)) }
 {
-    if next_turn(own, other, given).is_none() {
+    if next_turn(flows.own, flows.other, given).is_none() {
         return Ok(());
     }
-    read_all(scratch, page, heading, own, other, given)
+    read_all(flows, given)
 }

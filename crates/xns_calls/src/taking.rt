@@ -1,11 +1,13 @@
 //! How a packet is taken, and what is read then.
 ghost use Rattle.std.specs.Prelude.{◌≡◌, ◌<◌, IfSome, OnErr, OnOk, true};
 ghost use Rattle.xns_idp.specs.Packet.{packet_model};
-ghost use Rattle.xns_calls.specs.Exchange.{scene, wants_memory};
+ghost use Rattle.xns_calls.specs.Exchange.{Continues, scene, scene_of, wants_memory};
 ghost use Rattle.xns_calls.specs.Numbers.{most_numbers};
 ghost use Rattle.xns_calls.specs.Read.{begins_first as begins_first_of, comes_next, handled, is_alone as is_alone_of, keeps_none as keeps_none_of};
 ghost use Rattle.xns_calls.specs.Read.{read_once};
 
+use crate::arrived::Arrived;
+use crate::both_flows::BothFlows;
 use crate::bringing::read_arrived;
 use crate::due::Due;
 use crate::exchange::{begin, take_kept};
@@ -16,7 +18,6 @@ use crate::settling::{settle, waits_for_none};
 use crate::side::Side;
 use crate::track::Track;
 use std::alloc::AllocError;
-use xns_idp::Packet;
 use xns_lines::Page;
 use xns_spp::Header;
 use xns_spp::control::SYSTEM;
@@ -61,34 +62,30 @@ fn alone_number(own: &Side, other: &Side, due: Due, header: &Header) -> Option<u
 #[tactic(auto, unfolding(crate::specs::Read::read_once))]
 #[inline(always)]
 fn read_at_once(
-    scratch: &mut Scratch,
-    page: &mut Page,
-    heading: &Heading<'_>,
-    own: &mut Side,
-    other: &mut Side,
+    flows: &mut BothFlows<'_>,
     number: u64,
-    header: &Header,
-    content: &[u8],
+    arrived: &Arrived<'_>,
 ) -> Result<(), AllocError>
     requires { number < most_numbers }
-    ensures front { page.new.text.front ≡ page.old.text.front }
-    ensures scene { OnOk result (scene own.new other.new page.new
-        ≡ read_once heading.now number header.now content.now (scene own.old other.old page.old)) }
+    ensures kept { Continues flows.old flows.new }
+    ensures scene { OnOk result (scene_of flows.new
+        ≡ read_once flows.old.heading number arrived.now.header.now arrived.now.content.now (scene_of flows.old)) }
 {
+    let own = &mut *flows.own;
     let Some(track) = &mut own.track else {
         return Ok(());
     };
     let next = number + 1;
     read_arrived(
-        scratch,
-        page,
-        heading,
+        flows.scratch,
+        flows.page,
+        &flows.heading,
         track,
         &mut own.call,
-        &mut other.call,
+        &mut flows.other.call,
         next,
-        header,
-        content,
+        arrived.header,
+        arrived.content,
     )
 }
 
@@ -96,53 +93,33 @@ fn read_at_once(
 #[tactic(auto, using(crate::proofs::Wanted::take_wants))]
 #[inline(never)]
 fn take_waiting(
-    scratch: &mut Scratch,
-    page: &mut Page,
-    heading: &Heading<'_>,
-    own: &mut Side,
-    other: &mut Side,
+    flows: &mut BothFlows<'_>,
     due: Due,
-    packet: &Packet<'_>,
-    header: &Header,
-    content: &[u8],
+    arrived: &Arrived<'_>,
 ) -> Result<(), AllocError>
-    requires { comes_next due header.now own.now.track other.now.track ≡ None }
-    ensures front { page.new.text.front ≡ page.old.text.front }
-    ensures memory { OnErr result (wants_memory due header.now (scene own.old other.old page.old) ≡ true) }
-    ensures scene { OnOk result (scene own.new other.new page.new
-        ≡ handled heading.now due (packet_model packet.now) header.now content.now (scene own.old other.old page.old)) }
+    requires { comes_next due arrived.now.header.now flows.now.own.now.track flows.now.other.now.track ≡ None }
+    ensures kept { Continues flows.old flows.new }
+    ensures memory { OnErr result (wants_memory due arrived.now.header.now (scene_of flows.old) ≡ true) }
+    ensures scene { OnOk result (scene_of flows.new
+        ≡ handled flows.old.heading due (packet_model arrived.now.packet.now) arrived.now.header.now arrived.now.content.now (scene_of flows.old)) }
 {
-    take_kept(
-        scratch, page, heading, own, other, due, packet, header, content,
-    )?;
-    settle(scratch, page, heading, own, other, due.given)
+    take_kept(flows, due, arrived)?;
+    settle(flows, due.given)
 }
 
 /// Takes a packet of a flow, and reads what can be read then: the packet's own item where it lies, if that is all.
 #[tactic(auto, using(crate::proofs::Wanted::take_wants))]
 #[inline(always)]
-fn take_begun(
-    scratch: &mut Scratch,
-    page: &mut Page,
-    heading: &Heading<'_>,
-    own: &mut Side,
-    other: &mut Side,
-    due: Due,
-    packet: &Packet<'_>,
-    header: &Header,
-    content: &[u8],
-) -> Result<(), AllocError>
-    ensures front { page.new.text.front ≡ page.old.text.front }
-    ensures memory { OnErr result (wants_memory due header.now (scene own.old other.old page.old) ≡ true) }
-    ensures scene { OnOk result (scene own.new other.new page.new
-        ≡ handled heading.now due (packet_model packet.now) header.now content.now (scene own.old other.old page.old)) }
+fn take_begun(flows: &mut BothFlows<'_>, due: Due, arrived: &Arrived<'_>) -> Result<(), AllocError>
+    ensures kept { Continues flows.old flows.new }
+    ensures memory { OnErr result (wants_memory due arrived.now.header.now (scene_of flows.old) ≡ true) }
+    ensures scene { OnOk result (scene_of flows.new
+        ≡ handled flows.old.heading due (packet_model arrived.now.packet.now) arrived.now.header.now arrived.now.content.now (scene_of flows.old)) }
 {
-    if let Some(number) = alone_number(own, other, due, header) {
-        return read_at_once(scratch, page, heading, own, other, number, header, content);
+    if let Some(number) = alone_number(flows.own, flows.other, due, arrived.header) {
+        return read_at_once(flows, number, arrived);
     }
-    take_waiting(
-        scratch, page, heading, own, other, due, packet, header, content,
-    )
+    take_waiting(flows, due, arrived)
 }
 
 /// Whether a data packet begins its flow, and the flow behind keeps nothing.
@@ -156,27 +133,15 @@ fn begins_first(own: &Side, other: &Side, header: &Header) -> bool
 /// Takes a packet that begins its flow, where the flow behind keeps nothing: the flow begins first.
 #[tactic(auto, using(crate::proofs::AtOnce::first_wants))]
 #[inline(never)]
-fn take_first(
-    scratch: &mut Scratch,
-    page: &mut Page,
-    heading: &Heading<'_>,
-    own: &mut Side,
-    other: &mut Side,
-    due: Due,
-    packet: &Packet<'_>,
-    header: &Header,
-    content: &[u8],
-) -> Result<(), AllocError>
-    requires { begins_first_of header.now own.now.track other.now.track ≡ true }
-    ensures front { page.new.text.front ≡ page.old.text.front }
-    ensures memory { OnErr result (wants_memory due header.now (scene own.old other.old page.old) ≡ true) }
-    ensures scene { OnOk result (scene own.new other.new page.new
-        ≡ handled heading.now due (packet_model packet.now) header.now content.now (scene own.old other.old page.old)) }
+fn take_first(flows: &mut BothFlows<'_>, due: Due, arrived: &Arrived<'_>) -> Result<(), AllocError>
+    requires { begins_first_of arrived.now.header.now flows.now.own.now.track flows.now.other.now.track ≡ true }
+    ensures kept { Continues flows.old flows.new }
+    ensures memory { OnErr result (wants_memory due arrived.now.header.now (scene_of flows.old) ≡ true) }
+    ensures scene { OnOk result (scene_of flows.new
+        ≡ handled flows.old.heading due (packet_model arrived.now.packet.now) arrived.now.header.now arrived.now.content.now (scene_of flows.old)) }
 {
-    begin(scratch.alloc, page, heading, own, packet, header)?;
-    take_begun(
-        scratch, page, heading, own, other, due, packet, header, content,
-    )
+    begin(flows, arrived)?;
+    take_begun(flows, due, arrived)
 }
 
 /// Takes a packet of a flow, and reads what can be read then. Memory is refused only where what takes effect brings a flow on, where its
@@ -189,21 +154,23 @@ pub fn take_packet(
     own: &mut Side,
     other: &mut Side,
     due: Due,
-    packet: &Packet<'_>,
-    header: &Header,
-    content: &[u8],
+    arrived: &Arrived<'_>,
 ) -> Result<(), AllocError>
     ensures front { page.new.text.front ≡ page.old.text.front }
-    ensures memory { OnErr result (wants_memory due header.now (scene own.old other.old page.old) ≡ true) }
+    ensures memory { OnErr result (wants_memory due arrived.now.header.now (scene own.old other.old page.old) ≡ true) }
     ensures scene { OnOk result (scene own.new other.new page.new
-        ≡ handled heading.now due (packet_model packet.now) header.now content.now (scene own.old other.old page.old)) }
+        ≡ handled heading.now due (packet_model arrived.now.packet.now) arrived.now.header.now arrived.now.content.now (scene own.old other.old page.old)) }
 {
-    if begins_first(own, other, header) {
-        return take_first(
-            scratch, page, heading, own, other, due, packet, header, content,
-        );
+    let begins = begins_first(own, other, arrived.header);
+    let mut flows = BothFlows {
+        scratch,
+        page,
+        heading: *heading,
+        own,
+        other,
+    };
+    if begins {
+        return take_first(&mut flows, due, arrived);
     }
-    take_begun(
-        scratch, page, heading, own, other, due, packet, header, content,
-    )
+    take_begun(&mut flows, due, arrived)
 }

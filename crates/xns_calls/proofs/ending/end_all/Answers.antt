@@ -1,22 +1,25 @@
-use Rattle.std.proofs.Common.{◌∙◌, ap, sym}
-use Rattle.xns_calls.specs.AtEnd.{both_ended}
-use Rattle.xns_calls.specs.Exchange.{scene}
+use Rattle.std.proofs.Common.{◌≡◌, ◌∙◌, ap, sym, Some}
+use Rattle.xns_calls.specs.AtEnd.{both_ended, ended_of}
+use Rattle.xns_calls.specs.Exchange.{scene_of}
+use Rattle.xns_calls.proofs.Continued.{continued}
 use Rattle.xns_calls.proofs.LessAtEnd.{turn_end, turn_ended, turn_smaller}
 use Rattle.xns_calls.proofs.ending.end_all.Goals as goal
 
 pub loop-is_other-smaller : goal.loop-is_other-smaller
 loop-is_other-smaller c =
-    turn_smaller c.args.heading.now c.in-Some.is_other (scene c.loop-is_other.own c.loop-is_other.other c.loop-is_other.page) (scene c.end_of.new.own c.end_of.new.other c.end_of.new.page)
+    turn_smaller c.loop-is_other.flows.heading c.in-Some.is_other (scene_of c.loop-is_other.flows) (scene_of c.end_of.new.flows)
     (sym c.in-Some.ensures) c.in_ok-end_of.ensures.scene
 
 pub loop-is_other-preserved : goal.loop-is_other-preserved
-loop-is_other-preserved c = (
-  c.end_of.ensures.front ∙ c.loop-is_other.invariant.0,
-  ap (both_ended c.args.heading.now) c.in_ok-end_of.ensures.scene
-      ∙ turn_ended c.args.heading.now c.in-Some.is_other (scene c.loop-is_other.own c.loop-is_other.other c.loop-is_other.page) (sym c.in-Some.ensures)
-      ∙ c.loop-is_other.invariant.1,
-)
+loop-is_other-preserved c =
+    let ended : scene_of c.end_of.new.flows ≡ ended_of c.args.flows.now.heading (Some c.in-Some.is_other) (scene_of c.loop-is_other.flows) =
+    c.in_ok-end_of.ensures.scene ∙ ap (λ h. ended_of h (Some c.in-Some.is_other) (scene_of c.loop-is_other.flows)) c.loop-is_other.invariant.0.0 in (
+      continued c.args.flows.now c.loop-is_other.flows c.end_of.new.flows c.loop-is_other.invariant.0 c.end_of.ensures.kept,
+      ap (both_ended c.args.flows.now.heading) ended
+          ∙ turn_ended c.args.flows.now.heading c.in-Some.is_other (scene_of c.loop-is_other.flows) (sym c.in-Some.ensures)
+          ∙ c.loop-is_other.invariant.1,
+    )
 
 pub returns-clause-scene : goal.returns-clause-scene
 returns-clause-scene c =
-    sym (turn_end c.args.heading.now (scene c.loop-is_other.own c.loop-is_other.other c.loop-is_other.page) (sym c.in_default.ensures)) ∙ c.loop-is_other.invariant.1
+    sym (turn_end c.args.flows.now.heading (scene_of c.loop-is_other.flows) (sym c.in_default.ensures)) ∙ c.loop-is_other.invariant.1

@@ -6,4 +6,4 @@ use Rattle.xns_calls.proofs.exchange.take_data.Goals as goal
 pub returns-clause-memory : goal.returns-clause-memory
 returns-clause-memory c =
     on_err c.take_new.result _
-    (begun_brings c.args.heading.now (packet_model c.args.packet.now) c.args.header.now c.args.own.now c.begin.new.own c.args.page.now c.begin.new.page c.in-Some.number c.in_ok-begin.ensures.scene (sym c.in-Some.ensures.value))
+    (begun_brings c.args.flows.now.heading (packet_model c.args.arrived.now.packet.now) c.args.arrived.now.header.now c.args.flows.now.own.now c.begin.new.flows.own.now c.args.flows.now.other.now c.begin.new.flows.other.now c.args.flows.now.page.now c.begin.new.flows.page.now c.in-Some.number c.in_ok-begin.ensures.scene (sym c.in-Some.ensures.value))

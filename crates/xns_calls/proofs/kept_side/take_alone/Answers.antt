@@ -5,4 +5,4 @@ use Rattle.xns_calls.proofs.kept_side.take_alone.Goals as goal
 
 pub returns-clause-scene : goal.returns-clause-scene
 returns-clause-scene c = on_ok_with c.take_packet.result _ _ c.take_packet.ensures.scene
-    (alone c.args.heading.now c.args.due (packet_model c.args.packet.now) c.args.header.now c.args.content.now c.args.own.now c.none-other.result c.take_packet.new.own c.take_packet.new.other c.args.page.now c.take_packet.new.page c.none-other.ensures)
+    (alone c.args.heading.now c.args.due (packet_model c.args.arrived.now.packet.now) c.args.arrived.now.header.now c.args.arrived.now.content.now c.args.own.now c.none-other.result c.take_packet.new.own c.take_packet.new.other c.args.page.now c.take_packet.new.page c.none-other.ensures)

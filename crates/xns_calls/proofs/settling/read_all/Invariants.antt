@@ -1,5 +1,5 @@
 use Rattle.std.proofs.Common.{◌≡◌}
-use Rattle.xns_calls.specs.Exchange.{scene}
+use Rattle.xns_calls.specs.Exchange.{Continues, scene_of}
 use Rattle.xns_calls.specs.Read.{settled}
 use Rattle.xns_calls.proofs.LessKept.{count}
 use Rattle.xns_calls.proofs.settling.read_all.Given as goal
@@ -7,8 +7,8 @@ use Rattle.xns_calls.proofs.settling.read_all.Given as goal
 -- what is still to be read leads where all of it does
 abbrev pub invariant-loop-is_other : goal.invariant-loop-is_other
 invariant-loop-is_other l =
-    (l.page.text.front ≡ l.fn.page.text.front)
-    × (settled l.heading l.given (scene l.own l.other l.page) ≡ settled l.heading l.given (scene l.fn.own l.fn.other l.fn.page))
+    Continues l.fn.flows l.flows
+    × (settled l.fn.flows.heading l.given (scene_of l.flows) ≡ settled l.fn.flows.heading l.given (scene_of l.fn.flows))
 
 abbrev pub decreases-loop-is_other : goal.decreases-loop-is_other
-decreases-loop-is_other l = count (scene l.own l.other l.page)
+decreases-loop-is_other l = count (scene_of l.flows)

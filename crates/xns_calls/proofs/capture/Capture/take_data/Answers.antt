@@ -9,18 +9,18 @@ use Rattle.xns_calls.proofs.capture.Capture.take_data.Goals as goal
 
 pub returns-in_err-place-clause-memory : goal.returns-in_err-place-clause-memory
 returns-in_err-place-clause-memory c = on_err c.from_residual.result _ (λ placed.
-    wants_nowhere (packet_model c.args.packet.now) c.args.header.now (known c.args.self.now.connections.items c.args.self.now.count c.args.page.now)
+    wants_nowhere (packet_model c.args.arrived.now.packet.now) c.args.arrived.now.header.now (known c.args.self.now.connections.items c.args.self.now.count c.args.page.now)
     c.args.flow c.requires.flow (c.in_err-place.ensures.memory placed) ∙ ap not c.requires.data)
 
 pub returns-in_err-renew-clause-memory : goal.returns-in_err-renew-clause-memory
 returns-in_err-renew-clause-memory c = on_err c.from_residual-in_err-renew.result _ (λ placed.
-    wants_data (packet_model c.args.packet.now) c.args.header.now c.args.self.now.connections.items c.place_or_begin.new.self.connections.items c.args.self.now.count c.place_or_begin.new.self.count c.args.page.now
+    wants_data (packet_model c.args.arrived.now.packet.now) c.args.arrived.now.header.now c.args.self.now.connections.items c.place_or_begin.new.self.connections.items c.args.self.now.count c.place_or_begin.new.self.count c.args.page.now
     c.args.flow c.in_ok-place.place c.requires.flow c.requires.data (c.in_ok-place.ensures.there placed) c.in_err-renew.ensures.memory)
 
 pub returns-clause-known : goal.returns-clause-known
 returns-clause-known c = on_ok_with c.take_at.result _ _ c.take_at.ensures.known (λ e placed.
-    e ∙ ap (after_at c.args.origin.now c.in_ok-place.place c.args.flow (packet_model c.args.packet.now) c.args.header.now c.args.content.now) c.in_ok-renew.ensures.known
-    ∙ sym (after_data c.args.origin.now (packet_model c.args.packet.now) c.args.header.now c.args.content.now c.args.self.now.connections.items c.place_or_begin.new.self.connections.items
+    e ∙ ap (after_at c.args.origin.now c.in_ok-place.place c.args.flow (packet_model c.args.arrived.now.packet.now) c.args.arrived.now.header.now c.args.arrived.now.content.now) c.in_ok-renew.ensures.known
+    ∙ sym (after_data c.args.origin.now (packet_model c.args.arrived.now.packet.now) c.args.arrived.now.header.now c.args.arrived.now.content.now c.args.self.now.connections.items c.place_or_begin.new.self.connections.items
     c.args.self.now.count c.place_or_begin.new.self.count c.args.page.now
     c.args.flow c.in_ok-place.place c.requires.flow c.requires.data (c.in_ok-place.ensures.there placed)))
 
@@ -29,6 +29,6 @@ returns-clause-placed c = on_ok c.take_at.result _ (λ h. c.take_at.ensures.plac
 
 pub returns-clause-memory : goal.returns-clause-memory
 returns-clause-memory c = on_err_with c.take_at.result _ _ c.take_at.ensures.memory (λ wants placed.
-    wants_renewed c.args.origin.now (packet_model c.args.packet.now) c.args.header.now c.args.self.now.connections.items c.place_or_begin.new.self.connections.items c.args.self.now.count c.place_or_begin.new.self.count c.args.page.now
+    wants_renewed c.args.origin.now (packet_model c.args.arrived.now.packet.now) c.args.arrived.now.header.now c.args.self.now.connections.items c.place_or_begin.new.self.connections.items c.args.self.now.count c.place_or_begin.new.self.count c.args.page.now
     c.args.flow c.in_ok-place.place c.requires.flow c.requires.data (c.in_ok-place.ensures.there placed)
-    (sym (ap (wants_at c.in_ok-place.place c.args.flow c.args.header.now) c.in_ok-renew.ensures.known) ∙ wants))
+    (sym (ap (wants_at c.in_ok-place.place c.args.flow c.args.arrived.now.header.now) c.in_ok-renew.ensures.known) ∙ wants))

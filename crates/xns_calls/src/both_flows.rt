@@ -1,0 +1,52 @@
+//! Both flows of a connection, as one of them is read.
+ghost use Rattle.std.specs.Prelude.{◌≡◌};
+ghost use Rattle.xns_calls.specs.Exchange.{turned};
+
+use crate::heading::Heading;
+use crate::scratch::Scratch;
+use crate::side::Side;
+use std::mem::swap;
+use xns_lines::Page;
+
+/// Both flows of a connection, as they are seen from one of them, and what their lines are printed with.
+pub struct BothFlows<'a> {
+    /// The memory that the messages take turns in.
+    pub scratch: &'a mut Scratch,
+    /// Where lines are printed.
+    pub page: &'a mut Page,
+    /// What a line of the flow begins with.
+    pub heading: Heading<'a>,
+    /// The flow.
+    pub own: &'a mut Side,
+    /// The flow behind it.
+    pub other: &'a mut Side,
+}
+
+impl Drop for BothFlows<'_> {
+    /// Lets the flows go as they are.
+    fn drop(self)
+        ensures scratch { self.exit.0.now ≡ self.entry.scratch.now }
+        ensures page { self.exit.1.0.now ≡ self.entry.page.now }
+        ensures own { self.exit.1.1.1.0.now ≡ self.entry.own.now }
+        ensures other { self.exit.1.1.1.1.0.now ≡ self.entry.other.now }
+    {
+        let BothFlows {
+            scratch: _,
+            page: _,
+            heading: _,
+            own: _,
+            other: _,
+        } = self;
+    }
+}
+
+impl BothFlows<'_> {
+    /// Sees both from the other one.
+    #[inline(always)]
+    pub fn turn(&mut self)
+        ensures { self.new ≡ turned self.old }
+    {
+        self.heading.is_behind = !self.heading.is_behind;
+        swap(&mut self.own, &mut self.other);
+    }
+}
