@@ -26,14 +26,19 @@ fn shown(text: Result<Option<Vec<u8>>, Unshown>) -> Result<Shown, AllocError>
 pub fn name_call(
     alloc: Global,
     programs: Option<&[Program]>,
-    program: u32,
-    version: u16,
-    procedure: u16,
+    call: &Waiting,
     words: &[u16],
 ) -> Result<Shown, AllocError>
-    ensures exact { IfOk result (λ shown. shown_model shown ≡ named_call programs.entry program version procedure words.now) }
-    ensures memory { OnErr result (NamingCallWants programs.entry program version procedure words.now) }
+    ensures exact { IfOk result (λ shown. shown_model shown
+        ≡ named_call programs.entry call.now.program call.now.version call.now.procedure words.now) }
+    ensures memory { OnErr result (NamingCallWants programs.entry call.now.program call.now.version call.now.procedure words.now) }
 {
+    let Waiting {
+        program,
+        version,
+        procedure,
+        ..
+    } = *call;
     match programs {
         Some(programs) => shown(call_text(alloc, programs, program, version, procedure, words)),
         None => Ok(Shown::Numbered),

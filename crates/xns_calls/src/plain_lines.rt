@@ -88,14 +88,14 @@ fn write_last_words(end: &mut LineEnd, name: &[u8], words: &[u16])
 
 /// Writes what is called.
 #[inline(always)]
-fn write_callee(end: &mut LineEnd, program: u32, version: u16, procedure: u16)
+fn write_callee(end: &mut LineEnd, call: &Waiting)
     requires { 89 + length end.old ≤ 256 }
-    ensures text { end.new ≡ callee_text program version procedure ++ end.old }
+    ensures text { end.new ≡ callee_text call.now.program call.now.version call.now.procedure ++ end.old }
     ensures bound { length end.new ≤ 89 + length end.old }
 {
-    write_field(end, b" procedure ", u64::from(procedure));
-    write_field(end, b" version ", u64::from(version));
-    write_field(end, b" program ", u64::from(program));
+    write_field(end, b" procedure ", u64::from(call.procedure));
+    write_field(end, b" version ", u64::from(call.version));
+    write_field(end, b" program ", u64::from(call.program));
 }
 
 /// Appends the line of a call.
@@ -103,21 +103,18 @@ fn write_callee(end: &mut LineEnd, program: u32, version: u16, procedure: u16)
 pub fn append_plain_call(
     report: &mut Report,
     heading: &Heading<'_>,
-    transaction: u16,
-    program: u32,
-    version: u16,
-    procedure: u16,
+    call: &Waiting,
     words: &[u16],
 ) -> Result<(), AllocError>
     requires time { heading.now.origin.time ≡ Hidden }
     requires few { length words.now ≤ 16 }
-    ensures { Adds result report.old report.new
-        (call_line heading.now transaction (callee_text program version procedure ++ words_behind (codes " args ") words.now) None) }
+    ensures { Adds result report.old report.new (call_line heading.now call.now.transaction
+        (callee_text call.now.program call.now.version call.now.procedure ++ words_behind (codes " args ") words.now) None) }
 {
     let mut end = LineEnd::new();
     write_last_words(&mut end, b" args ", words);
-    write_callee(&mut end, program, version, procedure);
-    write_field(&mut end, b" call ", u64::from(transaction));
+    write_callee(&mut end, call);
+    write_field(&mut end, b" call ", u64::from(call.transaction));
     write_heading(&mut end, heading);
     report.append(end.as_slice())
 }

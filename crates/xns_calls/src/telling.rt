@@ -110,24 +110,16 @@ fn tell_words(
             version,
             procedure,
         } => {
-            *own = Some(Waiting {
+            let call = Waiting {
                 transaction,
                 program,
                 version,
                 procedure,
                 number: heading.origin.number,
                 time: heading.origin.time,
-            });
-            tell_call(
-                alloc,
-                report,
-                heading,
-                transaction,
-                program,
-                version,
-                procedure,
-                words,
-            )
+            };
+            *own = Some(call);
+            tell_call(alloc, report, heading, &call, words)
         }
         Head::Reject {
             transaction,
@@ -152,34 +144,15 @@ fn tell_call(
     alloc: Global,
     report: &mut Report,
     heading: &Heading<'_>,
-    transaction: u16,
-    program: u32,
-    version: u16,
-    procedure: u16,
+    call: &Waiting,
     words: &[u16],
 ) -> Result<(), AllocError>
-    ensures { Adds result report.old report.new (call_line heading.now transaction
-        (callee_text program version procedure ++ words_behind (codes " args ") words.now)
-        (named_call heading.now.origin.programs program version procedure words.now)) }
+    ensures { Adds result report.old report.new (call_line heading.now call.now.transaction
+        (callee_text call.now.program call.now.version call.now.procedure ++ words_behind (codes " args ") words.now)
+        (named_call heading.now.origin.programs call.now.program call.now.version call.now.procedure words.now)) }
 {
-    let shown = name_call(
-        alloc,
-        heading.origin.programs,
-        program,
-        version,
-        procedure,
-        words,
-    )?;
-    append_call(
-        report,
-        heading,
-        transaction,
-        program,
-        version,
-        procedure,
-        words,
-        &shown,
-    )
+    let shown = name_call(alloc, heading.origin.programs, call, words)?;
+    append_call(report, heading, call, words, &shown)
 }
 
 /// Prints a reject.

@@ -139,19 +139,18 @@ fn append_call_end(report: &mut Report, shown: &Shown) -> Result<(), AllocError>
 /// Appends what a call says: by name, or the numbers and the words.
 fn append_arguments(
     report: &mut Report,
-    program: u32,
-    version: u16,
-    procedure: u16,
+    call: &Waiting,
     words: &[u16],
     shown: &Shown,
 ) -> Result<(), AllocError>
     ensures { Adds result report.old report.new
-        (named_or (callee_text program version procedure ++ words_behind (codes " args ") words.now) (shown_model shown.now)) }
+        (named_or (callee_text call.now.program call.now.version call.now.procedure ++ words_behind (codes " args ") words.now)
+        (shown_model shown.now)) }
 {
     if let Shown::Named(text) = shown {
         return append_named(report, text);
     }
-    append_callee(report, program, version, procedure)?;
+    append_callee(report, call.program, call.version, call.procedure)?;
     append_words(report, b" args ", words)
 }
 
@@ -159,29 +158,19 @@ fn append_arguments(
 pub fn append_call(
     report: &mut Report,
     heading: &Heading<'_>,
-    transaction: u16,
-    program: u32,
-    version: u16,
-    procedure: u16,
+    call: &Waiting,
     words: &[u16],
     shown: &Shown,
 ) -> Result<(), AllocError>
-    ensures { Adds result report.old report.new (call_line heading.now transaction
-        (callee_text program version procedure ++ words_behind (codes " args ") words.now) (shown_model shown.now)) }
+    ensures { Adds result report.old report.new (call_line heading.now call.now.transaction
+        (callee_text call.now.program call.now.version call.now.procedure ++ words_behind (codes " args ") words.now)
+        (shown_model shown.now)) }
 {
     if is_plain(heading.origin.time, words, shown) {
-        return append_plain_call(
-            report,
-            heading,
-            transaction,
-            program,
-            version,
-            procedure,
-            words,
-        );
+        return append_plain_call(report, heading, call, words);
     }
-    append_call_front(report, heading, transaction)?;
-    append_arguments(report, program, version, procedure, words, shown)?;
+    append_call_front(report, heading, call.transaction)?;
+    append_arguments(report, call, words, shown)?;
     append_call_end(report, shown)
 }
 
