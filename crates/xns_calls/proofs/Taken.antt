@@ -9,7 +9,7 @@ use Rattle.xns_calls.specs.Acknowledged.{due_in, given_in, noted_beside}
 use Rattle.xns_calls.specs.Capture.{Known, after_at, after_in, after_scene, after_there, heading_at, is_behind_in, known, repeats_told, scene_in, settled_at, settled_there, taken_in, wants_at, wants_in, with_scene}
 use Rattle.xns_calls.specs.Read.{handled, settled}
 use Rattle.xns_calls.specs.Repeats.{repeats_text, tells_repeats}
-use Rattle.xns_calls.specs.Exchange.{Scene, after_packet, scene, wants_memory}
+use Rattle.xns_calls.specs.Exchange.{Scene, after_packet, scene, scene_seen, wants_memory}
 use Rattle.xns_calls.specs.declared.connection.Connection.{Connection}
 use Rattle.xns_calls.specs.declared.due.Due.{Due}
 use Rattle.xns_calls.specs.declared.origin.Origin.{Origin}
@@ -87,44 +87,31 @@ side_taken n i flow packet f content cs count page page' c note due s b there si
     ∙ ap (λ p. after_in n i p packet f content c k) side
     ∙ sym (ap (λ o. after_there n i flow packet f content o k) there)
 
--- the connection that a packet leaves, of its second flow (true) or of its first
-abbrev pub FlowTaken : Bool → Type 0
-FlowTaken q = (n : Origin) (i : ℕ) (flow : Flow) (packet : PacketModel) (f : Header) (content : List ℕ) (cs : List Connection) (count : ℕ) (page page' page'' : Page) (c note : Connection) (due : Due) (first second : Side) (b : Bool)
-    → slice_get cs i ≡ Some c → b ≡ is_behind_in flow c → b ≡ q
+-- a packet of one of two flows, which are then put back in their connection
+pub flow_taken : (n : Origin) (i : ℕ) (flow : Flow) (packet : PacketModel) (f : Header) (content : List ℕ) (cs : List Connection) (count : ℕ) (page page' page'' : Page) (c note : Connection) (due : Due) (first second : Side) (b : Bool)
+    → slice_get cs i ≡ Some c → b ≡ is_behind_in flow c
     → page'.text.line ≡ page.text.line ++ repeats_text (heading_at n c.number b) (tells_repeats b f c) → page'.is_refused ≡ page.is_refused
     → note ≡ noted_beside b f c → due ≡ due_in b f c
-    → scene_in q (record note { first = first; second = second }) (known cs count page'') ≡ handled (heading_at n c.number b) due packet f content (scene_in q note (known cs count page'))
+    → scene_seen b first second page'' ≡ handled (heading_at n c.number b) due packet f content (scene_seen b note.first note.second page')
     → known (slice_set cs i (record note { first = first; second = second })) count page'' ≡ after_at n i flow packet f content (known cs count page)
-
-pub behind_taken : FlowTaken true
-behind_taken n i flow packet f content cs count page page' page'' c note due first second false there side is text refused noted_is due_is e = (cc)
-behind_taken n i flow packet f content cs count page page' page'' c note due first second true there side is text refused noted_is due_is e =
+flow_taken n i flow packet f content cs count page page' page'' c note due first second true there side text refused noted_is due_is e =
     side_taken n i flow packet f content cs count page page' c note due (scene second first page'') true there side text refused noted_is due_is e
-
-pub first_taken : FlowTaken false
-first_taken n i flow packet f content cs count page page' page'' c note due first second true there side is text refused noted_is due_is e = (cc)
-first_taken n i flow packet f content cs count page page' page'' c note due first second false there side is text refused noted_is due_is e =
+flow_taken n i flow packet f content cs count page page' page'' c note due first second false there side text refused noted_is due_is e =
     side_taken n i flow packet f content cs count page page' c note due (scene first second page'') false there side text refused noted_is due_is e
 
--- a packet of a flow wants memory, whichever of the two flows that is
-side_wants : (i : ℕ) (flow : Flow) (f : Header) (cs : List Connection) (count : ℕ) (page : Page) (c note : Connection) (due : Due) (b : Bool)
+-- what is printed, and noted of the packet, does not change whether memory is wanted
+noted_wants : (b : Bool) (due : Due) (f : Header) (cs : List Connection) (count : ℕ) (page page' : Page) (c : Connection)
+    → wants_memory due f (scene_seen b (noted_beside b f c).first (noted_beside b f c).second page') ≡ wants_memory due f (scene_in b c (known cs count page))
+noted_wants true due f cs count page page' c = refl
+noted_wants false due f cs count page page' c = refl
+
+pub packet_wants : (i : ℕ) (flow : Flow) (f : Header) (cs : List Connection) (count : ℕ) (page page' : Page) (c note : Connection) (due : Due) (b : Bool)
     → slice_get cs i ≡ Some c → b ≡ is_behind_in flow c → note ≡ noted_beside b f c → due ≡ due_in b f c
-    → wants_memory due f (scene_in b note (known cs count page)) ≡ true → wants_at i flow f (known cs count page) ≡ true
-side_wants i flow f cs count page c note due b there side noted_is due_is wants =
+    → wants_memory due f (scene_seen b note.first note.second page') ≡ true → wants_at i flow f (known cs count page) ≡ true
+packet_wants i flow f cs count page page' c note due b there side noted_is due_is wants =
     let k = known cs count page in
-    let before : wants_memory due f (scene_in b note k) ≡ wants_memory (due_in b f c) f (scene_in b c k) =
-    ap (λ d. wants_memory d f (scene_in b note k)) due_is ∙ ap (λ (x : Connection). wants_memory (due_in b f c) f (scene_in b x k)) noted_is
-    ∙ ap (wants_memory (due_in b f c) f) (noted_scene b f c k) in
+    let before : wants_memory due f (scene_seen b note.first note.second page') ≡ wants_memory (due_in b f c) f (scene_in b c k) =
+    ap (λ d. wants_memory d f (scene_seen b note.first note.second page')) due_is
+    ∙ ap (λ (x : Connection). wants_memory (due_in b f c) f (scene_seen b x.first x.second page')) noted_is
+    ∙ noted_wants b (due_in b f c) f cs count page page' c in
     in_wants i flow f c k there (sym (ap (λ p. wants_in p f c k) side) ∙ memory_wants b f c k (sym before ∙ wants))
-
-pub behind_packet_wants : (i : ℕ) (flow : Flow) (f : Header) (cs : List Connection) (count : ℕ) (page : Page) (c note : Connection) (due : Due) (b : Bool)
-    → slice_get cs i ≡ Some c → b ≡ is_behind_in flow c → b ≡ true → note ≡ noted_beside b f c → due ≡ due_in b f c
-    → wants_memory due f (scene note.second note.first page) ≡ true → wants_at i flow f (known cs count page) ≡ true
-behind_packet_wants i flow f cs count page c note due false there side is noted_is due_is wants = (cc)
-behind_packet_wants i flow f cs count page c note due true there side is noted_is due_is wants = side_wants i flow f cs count page c note due true there side noted_is due_is wants
-
-pub first_packet_wants : (i : ℕ) (flow : Flow) (f : Header) (cs : List Connection) (count : ℕ) (page : Page) (c note : Connection) (due : Due) (b : Bool)
-    → slice_get cs i ≡ Some c → b ≡ is_behind_in flow c → b ≡ false → note ≡ noted_beside b f c → due ≡ due_in b f c
-    → wants_memory due f (scene note.first note.second page) ≡ true → wants_at i flow f (known cs count page) ≡ true
-first_packet_wants i flow f cs count page c note due true there side is noted_is due_is wants = (cc)
-first_packet_wants i flow f cs count page c note due false there side is noted_is due_is wants = side_wants i flow f cs count page c note due false there side noted_is due_is wants

@@ -1,6 +1,6 @@
 -- What a packet does to the two flows of its connection.
 use Rattle.std.specs.Prelude.{◌≡◌, ℕ, ◌+◌, min, ◌==◌, ◌||◌, nat_lt, not, Bool, if◌then◌else◌, List, [], ◌++◌, Option, Some, None, option_map}
-use Rattle.std.specs.Prelude.{◌&&◌, true}
+use Rattle.std.specs.Prelude.{◌&&◌, true, false}
 use Rattle.std.specs.List.{list_any}
 use Rattle.std.specs.Option.{is_some}
 use Rattle.xns_idp.specs.Packet.{PacketModel}
@@ -36,6 +36,11 @@ pub record Scene : Type 0 where
 
 abbrev pub scene : Side → Side → Page → Scene
 scene own other page = record { own = own; other = other; text = page.text.line; is_refused = page.is_refused }
+
+-- the two flows of a connection and the page, seen from the flow that begins behind, or else from the first
+abbrev pub scene_seen : Bool → Side → Side → Page → Scene
+scene_seen true first second page = scene second first page
+scene_seen false first second page = scene first second page
 
 -- both flows, with the page on which their lines are printed
 abbrev pub scene_of : BothFlows → Scene

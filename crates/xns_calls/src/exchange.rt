@@ -1,8 +1,7 @@
 //! What a packet does to the flows of its connection.
 ghost use Rattle.std.specs.Option.{is_some};
-ghost use Rattle.std.specs.Prelude.{◌≡◌, ◌<◌, ◌&&◌, not, IfSome, None, OnErr, OnOk, Some, true};
+ghost use Rattle.std.specs.Prelude.{◌≡◌, ◌<◌, IfSome, None, OnErr, OnOk, Some, true};
 ghost use Rattle.xns_idp.specs.Packet.{packet_model};
-ghost use Rattle.xns_spp.specs.Header.{is_system};
 ghost use Rattle.xns_calls.specs.Exchange.{Continues, advanced, after_content, after_data, after_new, after_packet};
 ghost use Rattle.xns_calls.specs.Exchange.{begun as begun_of, brings_data, brings_new, carried, first_track, new_number as new_number_of};
 ghost use Rattle.xns_calls.specs.Exchange.{other_reached, own_reached, reached as reached_of, scene_of, wants_to_take};

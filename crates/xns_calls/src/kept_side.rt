@@ -5,7 +5,7 @@ ghost use Rattle.xns_idp.specs.Packet.{packet_model};
 ghost use Rattle.xns_spp.specs.Header.{is_system};
 ghost use Rattle.xns_calls.specs.Acknowledged.{acknowledged_of, if_begun, new_ahead};
 ghost use Rattle.xns_calls.specs.AtEnd.{both_ended, end_turn};
-ghost use Rattle.xns_calls.specs.Exchange.{brings_new, no_side, scene, wants_memory};
+ghost use Rattle.xns_calls.specs.Exchange.{brings_new, no_side, scene, scene_seen, wants_memory};
 ghost use Rattle.xns_calls.specs.Read.{handled};
 
 use crate::aheads::Aheads;
@@ -152,7 +152,8 @@ impl KeptSide {
         }
     }
 
-    /// Takes a packet of this flow, beside the one that began before. Memory is refused only where [`take_packet`] may refuse it.
+    /// Takes a packet of this flow or of the one that began before, as its heading says. Memory is refused only where [`take_packet`] may
+    /// refuse it.
     #[inline(always)]
     pub fn take(
         &mut self,
@@ -164,10 +165,26 @@ impl KeptSide {
         arrived: &Arrived<'_>,
     ) -> Result<(), AllocError>
         ensures front { page.new.text.front ≡ page.old.text.front }
-        ensures memory { OnErr result (wants_memory due arrived.now.header.now (scene self.old first.old page.old) ≡ true) }
-        ensures scene { OnOk result (scene self.new first.new page.new
-            ≡ handled heading.now due (packet_model arrived.now.packet.now) arrived.now.header.now arrived.now.content.now (scene self.old first.old page.old)) }
+        ensures memory { OnErr result
+            (wants_memory due arrived.now.header.now (scene_seen heading.now.is_behind first.old self.old page.old) ≡ true) }
+        ensures scene { OnOk result (scene_seen heading.now.is_behind first.new self.new page.new
+            ≡ handled heading.now due (packet_model arrived.now.packet.now) arrived.now.header.now arrived.now.content.now
+            (scene_seen heading.now.is_behind first.old self.old page.old)) }
     {
+        if !heading.is_behind {
+            return match &mut self.side {
+                Some(side) => take_packet(
+                    scratch,
+                    page,
+                    heading,
+                    first,
+                    side.as_mut(),
+                    due,
+                    arrived,
+                ),
+                None => take_alone(scratch, page, heading, first, due, arrived),
+            };
+        }
         match &mut self.side {
             Some(side) => take_packet(scratch, page, heading, side.as_mut(), first, due, arrived),
             None if arrived.header.control & SYSTEM != 0 => {
@@ -179,28 +196,6 @@ impl KeptSide {
                 self.side = Some(side);
                 Ok(())
             }
-        }
-    }
-
-    /// Takes a packet of the flow that began before. Memory is refused only where [`take_packet`] may refuse it.
-    #[inline(always)]
-    pub fn take_first(
-        &mut self,
-        scratch: &mut Scratch,
-        page: &mut Page,
-        heading: &Heading<'_>,
-        first: &mut Side,
-        due: Due,
-        arrived: &Arrived<'_>,
-    ) -> Result<(), AllocError>
-        ensures front { page.new.text.front ≡ page.old.text.front }
-        ensures memory { OnErr result (wants_memory due arrived.now.header.now (scene first.old self.old page.old) ≡ true) }
-        ensures scene { OnOk result (scene first.new self.new page.new
-            ≡ handled heading.now due (packet_model arrived.now.packet.now) arrived.now.header.now arrived.now.content.now (scene first.old self.old page.old)) }
-    {
-        match &mut self.side {
-            Some(side) => take_packet(scratch, page, heading, first, side.as_mut(), due, arrived),
-            None => take_alone(scratch, page, heading, first, due, arrived),
         }
     }
 

@@ -10,7 +10,6 @@ use crate::both_flows::BothFlows;
 use crate::bringing::read_first;
 use crate::given::Given;
 use crate::side::Side;
-use crate::track::Track;
 use std::alloc::AllocError;
 use xns_spp::MOST_PENDING;
 
