@@ -58,15 +58,6 @@ pub whole_said : (p : Phase) (stage : Stage) (skipped : ℕ) (pieces body : List
 whole_said p stage skipped [] body ms e r s = said_to_mark p _ (item_of 0 true body) refl refl r ∙ s
 whole_said p stage skipped (b ∷ pieces) body ms e r s = (cc)
 
--- pieces with bytes keep some
-pub kept_none : (stage : Stage) (skipped : ℕ) (pieces : List ℕ) → IsHeld stage skipped pieces → KeepsNothing (phase_in stage (drop skipped pieces)) → length pieces ≡ 0
-kept_none Opening skipped pieces held none = ap length (ap (λ n. drop n pieces) (sym held.0) ∙ none)
-kept_none Fresh skipped pieces held none = ap length held.1
-kept_none Inside skipped pieces (inl whole, few) none = ap length (ap (λ n. drop n pieces) (sym whole) ∙ none)
-kept_none Inside skipped pieces (inr (range, more), few) none =
-    let left : length pieces - range_bytes ≡ 0 = sym (length-drop range_bytes pieces) ∙ ap length (ap (λ n. drop n pieces) (sym range) ∙ none) in
-    absurd (omega (arith, left, more))
-
 pub foreseen_fault : (e : SessionFault) (p : Phase) (x : Item) → x.stream ≡ 0 → Stops e ⊥ (run p (map byte x.body) ≡ Err e) → Foresees (Err e) (run p (signs x)) (said p (signs x))
 foreseen_fault e p x h = weaker e (λ u. u) on_fault where
   bytes : List Sign

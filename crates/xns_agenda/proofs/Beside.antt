@@ -69,12 +69,6 @@ none_at_all others n none = record { least = λ k t there. by k t (one_of others
 pub put_nothing : (others : List Time) (n : ℕ) → get_or others n None ≡ None → others ≡ slice_set others n None
 put_nothing others n none = subst (λ (z : Time). others ≡ slice_set others n z) none (sym (set-get_or others n None))
 
-pub no_time_yet : (most n : ℕ) → slice_set (replicate most never) n None ≡ replicate most never
-no_time_yet most n = sym (put_nothing (replicate most never) n (no_times most n))
-
-pub empty_beside : (most n : ℕ) → IsBeside (replicate most never) n None
-empty_beside most n = record { none = no_times most n; within = λ t e. absurd (cc) }
-
 -- a time that another number has is set again
 pub other_again : (others : List Time) (n k : ℕ) (v t u : Time) → k ≢ n → slice_get others k ≡ Some u → u ≡ t → slice_set others n v ≡ slice_set (slice_set others n v) k t
 other_again others n k v t u other is same = same_leaf (slice_set others n v) k t (place_other others n k v other ∙ is ∙ ap Some same)
@@ -86,14 +80,6 @@ set_again others n k v t same = sym (ap (λ (j : ℕ). slice_set (slice_set othe
 -- another number's time is taken out of the tree, and set beside it
 pub all_again : (others : List Time) (n k : ℕ) (v t : Time) → slice_set (slice_set (slice_set others n v) k None) k t ≡ slice_set (slice_set others n v) k t
 all_again others n k v t = set-set (slice_set others n v) k None t
-
-pub beside_now : (others : List Time) (n k : ℕ) (v : Time) (t : Time) → k < length others → IsBeside (slice_set (slice_set others n v) k None) k t
-beside_now others n k v t less =
-    let size = length-set others n v in
-    let all = length-set (slice_set others n v) k None in record {
-      none = get_or-set_same (slice_set others n v) k None None (omega (arith, size, less));
-      within = λ _ _. omega (arith, size, all, less);
-    }
 
 -- ---- the one beside is no earlier
 

@@ -16,23 +16,3 @@ behind_tag number (a ∷ []) tag long = absurd (omega arith)
 behind_tag number (a ∷ b ∷ []) tag long = absurd (omega arith)
 behind_tag number (a ∷ b ∷ c ∷ []) tag long = absurd (omega arith)
 behind_tag number (a ∷ b ∷ c ∷ d ∷ bytes) tag long = tag_is_no_type number (a ∷ b ∷ c ∷ d ∷ bytes) (behind_number (word_in_order Big (a ∷ b ∷ c ∷ d ∷ bytes) 2) bytes) tag
-
-pub behind_cut_tag : (number : ℕ) (bytes : List ℕ) → is_tag number ≡ true → length bytes < 4 → behind_number number bytes ≡ None
-behind_cut_tag number [] tag short = tag_is_no_type number [] None tag
-behind_cut_tag number (a ∷ []) tag short = tag_is_no_type number (a ∷ []) None tag
-behind_cut_tag number (a ∷ b ∷ []) tag short = tag_is_no_type number (a ∷ b ∷ []) None tag
-behind_cut_tag number (a ∷ b ∷ c ∷ []) tag short = tag_is_no_type number (a ∷ b ∷ c ∷ []) None tag
-behind_cut_tag number (a ∷ b ∷ c ∷ d ∷ bytes) tag short = absurd (omega arith)
-
-by_no_tag : (number : ℕ) (bytes : List ℕ) (tagged : Option (List ℕ)) → is_tag number ≡ false
-    → by_number number bytes tagged ≡ by_number number bytes None
-by_no_tag number bytes tagged tag = grind (arith, nat_tests)
-
--- a number of no tag
-pub behind_no_tag : (number : ℕ) (bytes : List ℕ) → is_tag number ≡ false → behind_number number bytes ≡ by_number number bytes None
-behind_no_tag number [] tag = refl
-behind_no_tag number (a ∷ []) tag = refl
-behind_no_tag number (a ∷ b ∷ []) tag = refl
-behind_no_tag number (a ∷ b ∷ c ∷ []) tag = refl
-behind_no_tag number (a ∷ b ∷ c ∷ d ∷ bytes) tag =
-    by_no_tag number (a ∷ b ∷ c ∷ d ∷ bytes) (behind_number (word_in_order Big (a ∷ b ∷ c ∷ d ∷ bytes) 2) bytes) tag

@@ -143,10 +143,6 @@ pub no_items : (xs : List ℕ) → (length xs == 0) ≡ true → xs ≡ []
 no_items [] e = refl
 no_items (x ∷ xs) e = absurd (omega (arith, eqb-true (length (x ∷ xs)) 0 e))
 
-pub some_items : (format : Format) (xs : List ℕ) → (length xs == 0) ≡ false → end_in format xs ≡ Some Cut
-some_items format [] e = absurd (eqb-false 0 0 e refl)
-some_items format (x ∷ xs) e = refl
-
 -- the taker stands for the same packets, and the same is kept
 pub anew : (reading : Reading) (read kept kept' : List ℕ) (stands stands' : Says) → kept' ≡ kept → (h : HasRead reading read kept stands)
     → (stands (packets_in None 1 h.frames) → stands' (packets_in None 1 h.frames)) → HasRead reading read kept' stands'

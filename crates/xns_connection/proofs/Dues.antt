@@ -93,12 +93,3 @@ pub fits_same : (closed : Option Why) (t u : Conversation) (w : Waiting) → Fit
     → drains u.side u.closing ≡ drains t.side t.closing → FitsClosed closed u w
 fits_same closed t u w fits same =
     record { open_due = fits.open_due; closed_due = fits.closed_due; deaf = λ some. same ∙ fits.deaf some }
-
-pub fits_open : (closed : Option Why) (t : Conversation) (w : Waiting) → is_some closed ≡ false → is_open_due w.due ≡ true → FitsClosed closed t w
-fits_open (Some why) t w none opens = absurd (cc)
-fits_open None t w none opens = record { open_due = λ z. opens; closed_due = λ some. absurd (some refl); deaf = λ some. absurd (some refl) }
-
-pub fits_shut : (closed : Option Why) (t : Conversation) (w : Waiting) → is_some closed ≡ true → is_closed_due w.due ≡ true
-    → drains t.side t.closing ≡ true → FitsClosed closed t w
-fits_shut None t w some shuts deaf = absurd (cc)
-fits_shut (Some why) t w some shuts deaf = record { open_due = λ none. absurd (cc); closed_due = λ z. shuts; deaf = λ z. deaf }
