@@ -1,5 +1,5 @@
 -- What is read at the front of words.
-use Rattle.std.proofs.Common.{◌≡◌, ◌<◌, ◌≤◌, ℕ, ℤ, zero, suc, ◌+◌, ◌*◌, ◌-◌, List, [], ◌∷◌, length, slice_index_or, ap, subst, sym, refl, arith, ◌/◌, ◌%◌, ◌++◌, ◌∙◌, take, slice_set}
+use Rattle.std.proofs.Common.{◌≡◌, ◌<◌, ◌≤◌, ℕ, ℤ, zero, suc, ◌+◌, ◌*◌, ◌-◌, List, [], ◌∷◌, length, slice_index_or, ap, subst, sym, refl, arith, ◌++◌, ◌∙◌, take, slice_set}
 use Rattle.std.specs.Int.{w16, w32, cast_signed}
 use Rattle.courier_types.specs.Front.{value_of}
 use Rattle.courier_types.specs.Reading.{reading, front_long}

@@ -1,5 +1,5 @@
 -- Texts that are read.
-use Rattle.std.proofs.Common.{◌≡◌, ◌<◌, ◌≤◌, ℕ, zero, suc, ◌+◌, ◌-◌, ◌*◌, ◌/◌, ◌%◌, List, [], ◌∷◌, ◌++◌, length, drop, take, Result, Ok, Err, ◌⊎◌, inl, inr, slice_index_or, slice_set, ap, sym, subst, refl, arith, append-nil, take_all, length-drop, length-take-le, ◌∙◌}
+use Rattle.std.proofs.Common.{◌≡◌, ◌<◌, ◌≤◌, ℕ, zero, suc, ◌+◌, ◌-◌, ◌*◌, ◌/◌, ◌%◌, List, [], ◌∷◌, ◌++◌, length, drop, take, Result, Ok, Err, slice_index_or, slice_set, ap, sym, subst, refl, arith, append-nil, take_all, length-drop, length-take-le, ◌∙◌}
 use Rattle.courier_types.specs.Front.{value_of, placed}
 use Rattle.courier_types.specs.Reading.{◌>>=◌, over, reading, front_bytes, front_text}
 use Rattle.courier_types.specs.Shape.{ShapeModel}
@@ -7,6 +7,7 @@ use Rattle.courier_types.specs.Source.{bytes_of}
 use Rattle.courier_types.specs.Value.{ValueModel}
 use Rattle.courier_types.specs.declared.read_fault.ReadFault.{ReadFault}
 use Rattle.courier_types.specs.declared.read_fault.Reason.TheVariants.{Truncated}
+use Rattle.courier_messages.proofs.Cuts.{bytes_length}
 use Rattle.courier_types.proofs.Taken.{bytes_read, bytes_short}
 use Rattle.xns_c.proofs.Spelled.{set_last}
 
@@ -61,15 +62,11 @@ odd_put words bytes [] last n place enough same none put count more is =
 
 -- where a text's words are all there
 
-twice : (ws : List ℕ) → length (bytes_of ws) ≡ 2 * length ws
-twice [] = refl
-twice (w ∷ ws) = let more = twice ws in omega (arith, more)
-
 -- so many bytes, where the words are that many
 many_bytes : (n : ℕ) (ws : List ℕ) → n / 2 + n % 2 ≤ length ws → length (take n (bytes_of (take (n / 2 + n % 2) ws))) ≡ n
 many_bytes n ws le =
     let words : length (take (n / 2 + n % 2) ws) ≡ n / 2 + n % 2 = length-take-le (n / 2 + n % 2) ws le in
-    length-take-le n (bytes_of (take (n / 2 + n % 2) ws)) (omega (arith, words, twice (take (n / 2 + n % 2) ws)))
+    length-take-le n (bytes_of (take (n / 2 + n % 2) ws)) (omega (arith, words, bytes_length (take (n / 2 + n % 2) ws)))
 
 -- the bytes that so many words spell, where they are all there
 bytes_there : (n : ℕ) (ws : List ℕ) → n / 2 + n % 2 ≤ length ws → (bytes : List ℕ) × (front_bytes n ws ≡ Ok (bytes, drop (n / 2 + n % 2) ws)) × (length bytes ≡ n)

@@ -5,7 +5,6 @@ use Rattle.xns_host.specs.declared.host_fault.HostFault.{HostFault}
 use Rattle.xns_host.specs.declared.host_fault.HostFault.TheVariants.{NoRoom}
 use Rattle.xns_c.specs.Faults.{host_fault_number}
 use Rattle.xns_c.specs.Hosts.{ends_fault, number_told}
-use Rattle.xns_c.specs.Structs.{address_of_struct}
 use Rattle.xns_c.proofs.Hosts.{fault_by, no_room_by, unused}
 use Rattle.xns_c.proofs.kept_host.KeptHost.connect.Goals as goal
 
