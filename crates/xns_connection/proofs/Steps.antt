@@ -156,22 +156,21 @@ still_stands t u rest has = same_history u.endpoint t.endpoint rest.endpoint has
 pub ruleset rest_kept = (still_timed, still_fits, still_stands)
 
 -- something was done at a connection, but that bytes came, and then what could move moved
-pub step_by : (now : ℕ) (deed : Deed) (old new : Connection) (mid : Conversation) → mid.endpoint ≡ old.conversation.endpoint
+pub step_by : (now : ℕ) (deed : Deed) (old new : Connection) (mid : Conversation) → KeepsRest old.conversation mid
     → ((s : State) → conversation_scene mid s ≡ done deed (conversation_scene old.conversation s)) → ((s : State) → owed_by deed old.owed old.wait s now ≡ old.owed)
     → ((s : State) → wait_after_deed deed old.wait s now ≡ old.wait)
     → GoesOnBy now mid new.conversation old.owed new.owed old.closed new.closed old.wait new.wait
-    → May old.conversation deed → (StepsAt now old.wait new.wait → WaitsBy deed now old.wait new.wait) → mid.packets ≡ old.conversation.packets
-    → new.told ≡ old.told → Step now deed old new
-step_by now deed old new mid end did owes waits_same goes may steps packets told = record {
+    → May old.conversation deed → (StepsAt now old.wait new.wait → WaitsBy deed now old.wait new.wait) → new.told ≡ old.told → Step now deed old new
+step_by now deed old new mid rest did owes waits_same goes may steps told = record {
   moved = goes.moved;
   may = may;
   steps = steps goes.steps;
   on = λ s stands.
-      let first = goes.on s (subst (λ (e : Held). StandsFor e s) (sym end) stands) in
+      let first = goes.on s (subst (λ (e : Held). StandsFor e s) (sym rest.endpoint) stands) in
       subst (λ (x : ConversationScene). Moved now x goes.moved new.conversation (owed_by deed old.owed old.wait s now) new.owed old.closed new.closed (wait_after_deed deed old.wait s now) new.wait) (did s)
       (subst (λ (o : Owed). Moved now (conversation_scene mid s) goes.moved new.conversation o new.owed old.closed new.closed (wait_after_deed deed old.wait s now) new.wait) (sym (owes s))
       (subst (λ (w : Waiting). Moved now (conversation_scene mid s) goes.moved new.conversation old.owed new.owed old.closed new.closed w new.wait) (sym (waits_same s)) first));
-  packets = goes.packets ∙ packets;
+  packets = goes.packets ∙ rest.packets;
   told = told;
   stays = goes.stays;
 }

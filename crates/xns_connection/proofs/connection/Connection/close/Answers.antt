@@ -9,6 +9,6 @@ pub returns : goal.returns
 returns c =
     let k = c.close.ensures in
     record {
-      step = step_by c.args.now asked c.args.self.now _ c.close.new.self k.rest.endpoint (λ s. ap (λ (t : Conversation). conversation_scene t s) k.is) (λ s. refl) (λ s. refl)
-          c.go_on.ensures.moved tt (λ steps. steps) k.rest.packets c.go_on.ensures.told;
+      step = step_by c.args.now asked c.args.self.now _ c.close.new.self k.rest (λ s. ap (λ (t : Conversation). conversation_scene t s) k.is) (λ s. refl) (λ s. refl)
+          c.go_on.ensures.moved tt (λ steps. steps) c.go_on.ensures.told;
     }

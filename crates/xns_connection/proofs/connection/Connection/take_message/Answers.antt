@@ -36,5 +36,5 @@ returns-clause-step c =
       | else-not-self-via-then-not-self+else-is_calm w ↦ and_right (not c.args.self.now.owed.moving) _ (ap is_calm (sym same) ∙ (sym (w.is_calm.ensures.value s (subst (λ (e : Held). StandsFor e s) (sym k.rest.endpoint) stands)) ∙ w.if-is_calm.false))
       | else-not-self-via-else-not-self w ↦ and_left (not c.args.self.now.owed.moving) _ (cc)
     ])
-    (step_by c.args.now took c.args.self.now _ c.take_message.new.self k.rest.endpoint (λ s. ap (λ (t : Conversation). conversation_scene t s) k.is) (λ s. refl) (λ s. refl)
-    c.go_on.ensures.moved tt (λ steps. steps) k.rest.packets c.go_on.ensures.told)
+    (step_by c.args.now took c.args.self.now _ c.take_message.new.self k.rest (λ s. ap (λ (t : Conversation). conversation_scene t s) k.is) (λ s. refl) (λ s. refl)
+    c.go_on.ensures.moved tt (λ steps. steps) c.go_on.ensures.told)
