@@ -112,12 +112,10 @@ left_none side call none e = ap (λ (s : Side). record s { call = call }) none �
 
 advanced_none : (h : Heading) (n : ℕ) (s : Scene) → s.other ≡ no_side → (advanced h n s).other ≡ no_side
 unfolding advanced
-advanced_none h n s none = by_track s.own.track
-  where
-    by_track : (o : Option Track) → (advance_track h n o s).other ≡ no_side
-    by_track None = none
-    by_track (Some track) =
-        left_none s.other (brought h n (told_of track s)).calls.asked none (brought_asked h n (told_of track s) (ap (λ (x : Side). x.call) none))
+advanced_none h n s none = elim s.own.track as (λ o. (advance_track h n o s).other ≡ no_side) [
+  | None ↦ none
+  | Some track ↦ left_none s.other (brought h n (told_of track s)).calls.asked none (brought_asked h n (told_of track s) (ap (λ (x : Side). x.call) none))
+]
 
 reached_none : (h : Heading) (number : Option ℕ) (s : Scene) → s.other ≡ no_side → (other_reached h number s).other ≡ no_side
 unfolding other_reached
@@ -133,20 +131,14 @@ own_reached_none h number s none = own_none h (reached s.own.track number) s non
 
 begun_none : (h : Heading) (packet : PacketModel) (f : Header) (s : Scene) → s.other ≡ no_side → (begun h packet f s).other ≡ no_side
 unfolding begun
-begun_none h packet f s none = by_track s.own.track
-  where
-    by_track : (o : Option Track) → (begin_track h packet f o s).other ≡ no_side
-    by_track None = none
-    by_track (Some track) = none
+begun_none h packet f s none = elim s.own.track as (λ o. (begin_track h packet f o s).other ≡ no_side) [ None ↦ none | Some track ↦ none ]
 
 new_none : (h : Heading) (n : ℕ) (item : Carried) (s : Scene) → s.other ≡ no_side → (after_new h n item s).other ≡ no_side
 unfolding after_new
-new_none h n item s none = by_track s.own.track
-  where
-    by_track : (o : Option Track) → (take_in_track h n item o s).other ≡ no_side
-    by_track None = none
-    by_track (Some track) =
-        left_none s.other (item_taken h n item (told_of track s)).calls.asked none (taken_asked h n item (told_of track s) (ap (λ (x : Side). x.call) none))
+new_none h n item s none = elim s.own.track as (λ o. (take_in_track h n item o s).other ≡ no_side) [
+  | None ↦ none
+  | Some track ↦ left_none s.other (item_taken h n item (told_of track s)).calls.asked none (taken_asked h n item (told_of track s) (ap (λ (x : Side). x.call) none))
+]
 
 number_none : (h : Heading) (o : Option ℕ) (item : Carried) (s : Scene) → s.other ≡ no_side → (after_number h o item s).other ≡ no_side
 number_none h None item s none = none

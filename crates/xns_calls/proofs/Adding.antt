@@ -2,6 +2,7 @@
 use Rattle.std.proofs.Common.{◌≡◌, ◌∙◌, ap, sym, refl, ℕ, ◌+◌, ◌-◌, ◌==◌, Bool, true, false, cond, List, [], ◌∷◌, ◌++◌, append_assoc, append-nil, Option, Some, None}
 use Rattle.std.specs.Prelude.{nat_lt}
 use Rattle.std.proofs.lemmas.Grind.{flat_map-append}
+use Rattle.std.proofs.lemmas.Bool.{cond_both}
 use Rattle.xns_idp.specs.Packet.{PacketModel}
 use Rattle.xns_spp.specs.Header.{is_system}
 use Rattle.xns_spp.specs.declared.header.Header.{Header}
@@ -22,7 +23,6 @@ use Rattle.xns_calls.specs.declared.heard.Heard.{Heard}
 use Rattle.xns_calls.specs.declared.heard.Heard.TheVariants as heard
 use Rattle.xns_calls.specs.declared.track.Track.{Track}
 use Rattle.xns_calls.specs.Unanswered.{UnansweredCalls}
-use Rattle.xns_calls.proofs.Comparing.{by_test}
 use Rattle.xns_calls.proofs.Steps.{with_early}
 
 -- the text goes on with what is said under a heading
@@ -48,7 +48,7 @@ adds_on h a b c x y = record {
 passed_adds : (h : Heading) (n : ℕ) (t : Told) → Adds h t.text (passed h n t).text
 unfolding passed
 passed_adds h n t =
-    by_test (λ (u : Told). Adds h t.text u.text) (nat_lt t.track.next n) (past h n t) t (λ e. adds_one h t.text (lacks t.track.next n)) (λ e. adds_none h t.text)
+    cond_both (nat_lt t.track.next n) (past h n t) t (λ (u : Told). Adds h t.text u.text) (λ e. adds_one h t.text (lacks t.track.next n)) (λ e. adds_none h t.text)
 
 heard_adds : (h : Heading) (calls : UnansweredCalls) (x : Heard) (text : List ℕ) → Adds h text (text ++ heard_text h calls x)
 heard_adds h calls heard.Nothing text = record { said = []; is = refl }
@@ -62,7 +62,7 @@ said_adds h item t = heard_adds h t.calls (heard_of t.track.speech item) t.text
 next_adds : (h : Heading) (n : ℕ) (item : Item) (t : Told) → Adds h t.text (read_next h n item t).text
 next_adds h n item t =
     let onwards : Told = record t { track = record t.track { next = n } } in
-    by_test (λ (u : Told). Adds h t.text u.text) (item.stream == 0) (said_item h item onwards) onwards (λ e. said_adds h item onwards) (λ e. adds_none h t.text)
+    cond_both (item.stream == 0) (said_item h item onwards) onwards (λ (u : Told). Adds h t.text u.text) (λ e. said_adds h item onwards) (λ e. adds_none h t.text)
 
 item_adds : (h : Heading) (early : Early) (t : Told) → Adds h t.text (item_read h early t).text
 unfolding item_read
@@ -74,7 +74,7 @@ over_adds : (h : Heading) (n : ℕ) (es : List Early) (t : Told) → Adds h t.te
 over_adds h n [] t = passed_adds h n t
 over_adds h n (early ∷ rest) t =
     let u = item_read h early (with_early rest t) in
-    by_test (λ (v : Told). Adds h t.text v.text) (nat_lt early.number n) (brought_over h n rest u) (passed h n t)
+    cond_both (nat_lt early.number n) (brought_over h n rest u) (passed h n t) (λ (v : Told). Adds h t.text v.text)
     (λ e. adds_on h t.text u.text (brought_over h n rest u).text (item_adds h early (with_early rest t)) (over_adds h n rest u)) (λ e. passed_adds h n t)
 
 brought_adds : (h : Heading) (n : ℕ) (t : Told) → Adds h t.text (brought h n t).text
@@ -87,7 +87,7 @@ taken_adds h n item t = brought_adds h (n - most_early) t
 first_over_adds : (h : Heading) (es : List Early) (t : Told) → Adds h t.text (first_read_over h es t).text
 first_over_adds h [] t = adds_none h t.text
 first_over_adds h (early ∷ rest) t =
-    by_test (λ (v : Told). Adds h t.text v.text) (nat_lt t.track.next early.number) t (item_read h early (with_early rest t)) (λ e. adds_none h t.text) (λ e. item_adds h early (with_early rest t))
+    cond_both (nat_lt t.track.next early.number) t (item_read h early (with_early rest t)) (λ (v : Told). Adds h t.text v.text) (λ e. adds_none h t.text) (λ e. item_adds h early (with_early rest t))
 
 pub first_adds : (h : Heading) (t : Told) → Adds h t.text (first_read h t).text
 unfolding first_read
@@ -144,7 +144,7 @@ own_adds h (Some n) s = advanced_adds h n s
 content_adds : (h : Heading) (a : Option ℕ) (packet : PacketModel) (f : Header) (content : List ℕ) (s : Scene) → Adds h s.text (after_content h a packet f content s).text
 unfolding after_content
 content_adds h a packet f content s =
-    by_test (λ (u : Scene). Adds h s.text u.text) (is_system f) s (after_data h a packet f content s) (λ e. adds_none h s.text) (λ e. data_adds h a packet f content s)
+    cond_both (is_system f) s (after_data h a packet f content s) (λ (u : Scene). Adds h s.text u.text) (λ e. adds_none h s.text) (λ e. data_adds h a packet f content s)
 
 own_reached_adds : (h : Heading) (number : Option ℕ) (s : Scene) → Adds h s.text (own_reached h number s).text
 unfolding own_reached
@@ -171,7 +171,7 @@ effect_adds h (Some n) t = if_adds h (up_to (last_kept_number t.track.early) (So
 captured_adds : (h : Heading) (o : Option ℕ) (item : Carried) (t : Told) → Adds h t.text (after_events (captured_event h o item) t).text
 captured_adds h None item t = adds_none h t.text
 captured_adds h (Some n) item t =
-    by_test (λ (u : Told). Adds h t.text u.text) (is_repeat n t.track) t (item_taken h n item t) (λ e. adds_none h t.text) (λ e. taken_adds h n item t)
+    cond_both (is_repeat n t.track) t (item_taken h n item t) (λ (u : Told). Adds h t.text u.text) (λ e. adds_none h t.text) (λ e. taken_adds h n item t)
 
 item_adds_to : (p : Bool) (h : Heading) (o : Option ℕ) (item : Carried) (t : Told) → Adds h t.text (after_events (cond p [] (captured_event h o item)) t).text
 item_adds_to true h o item t = adds_none h t.text

@@ -1,6 +1,7 @@
 -- At which line what happens to a flow happens.
 use Rattle.std.proofs.Common.{◌≡◌, refl, subst, arith, ℕ, ◌+◌, ◌<◌, ◌≤◌, ◌==◌, Bool, true, false, cond, List, [], ◌∷◌, ◌++◌, length, Option, Some, None}
 use Rattle.std.specs.Prelude.{nat_lt, ◌-◌}
+use Rattle.std.proofs.lemmas.Bool.{cond_both}
 use Rattle.xns_spp.specs.declared.item.Item.{Item}
 use Rattle.xns_calls.specs.Capture.{heading_at}
 use Rattle.xns_calls.specs.declared.carried.Carried.{Carried}
@@ -16,7 +17,6 @@ use Rattle.xns_calls.specs.Queue.{last_kept_number}
 use Rattle.xns_calls.specs.Reading.{Told, read_next}
 use Rattle.xns_calls.specs.Speech.{heard_of}
 use Rattle.xns_calls.specs.Whole.{ToldHeard, flow_heard, heard_below, heard_below_if, heard_first, heard_with, new_heard}
-use Rattle.xns_calls.proofs.Comparing.{by_test}
 use Rattle.xns_calls.proofs.Steps.{with_early}
 
 -- the events are of a flow at one line
@@ -110,14 +110,14 @@ both_heard_at h [] ys a b = b
 both_heard_at h (x ∷ xs) ys a b = (a.0, both_heard_at h xs ys a.1 b)
 
 with_heard_at : (h : Heading) (item : Item) (t : Told) → AreHeardAt h (heard_with h item t)
-with_heard_at h item t = by_test (AreHeardAt h) (item.stream == 0) ((h, t.calls, heard_of t.track.speech item) ∷ []) [] (λ e. (refl, tt)) (λ e. tt)
+with_heard_at h item t = cond_both (item.stream == 0) ((h, t.calls, heard_of t.track.speech item) ∷ []) [] (AreHeardAt h) (λ e. (refl, tt)) (λ e. tt)
 
 below_heard_at : (h : Heading) (n : ℕ) (es : List Early) (t : Told) → AreHeardAt h (heard_below h n es t)
 below_heard_at h n [] t = tt
 below_heard_at h n (e ∷ rest) t =
     let one = heard_with h e.item.item t in
     let more = heard_below h n rest (read_next h (e.number + 1) e.item.item (with_early rest t)) in
-    by_test (AreHeardAt h) (nat_lt e.number n) (one ++ more) []
+    cond_both (nat_lt e.number n) (one ++ more) [] (AreHeardAt h)
     (λ less. both_heard_at h one more (with_heard_at h e.item.item t) (below_heard_at h n rest (read_next h (e.number + 1) e.item.item (with_early rest t))))
     (λ above. tt)
 
@@ -127,7 +127,7 @@ if_heard_at h (Some n) t = below_heard_at h n t.track.early t
 
 first_heard_at : (h : Heading) (es : List Early) (t : Told) → AreHeardAt h (heard_first h es t)
 first_heard_at h [] t = tt
-first_heard_at h (e ∷ rest) t = by_test (AreHeardAt h) (nat_lt t.track.next e.number) [] (heard_with h e.item.item t) (λ later. tt) (λ due. with_heard_at h e.item.item t)
+first_heard_at h (e ∷ rest) t = cond_both (nat_lt t.track.next e.number) [] (heard_with h e.item.item t) (AreHeardAt h) (λ later. tt) (λ due. with_heard_at h e.item.item t)
 
 module _ (programs : Programs) (p : FlowName) (last : ℕ) where
   heard_between : (n : ℕ) (xs ys : List ToldHeard) → n ≤ last → AreHeardAt (line_heading programs p.connection p.is_behind n) xs → AreAtLines programs p n last ys → AreAtLines programs p n last (xs ++ ys)
@@ -148,7 +148,7 @@ module _ (programs : Programs) (p : FlowName) (last : ℕ) where
   events_between first [] t a = tt
   events_between first (captured heading number item ∷ more) t a =
       event_between first a.0 heading (new_heard (captured heading number item) t) (flow_heard more (after_event (captured heading number item) t)) a.1 a.2 a.3
-      (by_test (AreHeardAt heading) (is_repeat number t.track) [] (heard_below heading (number - most_early) t.track.early t) (λ old. tt) (λ new. below_heard_at heading (number - most_early) t.track.early t))
+      (cond_both (is_repeat number t.track) [] (heard_below heading (number - most_early) t.track.early t) (AreHeardAt heading) (λ old. tt) (λ new. below_heard_at heading (number - most_early) t.track.early t))
       (events_between a.0 more (after_event (captured heading number item) t) a.4)
   events_between first (acknowledged heading number ∷ more) t a =
       event_between first a.0 heading (new_heard (acknowledged heading number) t) (flow_heard more (after_event (acknowledged heading number) t)) a.1 a.2 a.3

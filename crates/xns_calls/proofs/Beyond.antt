@@ -1,6 +1,7 @@
 -- No flow goes beyond what is captured of it, and nothing is missing where nothing behind the next item is captured.
 use Rattle.std.proofs.Common.{◌≡◌, ap, sym, refl, subst, arith, ℕ, zero, suc, ◌+◌, ◌-◌, ◌≤◌, inl, inr, cond, List, [], ◌∷◌, length, Option, Some, None}
 use Rattle.std.specs.Prelude.{nat_lt, min, IfSome, option_map, slice_get}
+use Rattle.std.proofs.lemmas.Bool.{cond_both}
 use Rattle.xns_calls.specs.declared.carried.Carried.{Carried}
 use Rattle.xns_calls.specs.declared.early.Early.{Early}
 use Rattle.xns_calls.specs.declared.heading.Heading.{Heading}
@@ -10,7 +11,6 @@ use Rattle.xns_calls.specs.Numbers.{most_early}
 use Rattle.xns_calls.specs.Queue.{kept, last_kept_number}
 use Rattle.xns_calls.specs.Reading.{Told, brought, first_read, item_read}
 use Rattle.xns_calls.proofs.Steps.{early_of, passed_early, read_early, with_early}
-use Rattle.xns_calls.proofs.Comparing.{by_test}
 use Rattle.xns_calls.proofs.Gaps.{brought_whole, first_whole}
 use Rattle.xns_calls.proofs.Known.{early, event_ordered, events_ordered, kept_cases, new_ordered, with_item}
 use Rattle.xns_calls.proofs.Ordered.{AreFrom, Bears, IsOrdered, Kept, brought_bears, first_bears, item_next, next_of, passed_next}
@@ -60,7 +60,7 @@ unfolding AreTo
 kept_to most k item [] le h = (le, tt)
 kept_to most k item (e ∷ rest) le h =
     subst (AreTo most) (sym (kept_cases (nat_lt e.number k) k item e rest refl))
-    (by_test (AreTo most) (nat_lt e.number k) (e ∷ kept k item rest) (early k item ∷ e ∷ rest) (λ less. (h.0, kept_to most k item rest le h.1)) (λ more. (le, h)))
+    (cond_both (nat_lt e.number k) (e ∷ kept k item rest) (early k item ∷ e ∷ rest) (AreTo most) (λ less. (h.0, kept_to most k item rest le h.1)) (λ more. (le, h)))
 
 got_to : (most : ℕ) (es : List Early) (i : ℕ) → AreTo most es → IfSome (option_map (λ (e : Early). e.number) (slice_get es i)) (λ n. n ≤ most)
 unfolding AreTo
@@ -77,7 +77,7 @@ event_to most (captured h k item) t ordered up b =
     let le : k ≤ most = up k (inl refl) in
     let u = brought h (k - most_early) t in
     let at = brought_to most h (k - most_early) t ordered (omega (arith, le)) b in
-    by_test (IsTo most) (is_repeat k t.track) t (with_item k item u) (λ old. b)
+    cond_both (is_repeat k t.track) t (with_item k item u) (IsTo most) (λ old. b)
     (λ new. record { next = at.next; kept = kept_to most k item (early_of u) le at.kept })
 event_to most (acknowledged h n) t ordered up b = acknowledged_to most h (last_kept_number t.track.early) n t ordered (got_to most t.track.early (length t.track.early - 1) b.kept) b
 event_to most (read h) t ordered up b = first_to_bears most h t ordered b
@@ -130,7 +130,7 @@ holds_if most h (Some n) t ordered b = brought_bears (Holds most) h n t (holds_b
 event_kept : (most : ℕ) (e : Event) (t : Told) → IsOrdered t → ((n : ℕ) → IsAmong n (with_captured e []) → n ≤ most) → Holds most t → Holds most (after_event e t)
 event_kept most (captured h k item) t ordered up b =
     let u = brought h (k - most_early) t in
-    by_test (Holds most) (is_repeat k t.track) t (with_item k item u) (λ old. b)
+    cond_both (is_repeat k t.track) t (with_item k item u) (Holds most) (λ old. b)
     (λ new. kept_to most k item (early_of u) (up k (inl refl)) (brought_bears (Holds most) h (k - most_early) t (holds_bears most h (k - most_early)) ordered b))
 event_kept most (acknowledged h n) t ordered up b = holds_if most h (up_to (last_kept_number t.track.early) (Some n)) t ordered b
 event_kept most (read h) t ordered up b = first_bears (Holds most) h (λ e rest u same le p. holds_read most h e rest u same p) t ordered b

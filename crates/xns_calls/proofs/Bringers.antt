@@ -1,6 +1,7 @@
 -- Each item that a flow keeps was brought by a packet of the flow.
 use Rattle.std.proofs.Common.{◌≡◌, ap, sym, refl, subst, inl, inr, ℕ, ◌-◌, ◌⊎◌, Bool, true, false, cond, List, [], ◌∷◌, ◌++◌, Option, Some, None}
 use Rattle.std.specs.Prelude.{nat_lt}
+use Rattle.std.proofs.lemmas.Bool.{cond_both}
 use Rattle.xns_idp.specs.Packet.{PacketModel}
 use Rattle.xns_spp.specs.Header.{is_system}
 use Rattle.xns_spp.specs.declared.header.Header.{Header}
@@ -21,7 +22,6 @@ use Rattle.xns_calls.specs.declared.early.Early.{Early}
 use Rattle.xns_calls.specs.declared.heading.Heading.{Heading}
 use Rattle.xns_calls.specs.declared.origin.Origin.{Origin}
 use Rattle.xns_calls.specs.declared.track.Track.{Track}
-use Rattle.xns_calls.proofs.Comparing.{by_test}
 use Rattle.xns_calls.proofs.GoingOn.{GoesOn, begin_scene, begin_told, behind_runs, behind_still, behind_told, goes_order, new_runs, one_goes, own_runs, own_told, system_still, told_ordered}
 use Rattle.xns_calls.proofs.Known.{early, event_ordered, events_ordered, kept_cases, with_item}
 use Rattle.xns_calls.proofs.Ordered.{AreFrom, Bears, IsOrdered, brought_bears, first_bears}
@@ -58,7 +58,7 @@ has_kept : (Q : Carried → Type 0) (k : ℕ) (item : Carried) (es : List Early)
 has_kept Q k item [] new has = (new, tt)
 has_kept Q k item (e ∷ rest) new has =
     subst (AllEarly Q) (sym (kept_cases (nat_lt e.number k) k item e rest refl))
-    (by_test (AllEarly Q) (nat_lt e.number k) (e ∷ kept k item rest) (early k item ∷ e ∷ rest) (λ less. (has.0, has_kept Q k item rest new has.1)) (λ more. (new, has)))
+    (cond_both (nat_lt e.number k) (e ∷ kept k item rest) (early k item ∷ e ∷ rest) (AllEarly Q) (λ less. (has.0, has_kept Q k item rest new has.1)) (λ more. (new, has)))
 
 -- ---- events
 
@@ -76,7 +76,7 @@ AllBring Q (e ∷ more) = Brings Q e × AllBring Q more
 event_has : (Q : Carried → Type 0) (e : Event) (t : Told) → IsOrdered t → Brings Q e → Has Q t → Has Q (after_event e t)
 event_has Q (captured h k item) t ordered new has =
     let u = brought h (k - most_early) t in
-    by_test (Has Q) (is_repeat k t.track) t (with_item k item u) (λ old. has) (λ other. has_kept Q k item (early_of u) new (has_brought Q h (k - most_early) t ordered has))
+    cond_both (is_repeat k t.track) t (with_item k item u) (Has Q) (λ old. has) (λ other. has_kept Q k item (early_of u) new (has_brought Q h (k - most_early) t ordered has))
 event_has Q (acknowledged h n) t ordered new has = has_if Q h (up_to (last_kept_number t.track.early) (Some n)) t ordered has
 event_has Q (read h) t ordered new has = first_bears (Has Q) h (λ e rest u same le had. has_read Q h e rest u same had) t ordered has
 event_has Q (meanwhile calls text is_refused) t ordered new has = has

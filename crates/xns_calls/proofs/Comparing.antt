@@ -3,10 +3,6 @@ use Rattle.std.proofs.Common.{◌≡◌, refl, arith, ℕ, ◌+◌, ◌<◌, ◌
 use Rattle.std.specs.Prelude.{nat_lt}
 use Rattle.std.proofs.lemmas.Bool.{ltb-false, ltb-true}
 
-pub by_test : {A : Type 0} (P : A → Type 0) (p : Bool) (a b : A) → (p ≡ true → P a) → (p ≡ false → P b) → P (cond p a b)
-by_test P true a b f g = f refl
-by_test P false a b f g = g refl
-
 pub by_both : {A B : Type 0} (P : A → B → Type 0) (p : Bool) (a b : A) (x y : B) → (p ≡ true → P a x) → (p ≡ false → P b y) → P (cond p a b) (cond p x y)
 by_both P true a b x y f g = f refl
 by_both P false a b x y f g = g refl

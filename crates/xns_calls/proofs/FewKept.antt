@@ -1,6 +1,7 @@
 -- The items that a flow keeps have numbers near its next one, and are few.
 use Rattle.std.proofs.Common.{◌≡◌, ◌∙◌, ap, sym, refl, subst, arith, inl, inr, ℕ, ◌+◌, ◌-◌, ◌<◌, ◌≤◌, Bool, List, [], ◌∷◌, length, Option, Some, None}
 use Rattle.std.specs.Prelude.{nat_lt, max, slice_get}
+use Rattle.std.proofs.lemmas.Bool.{cond_both}
 use Rattle.xns_spp.specs.Ends.{most_pending}
 use Rattle.xns_dump.specs.Laws.{FlowsAreToldApart}
 use Rattle.xns_calls.specs.Calls.{known_of, nothing_known}
@@ -20,7 +21,6 @@ use Rattle.xns_calls.specs.declared.early.Early.{Early}
 use Rattle.xns_calls.specs.declared.heading.Heading.{Heading}
 use Rattle.xns_calls.specs.declared.track.Track.{Track}
 use Rattle.xns_calls.proofs.Begun.{IsOn}
-use Rattle.xns_calls.proofs.Comparing.{by_test}
 use Rattle.xns_calls.proofs.Endings.{none_at_first}
 use Rattle.xns_calls.proofs.Inputs.{numbered_from}
 use Rattle.xns_calls.proofs.FirstLines.{lines_awaited, lines_met}
@@ -69,7 +69,7 @@ over_reaches : (h : Heading) (n : ℕ) (es : List Early) (t : Told) → n ≤ ne
 over_reaches h n [] t = let next : next_of (passed h n t) ≡ max (next_of t) n = passed_next h n t in omega (arith, next)
 over_reaches h n (e ∷ rest) t =
     let u = item_read h e (with_early rest t) in
-    by_test (λ (x : Told). n ≤ next_of x) (nat_lt e.number n) (brought_over h n rest u) (passed h n t)
+    cond_both (nat_lt e.number n) (brought_over h n rest u) (passed h n t) (λ (x : Told). n ≤ next_of x)
     (λ due. over_reaches h n rest u)
     (λ later. let next : next_of (passed h n t) ≡ max (next_of t) n = passed_next h n t in omega (arith, next))
 
@@ -81,7 +81,7 @@ kept_below : (bound k : ℕ) (item : Carried) (es : List Early) → k < bound �
 kept_below bound k item [] lt below = (lt, tt)
 kept_below bound k item (e ∷ rest) lt below =
     subst (AreBelow bound) (sym (kept_cases (nat_lt e.number k) k item e rest refl))
-    (by_test (AreBelow bound) (nat_lt e.number k) (e ∷ kept k item rest) (early k item ∷ e ∷ rest) (λ less. (below.0, kept_below bound k item rest lt below.1)) (λ more. (lt, below)))
+    (cond_both (nat_lt e.number k) (e ∷ kept k item rest) (early k item ∷ e ∷ rest) (AreBelow bound) (λ less. (below.0, kept_below bound k item rest lt below.1)) (λ more. (lt, below)))
 
 near_if : (h : Heading) (o : Option ℕ) (t : Told) → IsOrdered t → IsNear t → IsNear (brought_if h o t)
 near_if h None t ordered near = near
@@ -92,7 +92,7 @@ event_near (captured h k item) t ordered near =
     let u = brought h (k - most_early) t in
     let there : k - 63 ≤ next_of u = brought_reaches h (k - most_early) t in
     let lt : k < next_of u + 64 = omega (arith, there) in
-    by_test IsNear (is_repeat k t.track) t (with_item k item u) (λ old. near)
+    cond_both (is_repeat k t.track) t (with_item k item u) IsNear (λ old. near)
     (λ new. kept_below (next_of u + most_pending) k item (early_of u) lt (brought_bears IsNear h (k - most_early) t (near_bears h (k - most_early)) ordered near))
 event_near (acknowledged h n) t ordered near = near_if h (up_to (last_kept_number t.track.early) (Some n)) t ordered near
 event_near (read h) t ordered near = first_bears IsNear h (λ e rest u same le now. near_read h e rest u same le now) t ordered near

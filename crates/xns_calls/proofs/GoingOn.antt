@@ -1,6 +1,7 @@
 -- No packet takes a flow back: the number of its next item never goes down, and what it keeps stays in order.
 use Rattle.std.proofs.Common.{◌≡◌, ◌∙◌, ap, sym, refl, subst, arith, ℕ, ◌+◌, ◌-◌, ◌≤◌, Bool, true, false, cond, List, [], ◌∷◌, Option, Some, None}
 use Rattle.std.specs.Prelude.{max}
+use Rattle.std.proofs.lemmas.Bool.{cond_both}
 use Rattle.xns_idp.specs.Packet.{PacketModel}
 use Rattle.xns_spp.specs.Header.{is_system}
 use Rattle.xns_spp.specs.declared.header.Header.{Header}
@@ -21,7 +22,6 @@ use Rattle.xns_calls.specs.declared.early.Early.{Early}
 use Rattle.xns_calls.specs.declared.heading.Heading.{Heading}
 use Rattle.xns_calls.specs.declared.origin.Origin.{Origin}
 use Rattle.xns_calls.specs.declared.track.Track.{Track}
-use Rattle.xns_calls.proofs.Comparing.{by_test}
 use Rattle.xns_calls.proofs.Known.{events_ordered, event_ordered, new_ordered, with_item}
 use Rattle.xns_calls.proofs.Onwards.{other_settled, other_settles, own_settled, own_settles}
 use Rattle.xns_calls.proofs.Ordered.{AreFrom, Bears, IsOrdered, brought_bears, first_bears, item_next, next_of, passed_next}
@@ -57,7 +57,7 @@ past_if least h (Some n) t ordered past = past_brought least h n t ordered past
 
 event_past : (least : ℕ) (e : Event) (t : Told) → IsOrdered t → IsPast least t → IsPast least (after_event e t)
 event_past least (captured h k item) t ordered past =
-    by_test (IsPast least) (is_repeat k t.track) t (with_item k item (brought h (k - most_early) t)) (λ old. past)
+    cond_both (is_repeat k t.track) t (with_item k item (brought h (k - most_early) t)) (IsPast least) (λ old. past)
     (λ new. past_brought least h (k - most_early) t ordered past)
 event_past least (acknowledged h n) t ordered past = past_if least h (up_to (last_kept_number t.track.early) (Some n)) t ordered past
 event_past least (read h) t ordered past = first_bears (IsPast least) h (λ e rest u same le now. past_read least h e rest u le now) t ordered past

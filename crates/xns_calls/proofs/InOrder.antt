@@ -134,19 +134,20 @@ no_turn None (Some b) line at is = (cc)
 no_turn (Some a) None line at is = (cc)
 no_turn (Some a) (Some b) line at is = (cc)
 
+none_left : (h : Heading) (given : Given) (s : Scene) (line : ℕ) → let u = settled h given s in
+    (readable u.own.track u.other.track given.other ≡ Some line) ⊎ (readable u.other.track u.own.track given.own ≡ Some line) → ⊥
+none_left h given s line at =
+    let u = settled h given s in no_turn (readable u.own.track u.other.track given.other) (readable u.other.track u.own.track given.own) line at (settled_left h given s)
+
 own_left_none : (h : Heading) (given : Given) (s : Scene) (track : Track) (early : Early) → (settled h given s).own.track ≡ Some track
     → CanBeRead track (settled h given s).other.track given.other early → ⊥
 own_left_none h given s track early at can =
-    let u = settled h given s in
-    no_turn (readable u.own.track u.other.track given.other) (readable u.other.track u.own.track given.own) early.item.line
-    (inl (ap (λ o. readable o u.other.track given.other) at ∙ can_so track u.other.track given.other early can)) (settled_left h given s)
+    let behind = (settled h given s).other.track in none_left h given s early.item.line (inl (ap (λ o. readable o behind given.other) at ∙ can_so track behind given.other early can))
 
 other_left_none : (h : Heading) (given : Given) (s : Scene) (track : Track) (early : Early) → (settled h given s).other.track ≡ Some track
     → CanBeRead track (settled h given s).own.track given.own early → ⊥
 other_left_none h given s track early at can =
-    let u = settled h given s in
-    no_turn (readable u.own.track u.other.track given.other) (readable u.other.track u.own.track given.own) early.item.line
-    (inr (ap (λ o. readable o u.own.track given.own) at ∙ can_so track u.own.track given.own early can)) (settled_left h given s)
+    let behind = (settled h given s).own.track in none_left h given s early.item.line (inr (ap (λ o. readable o behind given.own) at ∙ can_so track behind given.own early can))
 
 all_ended : (h : Heading) (s : Scene) (track : Track) → ((both_ended h s).own.track ≡ Some track) ⊎ ((both_ended h s).other.track ≡ Some track) → track.early ≡ []
 all_ended h s track (inl at) = own_left track (both_ended h s).own.track (both_ended h s).other.track at (both_left h s)

@@ -2,7 +2,7 @@
 use Rattle.std.proofs.Common.{◌≡◌, ◌∙◌, ap, sym, refl, subst, arith, ℕ, suc, ◌+◌, ◌-◌, ◌<◌, ◌≤◌, ◌==◌, ◌⊎◌, inl, inr, Bool, true, false, cond, List, [], ◌∷◌, Option, Some, None}
 use Rattle.std.specs.Prelude.{nat_lt, ◌||◌}
 use Rattle.std.specs.List.{insert, list_any}
-use Rattle.std.proofs.lemmas.Bool.{eq-eqb, eqb-true, lt-ltb, ltb-false, ltb-true, or_left, or_right}
+use Rattle.std.proofs.lemmas.Bool.{cond_both, eq-eqb, eqb-true, lt-ltb, ltb-false, ltb-true, or_left, or_right}
 use Rattle.xns_calls.specs.declared.carried.Carried.{Carried}
 use Rattle.xns_calls.specs.declared.early.Early.{Early}
 use Rattle.xns_calls.specs.declared.heading.Heading.{Heading}
@@ -12,7 +12,7 @@ use Rattle.xns_calls.specs.Numbers.{most_early}
 use Rattle.xns_calls.specs.Queue.{below, kept, last_kept_number}
 use Rattle.xns_calls.specs.Reading.{Told, brought, first_read, with_kept_item}
 use Rattle.xns_calls.proofs.Steps.{early_of, passed_early, read_early, with_early}
-use Rattle.xns_calls.proofs.Comparing.{by_test, not_less, other_than}
+use Rattle.xns_calls.proofs.Comparing.{not_less, other_than}
 use Rattle.xns_calls.proofs.Ordered.{AreFrom, Bears, IsKnown, IsOrdered, Kept, brought_bears, brought_ordered, first_bears, first_ordered, item_next, known_bears, known_read, next_of, passed_next}
 
 -- ---- an item more is kept
@@ -30,7 +30,7 @@ kept_from : (n k : ℕ) (item : Carried) (es : List Early) → AreFrom n es → 
 kept_from n k item [] from le new = (le, tt)
 kept_from n k item (e ∷ rest) from le new =
     subst (AreFrom n) (sym (kept_cases (nat_lt e.number k) k item e rest refl))
-    (by_test (AreFrom n) (nat_lt e.number k) (e ∷ kept k item rest) (early k item ∷ e ∷ rest)
+    (cond_both (nat_lt e.number k) (e ∷ kept k item rest) (early k item ∷ e ∷ rest) (AreFrom n)
     (λ less. (from.0, kept_from (e.number + 1) k item rest from.1 (omega (arith, ltb-true e.number k less)) (λ old. new (inr old))))
     (λ more. front (ltb-false e.number k more)))
   where
@@ -50,7 +50,7 @@ kept_has : (m k : ℕ) (item : Carried) (es : List Early) → (m ≡ k) ⊎ Kept
 kept_has m k item [] h = has_front m k item [] h
 kept_has m k item (e ∷ rest) h =
     subst (Kept m) (sym (kept_cases (nat_lt e.number k) k item e rest refl))
-    (by_test (Kept m) (nat_lt e.number k) (e ∷ kept k item rest) (early k item ∷ e ∷ rest) (λ less. has_behind m k e rest (kept k item rest) (kept_has m k item rest) h) (λ more. has_front m k item (e ∷ rest) h))
+    (cond_both (nat_lt e.number k) (e ∷ kept k item rest) (early k item ∷ e ∷ rest) (Kept m) (λ less. has_behind m k e rest (kept k item rest) (kept_has m k item rest) h) (λ more. has_front m k item (e ∷ rest) h))
 
 -- ---- what a repeat is
 
@@ -139,7 +139,7 @@ brought_if_ordered h (Some n) t ordered = brought_ordered h n t ordered
 
 pub event_ordered : (e : Event) (t : Told) → IsOrdered t → IsOrdered (after_event e t)
 event_ordered (captured h k item) t ordered =
-    by_test IsOrdered (is_repeat k t.track) t (with_item k item (brought h (k - most_early) t)) (λ old. ordered)
+    cond_both (is_repeat k t.track) t (with_item k item (brought h (k - most_early) t)) IsOrdered (λ old. ordered)
     (λ new. kept_ready k item (brought h (k - most_early) t) (ready h k t ordered new))
 event_ordered (acknowledged h n) t ordered = brought_if_ordered h (up_to (last_kept_number t.track.early) (Some n)) t ordered
 event_ordered (read h) t ordered = first_ordered h t ordered
@@ -161,7 +161,7 @@ kept_known m k item t (inr old) = inr (kept_has m k item (early_of t) (inr old))
 
 pub event_known : (m : ℕ) (e : Event) (t : Told) → IsOrdered t → IsKnown m t → IsKnown m (after_event e t)
 event_known m (captured h k item) t ordered known =
-    by_test (IsKnown m) (is_repeat k t.track) t (with_item k item (brought h (k - most_early) t)) (λ old. known)
+    cond_both (is_repeat k t.track) t (with_item k item (brought h (k - most_early) t)) (IsKnown m) (λ old. known)
     (λ new. kept_known m k item (brought h (k - most_early) t) (brought_known m h (k - most_early) t ordered known))
 event_known m (acknowledged h n) t ordered known = brought_if_known m h (up_to (last_kept_number t.track.early) (Some n)) t ordered known
 event_known m (read h) t ordered known = first_known m h t ordered known
@@ -170,7 +170,7 @@ event_known m (meanwhile calls text is_refused) t ordered known = known
 -- a captured item is known
 captured_known : (h : Heading) (k : ℕ) (item : Carried) (t : Told) → IsOrdered t → IsKnown k (after_event (captured h k item) t)
 captured_known h k item t ordered =
-    by_test (IsKnown k) (is_repeat k t.track) t (with_item k item (brought h (k - most_early) t)) (λ old. known_repeat k t old)
+    cond_both (is_repeat k t.track) t (with_item k item (brought h (k - most_early) t)) (IsKnown k) (λ old. known_repeat k t old)
     (λ new. inr (kept_has k k item (early_of (brought h (k - most_early) t)) (inl refl)))
 
 -- ---- what is captured is known

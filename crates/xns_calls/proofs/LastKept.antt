@@ -1,14 +1,13 @@
 -- The last item that a flow keeps, and acknowledgements of no more than that.
 use Rattle.std.proofs.Common.{◌≡◌, ◌∙◌, ap, sym, refl, subst, arith, ℕ, suc, ◌+◌, ◌-◌, ◌<◌, ◌≤◌, cond, List, [], ◌∷◌, ◌++◌, length, Option, Some, None}
 use Rattle.std.specs.Prelude.{min, nat_lt, option_map, slice_get}
-use Rattle.std.proofs.lemmas.Bool.{lt-ltb}
+use Rattle.std.proofs.lemmas.Bool.{cond_both, lt-ltb}
 use Rattle.xns_calls.specs.Events.{Event, acknowledged, acknowledged_event, after_events, brought_if, captured, meanwhile, read}
 use Rattle.xns_calls.specs.Exchange.{behind_last, up_to}
 use Rattle.xns_calls.specs.Queue.{last_kept_number}
 use Rattle.xns_calls.specs.Reading.{Told, brought, brought_over, item_read, passed}
 use Rattle.xns_calls.specs.declared.early.Early.{Early}
 use Rattle.xns_calls.specs.declared.heading.Heading.{Heading}
-use Rattle.xns_calls.proofs.Comparing.{by_test}
 use Rattle.xns_calls.proofs.Ordered.{AreFrom, IsOrdered, next_of}
 use Rattle.xns_calls.proofs.Steps.{early_of, passed_early, read_early, with_early}
 
@@ -98,7 +97,7 @@ over_below : (bound : ℕ) (h : Heading) (n : ℕ) (es : List Early) (t : Told) 
 over_below bound h n [] t same below = subst (AreBelow bound) (sym (passed_early h n t ∙ same)) tt
 over_below bound h n (e ∷ rest) t same below =
     let u = item_read h e (with_early rest t) in
-    by_test (λ (x : Told). AreBelow bound (early_of x)) (nat_lt e.number n) (brought_over h n rest u) (passed h n t)
+    cond_both (nat_lt e.number n) (brought_over h n rest u) (passed h n t) (λ (x : Told). AreBelow bound (early_of x))
     (λ due. over_below bound h n rest u (read_early h e (with_early rest t)) below.1)
     (λ later. subst (AreBelow bound) (sym (passed_early h n t ∙ same)) below)
 

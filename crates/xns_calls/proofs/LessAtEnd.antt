@@ -1,7 +1,7 @@
 -- How what two flows keep is read at the end, item by item.
 use Rattle.std.proofs.Common.{◌≡◌, ◌∙◌, ap, sym, refl, subst, arith, ℕ, zero, suc, ◌+◌, ◌<◌, ◌≤◌, Bool, true, false, cond, List, [], ◌∷◌, length, Option, Some, None}
 use Rattle.std.specs.Prelude.{nat_lt, option_map}
-use Rattle.std.proofs.lemmas.Bool.{lt-ltb}
+use Rattle.std.proofs.lemmas.Bool.{cond_both, lt-ltb}
 use Rattle.xns_calls.specs.AtEnd.{both_ended, earliest, end_line, end_turn, ended_of, ended_times, first_at_end, first_in, one_ended, own_ended, read_behind}
 use Rattle.xns_calls.specs.Exchange.{Scene, advance_other, advance_track, advanced, of_other, other_reached, reached, seen_from_other, told_of}
 use Rattle.xns_calls.specs.Read.{kept_item_count}
@@ -11,7 +11,6 @@ use Rattle.xns_calls.specs.declared.early.Early.{Early}
 use Rattle.xns_calls.specs.declared.first_kept.FirstKept.{FirstKept}
 use Rattle.xns_calls.specs.declared.heading.Heading.{Heading}
 use Rattle.xns_calls.specs.declared.track.Track.{Track}
-use Rattle.xns_calls.proofs.Comparing.{by_test}
 use Rattle.xns_calls.proofs.Kept.{earliest_number}
 use Rattle.xns_calls.proofs.LessKept.{count}
 use Rattle.xns_calls.proofs.Packets.{advanced_other, reached_own}
@@ -23,7 +22,7 @@ over_less : (h : Heading) (n : ℕ) (es : List Early) (t : Told) → early_of t 
 over_less h n [] t same = let left : length (early_of (passed h n t)) ≡ 0 = ap length (passed_early h n t ∙ same) in omega (arith, left)
 over_less h n (e ∷ rest) t same =
     let u = item_read h e (with_early rest t) in
-    by_test (λ (x : Told). length (early_of x) ≤ suc (length rest)) (nat_lt e.number n) (brought_over h n rest u) (passed h n t)
+    cond_both (nat_lt e.number n) (brought_over h n rest u) (passed h n t) (λ (x : Told). length (early_of x) ≤ suc (length rest))
     (λ due. let le = over_less h n rest u (read_early h e (with_early rest t)) in omega (arith, le))
     (λ later. let left : length (early_of (passed h n t)) ≡ suc (length rest) = ap length (passed_early h n t ∙ same) in omega (arith, left))
 

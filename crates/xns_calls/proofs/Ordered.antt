@@ -1,14 +1,13 @@
 -- What a flow keeps stays in order, from its next number on, where it is brought on and where its first item is read.
 use Rattle.std.proofs.Common.{◌≡◌, ◌∙◌, ap, sym, refl, subst, arith, ℕ, ◌+◌, ◌<◌, ◌≤◌, ◌==◌, ◌⊎◌, inl, inr, Bool, true, false, cond, List, [], ◌∷◌}
 use Rattle.std.specs.Prelude.{nat_lt, max}
-use Rattle.std.proofs.lemmas.Bool.{le-ltb, ltb-false, ltb-true}
+use Rattle.std.proofs.lemmas.Bool.{cond_both, le-ltb, ltb-false, ltb-true}
 use Rattle.xns_spp.specs.declared.item.Item.{Item}
 use Rattle.xns_calls.specs.declared.early.Early.{Early}
 use Rattle.xns_calls.specs.declared.heading.Heading.{Heading}
 use Rattle.xns_calls.specs.Queue.{kept}
 use Rattle.xns_calls.specs.Reading.{Told, brought, brought_over, first_read, first_read_over, item_read, passed, past, read_next, said_item, after_heard}
 use Rattle.xns_calls.proofs.Steps.{early_of, passed_early, passed_same, read_early, with_early}
-use Rattle.xns_calls.proofs.Comparing.{by_test}
 
 -- ---- what is kept, in order
 
@@ -42,7 +41,7 @@ none_below n m (e ∷ rest) h lt (inr k) = none_below (e.number + 1) m rest h.1 
 
 pub passed_next : (h : Heading) (n : ℕ) (t : Told) → next_of (passed h n t) ≡ max (next_of t) n
 unfolding passed
-passed_next h n t = by_test (λ (u : Told). u.track.next ≡ max t.track.next n) (nat_lt t.track.next n) (past h n t) t
+passed_next h n t = cond_both (nat_lt t.track.next n) (past h n t) t (λ (u : Told). u.track.next ≡ max t.track.next n)
     (λ e. omega (arith, ltb-true t.track.next n e)) (λ e. omega (arith, ltb-false t.track.next n e))
 
 cond_next : (p : Bool) (t u : Told) → next_of t ≡ next_of u → next_of (cond p t u) ≡ next_of u
@@ -68,7 +67,7 @@ over_bears : (P : Told → Type 0) (h : Heading) (n : ℕ) → Bears P h n → (
 over_bears P h n bears [] t same from p = bears.passes t p
 over_bears P h n bears (e ∷ rest) t same from p =
     let u = item_read h e (with_early rest t) in
-    by_test P (nat_lt e.number n) (brought_over h n rest u) (passed h n t)
+    cond_both (nat_lt e.number n) (brought_over h n rest u) (passed h n t) P
     (λ due. over_bears P h n bears rest u (read_early h e (with_early rest t)) (subst (λ k. AreFrom k rest) (sym (item_next h e (with_early rest t))) from.1)
     (bears.reads e rest t same from.0 (ltb-true e.number n due) p))
     (λ later. bears.passes t p)
@@ -98,7 +97,7 @@ over_ordered : (h : Heading) (n : ℕ) (es : List Early) (t : Told) → early_of
 over_ordered h n [] t same from = subst (AreFrom (next_of (passed h n t))) (sym (passed_early h n t ∙ same)) tt
 over_ordered h n (e ∷ rest) t same from =
     let u = item_read h e (with_early rest t) in
-    by_test IsOrdered (nat_lt e.number n) (brought_over h n rest u) (passed h n t)
+    cond_both (nat_lt e.number n) (brought_over h n rest u) (passed h n t) IsOrdered
     (λ due. over_ordered h n rest u (read_early h e (with_early rest t)) (subst (λ k. AreFrom k rest) (sym (item_next h e (with_early rest t))) from.1))
     (λ later.
     let le : n ≤ e.number = ltb-false e.number n later in
@@ -114,7 +113,7 @@ first_over_ordered : (h : Heading) (es : List Early) (t : Told) → early_of t �
 first_over_ordered h [] t same from = subst (AreFrom (next_of t)) (sym same) tt
 first_over_ordered h (e ∷ rest) t same from =
     let u = item_read h e (with_early rest t) in
-    by_test IsOrdered (nat_lt (next_of t) e.number) t u
+    cond_both (nat_lt (next_of t) e.number) t u IsOrdered
     (λ later. subst (AreFrom (next_of t)) (sym same) from)
     (λ due. subst (λ k. AreFrom k (early_of u)) (sym (item_next h e (with_early rest t))) (subst (AreFrom (e.number + 1)) (sym (read_early h e (with_early rest t))) from.1))
 
@@ -127,7 +126,7 @@ first_over_bears : (P : Told → Type 0) (h : Heading) → ((e : Early) (rest : 
     → (es : List Early) (t : Told) → early_of t ≡ es → AreFrom (next_of t) es → P t → P (first_read_over h es t)
 first_over_bears P h reads [] t same from p = p
 first_over_bears P h reads (e ∷ rest) t same from p =
-    by_test P (nat_lt (next_of t) e.number) t (item_read h e (with_early rest t)) (λ later. p) (λ due. reads e rest t same from.0 p)
+    cond_both (nat_lt (next_of t) e.number) t (item_read h e (with_early rest t)) P (λ later. p) (λ due. reads e rest t same from.0 p)
 
 pub first_bears : (P : Told → Type 0) (h : Heading) → ((e : Early) (rest : List Early) (u : Told) → early_of u ≡ e ∷ rest → next_of u ≤ e.number → P u → P (item_read h e (with_early rest u)))
     → (t : Told) → IsOrdered t → P t → P (first_read h t)

@@ -4,12 +4,11 @@ use Rattle.std.specs.Prelude.{nat_lt, ◌||◌, slice_get}
 use Rattle.std.specs.List.{insert, list_any}
 use Rattle.std.proofs.lemmas.Bool.Decides.{nat_tests}
 use Rattle.std.proofs.lemmas.Option.{slice_get_past, slice_get_read}
-use Rattle.std.proofs.lemmas.Bool.{ltb-false, ltb-true, ne_eqb, or_from}
+use Rattle.std.proofs.lemmas.Bool.{cond_both, ltb-false, ltb-true, ne_eqb, or_from}
 use Rattle.std.proofs.Math.Nat.{ne_of_gt, ne_of_lt}
 use Rattle.xns_calls.specs.declared.carried.Carried.{Carried}
 use Rattle.xns_calls.specs.declared.early.Early.{Early}
 use Rattle.xns_calls.specs.Queue.{AreOrdered, below, kept}
-use Rattle.xns_calls.proofs.Comparing.{by_test}
 use Rattle.xns_calls.proofs.Known.{kept_cases}
 
 least_ordered : (n m : ℕ) (es : List Early) → AreOrdered n es → m ≤ n → AreOrdered m es
@@ -24,7 +23,7 @@ kept_from : (n k : ℕ) (item : Carried) (es : List Early) → AreOrdered n es �
 kept_from n k item [] ordered le = (le, tt)
 kept_from n k item (e ∷ rest) ordered le =
     subst (AreOrdered n) (sym (kept_cases (nat_lt e.number k) k item e rest refl))
-    (by_test (AreOrdered n) (nat_lt e.number k) (e ∷ kept k item rest) (record { number = k; item = item } ∷ e ∷ rest)
+    (cond_both (nat_lt e.number k) (e ∷ kept k item rest) (record { number = k; item = item } ∷ e ∷ rest) (AreOrdered n)
     (λ less. (ordered.0, kept_from e.number k item rest ordered.1 (omega (arith, ltb-true e.number k less))))
     (λ more. (le, (ltb-false e.number k more, ordered.1))))
 

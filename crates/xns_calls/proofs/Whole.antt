@@ -6,7 +6,7 @@ use Rattle.std.proofs.lemmas.Grind.{flat_map-append}
 use Rattle.std.proofs.lemmas.List.{map-append}
 use Rattle.std.proofs.lemmas.List.Elements.{filter-append}
 use Rattle.std.proofs.Math.Seq.{drop-append_seam}
-use Rattle.std.proofs.lemmas.Bool.{ltb-false, ltb-true}
+use Rattle.std.proofs.lemmas.Bool.{cond_both, ltb-false, ltb-true}
 use Rattle.xns_spp.specs.declared.item.Item.{Item}
 use Rattle.courier_messages.specs.Conversation.{Phase, conversation, ending, opening}
 use Rattle.courier_messages.specs.Laws.{OneItemMore, SignsRunOn}
@@ -31,7 +31,7 @@ use Rattle.xns_calls.specs.declared.speech.Speech.{Speech}
 use Rattle.xns_calls.specs.declared.speech.Speech.TheVariants.{Hearing, Waiting}
 use Rattle.xns_calls.specs.declared.track.Track.{Track}
 use Rattle.xns_calls.specs.Unanswered.{UnansweredCalls}
-use Rattle.xns_calls.proofs.Comparing.{by_both, by_test, not_less}
+use Rattle.xns_calls.proofs.Comparing.{by_both, not_less}
 use Rattle.xns_calls.proofs.Gaps.{AreKept, event_whole, kept_next, late_kept, rest_kept}
 use Rattle.xns_calls.proofs.Known.{captured_in_known, event_ordered, kept_cases, known_step, event_known, new_ordered}
 use Rattle.xns_calls.proofs.Ordered.{AreFrom, IsKnown, IsOrdered, Kept, next_of, read_next_of}
@@ -189,7 +189,7 @@ kept_items : (items : List Item) (k : ℕ) (item : Carried) (es : List Early) �
 kept_items items k item [] is are = (is, tt)
 kept_items items k item (e ∷ rest) is are =
     subst (AreItems items) (sym (kept_cases (nat_lt e.number k) k item e rest refl))
-    (by_test (AreItems items) (nat_lt e.number k) (e ∷ kept k item rest) (record { number = k; item = item } ∷ e ∷ rest)
+    (cond_both (nat_lt e.number k) (e ∷ kept k item rest) (record { number = k; item = item } ∷ e ∷ rest) (AreItems items)
     (λ less. (are.0, kept_items items k item rest is are.1)) (λ more. (is, are)))
 
 -- ---- one event
