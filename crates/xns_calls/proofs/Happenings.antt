@@ -19,6 +19,7 @@ use Rattle.xns_calls.specs.Texts.{repeats_line}
 use Rattle.xns_calls.specs.Whole.{flow_text}
 use Rattle.xns_calls.specs.declared.connection.Connection.{Connection}
 use Rattle.xns_calls.specs.declared.due.Due.{Due}
+use Rattle.xns_calls.specs.declared.heading.Heading.{Heading}
 use Rattle.xns_calls.specs.declared.track.Track.{Track}
 use Rattle.xns_calls.proofs.Fits.{fits}
 use Rattle.xns_calls.proofs.AtLines.{ack_at, both_at, item_at}
@@ -33,62 +34,69 @@ use Rattle.xns_calls.specs.declared.origin.Origin.{Origin}
 use Rattle.xns_calls.proofs.Parts.{acknowledged_new, acknowledged_plain, behind_text, both_new, both_plain, far_text, flow_append, flow_at, other_text, own_text, packet_parts, packet_said, packet_text, plain, reached_said, reached_text, said_text_of, scene_text, two_of}
 use Rattle.xns_calls.proofs.Begun.{IsAt, IsGone, IsOn, Stepped, nothing_step, stands_behind, stands_own, stays_gone, two_steps, unchanged}
 
-pub own_step : (n : Origin) (i : ℕ) (b : Bool) (packet : PacketModel) (f : Header) (content : List ℕ) (c : Connection) (k : Known) (t : Told) → slice_get k.connections i ≡ Some c → IsOrdered t
-    → (scene_in b c k).own.track ≡ Some t.track → t ≡ told_of t.track (scene_in b c k)
-    → Stepped n c.number b k (taken_in n i b packet f content c k) t (item_events (heading_at n c.number b) f content (acknowledged_in b f c) (Some t.track) ++ acknowledged_event (heading_at n c.number b) (due_of b c))
-own_step n i b packet f content c k t e ordered track is =
-    let m = c.number in
-    let h = heading_at n m b in
-    let s = scene_in b c k in
-    let due = due_in b f c in
-    let known = other_reached h due.other s in
-    let new = after_packet h due packet f content s in
-    let events = own_events h due f content t.track known in
-    let u = after_events events t in
-    let others = with_others (record { own = known.own.call; asked = known.other.call }) known.text known.is_refused t in
-    let o = near t.track.next f.sequence in
-    let after : new ≡ after_told u known = packet_events h due packet f content s t.track track ∙ ap (λ (x : Told). after_told (after_events events x) known) (sym is) in record {
-      events = events;
-      are = fits (item_events h f content (acknowledged_in b f c) (Some t.track) ++ acknowledged_event h (due_of b c)) (plain events) (both_plain (is_system f) h o (carried h due.acknowledged f content) due.own);
-      at = item_at (is_system f) h o (carried h due.acknowledged f content) due.own;
-      stands = inl (stands_own i b f c new k e u (events_ordered events t ordered) (ap (λ (x : Scene). x.own.track) after) (sym (ap (λ (x : Scene). told_of u.track x) after)));
-      parts = packet_parts n m b due packet f content s;
-      text = packet_text n m b due packet f content s ∙ ap (λ z. z ++ parts_text (packet_parts n m b due packet f content s)) (scene_text b c k);
-      own = two_of (text_in (flow_at m b) (told n (flow_at m (not b)) (reached_said n m b due s))) (text_in (flow_at m b) (told n (flow_at m b) (packet_said n m b due packet f content s))) [] (flow_text events t)
-          (other_text n m b (reached_said n m b due s))
-          (own_text n m b (packet_said n m b due packet f content s) ∙ sym (said_text_of n m b due packet f content s) ∙ ap (λ (x : Scene). drop (length known.text) x.text) after
-          ∙ sym (both_new (is_system f) h o (carried h due.acknowledged f content) due.own others));
-    }
+-- a packet at the place of a connection, of its first flow or of its second (true)
+module _ (n : Origin) (i : ℕ) (q : Bool) (packet : PacketModel) (f : Header) (content : List ℕ) (c : Connection) (k : Known) where
+  abbrev its_number : ℕ
+  its_number = c.number
 
-pub behind_step : (n : Origin) (i : ℕ) (q : Bool) (packet : PacketModel) (f : Header) (content : List ℕ) (c : Connection) (k : Known) (t : Told) → slice_get k.connections i ≡ Some c → IsOrdered t
-    → (scene_in q c k).other.track ≡ Some t.track → t ≡ told_of t.track (seen_from_other (scene_in q c k))
-    → Stepped n c.number (not q) k (taken_in n i q packet f content c k) t (acknowledged_event (heading_at n c.number (not q)) (due_of (not q) c))
-behind_step n i q packet f content c k t e ordered track is =
-    let m = c.number in
-    let h = heading_at n m q in
-    let s = scene_in q c k in
-    let due = due_in q f c in
-    let known = other_reached h due.other s in
-    let new = after_packet h due packet f content s in
-    let acks = acknowledged_event (of_other h) due.other in
-    let v = after_events acks t in
-    let others = meanwhile (record { own = new.other.call; asked = new.own.call }) new.text new.is_refused in
-    let after : known ≡ seen_from_other (after_told v (seen_from_other s)) =
-    reached_event h due.other s t.track track ∙ ap (λ (x : Told). seen_from_other (after_told (after_events acks x) (seen_from_other s))) (sym is) in
-    let P = flow_at m (not q) in record {
-      events = acks ++ others ∷ [];
-      are = fits acks (plain (acks ++ others ∷ [])) (acknowledged_plain (of_other h) due.other others refl);
-      at = both_at (of_other h) acks (others ∷ []) (ack_at (of_other h) due.other) tt;
-      stands = inl (subst (IsAt m (not q) (taken_in n i q packet f content c k)) (sym (after_append acks (others ∷ []) t))
-          (stands_behind i q f c new k e (after_event others v) (events_ordered acks t ordered) (packet_other h due packet f content s ∙ ap (λ (x : Scene). x.other.track) after) refl));
-      parts = packet_parts n m q due packet f content s;
-      text = packet_text n m q due packet f content s ∙ ap (λ z. z ++ parts_text (packet_parts n m q due packet f content s)) (scene_text q c k);
-      own = two_of (text_in P (told n P (reached_said n m q due s))) (text_in P (told n (flow_at m q) (packet_said n m q due packet f content s))) (flow_text acks t) []
-          (own_text n m (not q) (reached_said n m q due s) ∙ sym (reached_text n m q due s) ∙ ap (λ (x : Scene). drop (length s.text) x.text) after
-          ∙ ap (λ (x : Told). drop (length x.text) v.text) (sym is) ∙ sym (acknowledged_new (of_other h) due.other t))
-          (behind_text n m q (packet_said n m q due packet f content s))
-          ∙ sym (flow_append acks (others ∷ []) t);
-    }
+  abbrev its_heading : Heading
+  its_heading = heading_at n its_number q
+
+  abbrev scene_before : Scene
+  scene_before = scene_in q c k
+
+  abbrev its_due : Due
+  its_due = due_in q f c
+
+  -- the flow behind is brought to what the packet acknowledges
+  abbrev scene_brought : Scene
+  scene_brought = other_reached its_heading its_due.other scene_before
+
+  abbrev scene_after : Scene
+  scene_after = after_packet its_heading its_due packet f content scene_before
+
+  pub own_step : (t : Told) → slice_get k.connections i ≡ Some c → IsOrdered t → scene_before.own.track ≡ Some t.track → t ≡ told_of t.track scene_before
+      → Stepped n its_number q k (taken_in n i q packet f content c k) t (item_events its_heading f content (acknowledged_in q f c) (Some t.track) ++ acknowledged_event its_heading (due_of q c))
+  own_step t e ordered track is =
+      let events = own_events its_heading its_due f content t.track scene_brought in
+      let u = after_events events t in
+      let others = with_others (record { own = scene_brought.own.call; asked = scene_brought.other.call }) scene_brought.text scene_brought.is_refused t in
+      let o = near t.track.next f.sequence in
+      let after : scene_after ≡ after_told u scene_brought = packet_events its_heading its_due packet f content scene_before t.track track ∙ ap (λ (x : Told). after_told (after_events events x) scene_brought) (sym is) in record {
+        events = events;
+        are = fits (item_events its_heading f content (acknowledged_in q f c) (Some t.track) ++ acknowledged_event its_heading (due_of q c)) (plain events) (both_plain (is_system f) its_heading o (carried its_heading its_due.acknowledged f content) its_due.own);
+        at = item_at (is_system f) its_heading o (carried its_heading its_due.acknowledged f content) its_due.own;
+        stands = inl (stands_own i q f c scene_after k e u (events_ordered events t ordered) (ap (λ (x : Scene). x.own.track) after) (sym (ap (λ (x : Scene). told_of u.track x) after)));
+        parts = packet_parts n its_number q its_due packet f content scene_before;
+        text = packet_text n its_number q its_due packet f content scene_before ∙ ap (λ z. z ++ parts_text (packet_parts n its_number q its_due packet f content scene_before)) (scene_text q c k);
+        own = two_of (text_in (flow_at its_number q) (told n (flow_at its_number (not q)) (reached_said n its_number q its_due scene_before))) (text_in (flow_at its_number q) (told n (flow_at its_number q) (packet_said n its_number q its_due packet f content scene_before))) [] (flow_text events t)
+            (other_text n its_number q (reached_said n its_number q its_due scene_before))
+            (own_text n its_number q (packet_said n its_number q its_due packet f content scene_before) ∙ sym (said_text_of n its_number q its_due packet f content scene_before) ∙ ap (λ (x : Scene). drop (length scene_brought.text) x.text) after
+            ∙ sym (both_new (is_system f) its_heading o (carried its_heading its_due.acknowledged f content) its_due.own others));
+      }
+
+  pub behind_step : (t : Told) → slice_get k.connections i ≡ Some c → IsOrdered t → scene_before.other.track ≡ Some t.track → t ≡ told_of t.track (seen_from_other scene_before)
+      → Stepped n its_number (not q) k (taken_in n i q packet f content c k) t (acknowledged_event (heading_at n its_number (not q)) (due_of (not q) c))
+  behind_step t e ordered track is =
+      let acks = acknowledged_event (of_other its_heading) its_due.other in
+      let v = after_events acks t in
+      let others = meanwhile (record { own = scene_after.other.call; asked = scene_after.own.call }) scene_after.text scene_after.is_refused in
+      let after : scene_brought ≡ seen_from_other (after_told v (seen_from_other scene_before)) =
+      reached_event its_heading its_due.other scene_before t.track track ∙ ap (λ (x : Told). seen_from_other (after_told (after_events acks x) (seen_from_other scene_before))) (sym is) in
+      let P = flow_at its_number (not q) in record {
+        events = acks ++ others ∷ [];
+        are = fits acks (plain (acks ++ others ∷ [])) (acknowledged_plain (of_other its_heading) its_due.other others refl);
+        at = both_at (of_other its_heading) acks (others ∷ []) (ack_at (of_other its_heading) its_due.other) tt;
+        stands = inl (subst (IsAt its_number (not q) (taken_in n i q packet f content c k)) (sym (after_append acks (others ∷ []) t))
+            (stands_behind i q f c scene_after k e (after_event others v) (events_ordered acks t ordered) (packet_other its_heading its_due packet f content scene_before ∙ ap (λ (x : Scene). x.other.track) after) refl));
+        parts = packet_parts n its_number q its_due packet f content scene_before;
+        text = packet_text n its_number q its_due packet f content scene_before ∙ ap (λ z. z ++ parts_text (packet_parts n its_number q its_due packet f content scene_before)) (scene_text q c k);
+        own = two_of (text_in P (told n P (reached_said n its_number q its_due scene_before))) (text_in P (told n (flow_at its_number q) (packet_said n its_number q its_due packet f content scene_before))) (flow_text acks t) []
+            (own_text n its_number (not q) (reached_said n its_number q its_due scene_before) ∙ sym (reached_text n its_number q its_due scene_before) ∙ ap (λ (x : Scene). drop (length scene_before.text) x.text) after
+            ∙ ap (λ (x : Told). drop (length x.text) v.text) (sym is) ∙ sym (acknowledged_new (of_other its_heading) its_due.other t))
+            (behind_text n its_number q (packet_said n its_number q its_due packet f content scene_before))
+            ∙ sym (flow_append acks (others ∷ []) t);
+      }
 
 -- the texts of a packet of another connection
 pub far_texts : (n : Origin) (m : ℕ) (b q : Bool) (due : Due) (packet : PacketModel) (f : Header) (content : List ℕ) (g : ℕ) (s : Scene) → (m == g) ≡ false → texts_in (flow_at m b) (packet_parts n g q due packet f content s) ≡ []
