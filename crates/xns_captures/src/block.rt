@@ -25,7 +25,7 @@ const ORDER: u32 = 0x1a2b_3c4d;
 /// A block of a section. It has at least the bytes of a head.
 #[derive(Drop)]
 pub struct Block<'a> {
-    /// The order of bytes in the section.
+    /// The order of bytes in the section that it stands in. A section header says its own.
     pub order: ByteOrder,
     /// The interfaces that the section has described so far.
     pub interfaces: &'a [Interface],
