@@ -5,7 +5,7 @@ ghost use Rattle.xns_captures.specs.Parts.{block_in, block_of_type, block_size a
 ghost use Rattle.xns_captures.specs.Parts.{IsWithin, has_lengths as has_lengths_in, interface_in};
 ghost use Rattle.xns_captures.specs.Parts.{is_counted as is_counted_kind, is_read as is_read_kind, long_size as long_size_of};
 ghost use Rattle.xns_captures.specs.Parts.{other_in, passed_over as passed_over_of, section_in_order};
-ghost use Rattle.xns_captures.specs.Parts.{section_order as section_order_of, size_in_order};
+ghost use Rattle.xns_captures.specs.Parts.{section_order as section_order_of};
 
 use crate::byte_order::ByteOrder;
 use crate::fault::CaptureFault;
