@@ -26,16 +26,10 @@ use std::alloc::{AllocError, Global};
 
 fn main(rt: HostRuntime) -> Result<(), anyhow::Error> {
     for line in rt.lines(rt.alloc()) {
-        show(&rt, line?.as_str())?;
+        let mut text = String::new(rt.alloc());
+        answer(rt.alloc(), line?.as_str(), &mut text)?;
+        println!(rt; "{}", text.as_str().trim_start())?;
     }
-    Ok(())
-}
-
-/// Prints the result of a line of the input.
-fn show(rt: &HostRuntime, line: &str) -> Result<(), anyhow::Error> {
-    let mut text = String::new(rt.alloc());
-    answer(rt.alloc(), line, &mut text)?;
-    println!(rt; "{}", text.as_str().trim_start())?;
     Ok(())
 }
 

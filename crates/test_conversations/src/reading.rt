@@ -1,60 +1,31 @@
 //! What bytes are as a message.
 use crate::script::{put, put_bytes, put_message_fault, put_words, unhexed};
-use courier_messages::{Message, MessageRefusal, read_message, write_message};
+use courier_messages::{Head, Message, MessageRefusal, read_message, write_message};
 use std::alloc::{AllocError, Global};
 use std::fmt::Write;
 
 /// The head of a message.
-fn put_head(text: &mut String, message: &Message) -> Result<(), AllocError> {
-    match message {
-        Message::Call {
+fn put_head(text: &mut String, head: Head) -> Result<(), AllocError> {
+    match head {
+        Head::Call {
             transaction,
             program,
             version,
             procedure,
-            ..
-        } => put_numbers(
-            text,
-            "call",
-            &[
-                u32::from(*transaction),
-                *program,
-                u32::from(*version),
-                u32::from(*procedure),
-            ],
-        ),
-        Message::Reject {
+        } => write!(text, "call {transaction} {program} {version} {procedure}")?,
+        Head::Reject {
             transaction,
             reason,
-            ..
-        } => put_numbers(
-            text,
-            "reject",
-            &[u32::from(*transaction), u32::from(*reason)],
-        ),
-        Message::Return { transaction, .. } => {
-            put_numbers(text, "return", &[u32::from(*transaction)])
-        }
-        Message::Abort {
-            transaction,
-            error,
-            ..
-        } => put_numbers(text, "abort", &[u32::from(*transaction), u32::from(*error)]),
-    }
-}
-
-/// A word, and numbers behind it.
-fn put_numbers(text: &mut String, word: &str, numbers: &[u32]) -> Result<(), AllocError> {
-    text.push_str(word)?;
-    for number in numbers {
-        write!(text, " {number}")?;
+        } => write!(text, "reject {transaction} {reason}")?,
+        Head::Return { transaction } => write!(text, "return {transaction}")?,
+        Head::Abort { transaction, error } => write!(text, "abort {transaction} {error}")?,
     }
     Ok(())
 }
 
 /// A message, and the bytes that it is written as.
 fn put_message(alloc: Global, message: &Message, text: &mut String) -> Result<(), AllocError> {
-    put_head(text, message)?;
+    put_head(text, Head::of(message))?;
     put_words(text, message.words())?;
     let mut bytes = Vec::new(alloc);
     write_message(alloc, message, &mut bytes)?;
