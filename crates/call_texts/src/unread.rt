@@ -1,9 +1,5 @@
 //! Why words have no text by name.
 
-ghost use Rattle.std.specs.Prelude.{◌≡◌};
-ghost use Rattle.call_texts.specs.declared.unread.Unshown.TheVariants.{NoMemory};
-
-use std::alloc::{AllocError, AllocFailed};
 use thiserror::Error;
 
 /// Why words are not exactly one value, or its text is not shown.
@@ -45,20 +41,4 @@ pub enum Unshown {
     /// A growth was refused.
     #[error("no memory")]
     NoMemory,
-}
-
-impl From<AllocError> for Unshown {
-    ghost from_gives = { λ _ e. e ≡ NoMemory };
-
-    fn from(_e: AllocError) -> Unshown {
-        Unshown::NoMemory
-    }
-}
-
-impl<T: Drop> From<AllocFailed<T>> for Unshown {
-    ghost from_gives = { λ _ e. e ≡ NoMemory };
-
-    fn from(_e: AllocFailed<T>) -> Unshown {
-        Unshown::NoMemory
-    }
 }
