@@ -90,20 +90,19 @@ error_by errors number = find (λ r. r.number == number) errors
 abbrev pub own_text : Env → List ℕ
 own_text e = name_text e.names e.own
 
-abbrev pub new_procedure : Env → List ResolvedProcedure → ResolvedProcedure → ℕ → Result (Addition × ℕ) NameFault
-new_procedure e procedures p room = if is_some (procedure_by procedures p.number) then Err (e.own, reasons.DoubledNumber) else Ok (adds_procedure p, room)
-
-abbrev pub new_error : Env → List ResolvedError → ResolvedError → ℕ → Result (Addition × ℕ) NameFault
-new_error e errors r room = if is_some (error_by errors r.number) then Err (e.own, reasons.DoubledNumber) else Ok (adds_error r, room)
+-- a procedure or an error, if no other one has its number
+abbrev pub numbered_once : Env → Bool → Addition → ℕ → Result (Addition × ℕ) NameFault
+numbered_once e taken added room = if taken then Err (e.own, reasons.DoubledNumber) else Ok (added, room)
 
 unfoldable pub procedure_meant : Env → List ResolvedProcedure → FieldList → FieldList → ℕ → ℕ → Result (Addition × ℕ) NameFault
 procedure_meant e procedures arguments results number room =
     whole_fields e arguments room >>= λ a. (whole_fields e results a.1
-    >>= λ r. new_procedure e procedures (record { name = own_text e; number = number; arguments = a.0; results = r.0 }) r.1)
+    >>= λ r. numbered_once e (is_some (procedure_by procedures number)) (adds_procedure (record { name = own_text e; number = number; arguments = a.0; results = r.0 })) r.1)
 
 unfoldable pub error_meant : Env → List ResolvedError → FieldList → ℕ → ℕ → Result (Addition × ℕ) NameFault
 error_meant e errors arguments number room =
-    whole_fields e arguments room >>= λ a. new_error e errors (record { name = own_text e; number = number; arguments = a.0 }) a.1
+    whole_fields e arguments room
+    >>= λ a. numbered_once e (is_some (error_by errors number)) (adds_error (record { name = own_text e; number = number; arguments = a.0 })) a.1
 
 -- what a declaration adds to the program
 unfoldable pub declaration_meant : Env → ResolvedModel → DeclaredModel → ℕ → Result (Addition × ℕ) NameFault

@@ -5,13 +5,11 @@ ghost use Rattle.courier_texts.specs.Named.{HasParts, members_seen, named_model}
 ghost use Rattle.courier_programs.specs.Meanings.{components_seen};
 ghost use Rattle.courier_programs.specs.Types.{candidates_seen};
 
+use crate::parts::{Candidate, Component, Member};
 use courier_texts::Named;
 use std::alloc::{AllocError, Global};
 
-fn copy_members(
-    alloc: Global,
-    members: &[(Vec<u8>, u16)],
-) -> Result<Vec<(Vec<u8>, u16)>, AllocError>
+fn copy_members(alloc: Global, members: &[Member]) -> Result<Vec<Member>, AllocError>
     ensures copy { IfOk result (λ copies. members_seen copies.items ≡ members_seen members.now) }
     ensures memory { OnErr result (0 < length members.now) }
 {
@@ -23,10 +21,7 @@ fn copy_members(
 }
 
 #[cycle(copying)]
-fn copy_components(
-    alloc: Global,
-    components: &[(Vec<u8>, Named)],
-) -> Result<Vec<(Vec<u8>, Named)>, AllocError>
+fn copy_components(alloc: Global, components: &[Component]) -> Result<Vec<Component>, AllocError>
     ensures copy { IfOk result (λ copies. components_seen copies.items ≡ components_seen components.now) }
     ensures memory { OnErr result (0 < length components.now) }
 {
@@ -40,10 +35,7 @@ fn copy_components(
 }
 
 #[cycle(copying)]
-fn copy_variants(
-    alloc: Global,
-    variants: &[(Vec<u8>, (u16, Named))],
-) -> Result<Vec<(Vec<u8>, (u16, Named))>, AllocError>
+fn copy_variants(alloc: Global, variants: &[Candidate]) -> Result<Vec<Candidate>, AllocError>
     ensures copy { IfOk result (λ copies. candidates_seen copies.items ≡ candidates_seen variants.now) }
     ensures memory { OnErr result (0 < length variants.now) }
 {

@@ -7,7 +7,7 @@ ghost use Rattle.courier_notation.specs.ProgramModels.{declaration_view, declare
 ghost use Rattle.courier_notation.specs.Written.{field_models, type_model};
 ghost use Rattle.courier_texts.specs.Named.{named_model};
 ghost use Rattle.courier_programs.specs.Declarations.{addition_of, constant_meant, constant_value as constant_value_of};
-ghost use Rattle.courier_programs.specs.Declarations.{declaration_meant, declaration_step, error_meant, is_type as is_type_of, new_error as new_error_of, new_procedure as new_procedure_of, once_meant};
+ghost use Rattle.courier_programs.specs.Declarations.{declaration_meant, declaration_step, error_meant, is_type as is_type_of, numbered_once as numbered_once_of, once_meant};
 ghost use Rattle.courier_programs.specs.Declarations.{procedure_meant, settled, sound, whole_fields as whole_fields_of, whole_type as whole_type_of, with_addition};
 ghost use Rattle.courier_programs.specs.Meanings.{resolved_error, fields_model, meaning_model, meaning_of as meaning_in, resolved_procedure, resolved_model};
 ghost use Rattle.courier_programs.specs.Memory.{AddingWants, AddedWants, ResolvedTypeWants};
@@ -133,34 +133,19 @@ fn constant_added(
     Ok((Added::Meaning(Meaning::Constant(value)), left))
 }
 
-/// A procedure, if no other one has its number.
-fn new_procedure(
+/// What is added, if its number is not taken.
+fn numbered_once(
     scope: &Scope,
-    procedures: &[Procedure],
-    procedure: Procedure,
+    is_taken: bool,
+    added: Added,
     room: usize,
 ) -> Result<(Added, usize), Refusal>
-    ensures { Finds (λ x. (addition_of x.0, x.1)) result (new_procedure_of (env scope.now) (map resolved_procedure procedures.now) (resolved_procedure procedure) room) }
+    ensures { Finds (λ x. (addition_of x.0, x.1)) result (numbered_once_of (env scope.now) is_taken (addition_of added) room) }
 {
-    match procedure_of(procedures, procedure.number) {
-        Some(_) => Err(wrong(scope.own, NameReason::DoubledNumber)),
-        None => Ok((Added::Procedure(procedure), room)),
+    if is_taken {
+        return Err(wrong(scope.own, NameReason::DoubledNumber));
     }
-}
-
-/// An error, if no other one has its number.
-fn new_error(
-    scope: &Scope,
-    errors: &[RemoteError],
-    error: RemoteError,
-    room: usize,
-) -> Result<(Added, usize), Refusal>
-    ensures { Finds (λ x. (addition_of x.0, x.1)) result (new_error_of (env scope.now) (map resolved_error errors.now) (resolved_error error) room) }
-{
-    match error_of(errors, error.number) {
-        Some(_) => Err(wrong(scope.own, NameReason::DoubledNumber)),
-        None => Ok((Added::Error(error), room)),
-    }
+    Ok((added, room))
 }
 
 #[tactic(auto, unfolding(crate::specs::Declarations::procedure_meant))]
@@ -185,7 +170,8 @@ fn procedure_added(
         arguments,
         results,
     };
-    new_procedure(scope, procedures, procedure, left)
+    let is_taken = procedure_of(procedures, number).is_some();
+    numbered_once(scope, is_taken, Added::Procedure(procedure), left)
 }
 
 #[tactic(auto, unfolding(crate::specs::Declarations::error_meant))]
@@ -207,7 +193,8 @@ fn error_added(
         number,
         arguments,
     };
-    new_error(scope, errors, error, left)
+    let is_taken = error_of(errors, number).is_some();
+    numbered_once(scope, is_taken, Added::Error(error), left)
 }
 
 /// What a declaration adds to the program.

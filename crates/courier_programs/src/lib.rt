@@ -15,6 +15,7 @@ pub mod laws;
 pub mod limits;
 mod members;
 mod name_reason;
+mod parts;
 mod position;
 mod program;
 mod program_refusal;

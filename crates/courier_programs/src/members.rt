@@ -11,6 +11,7 @@ ghost use Rattle.courier_programs.specs.Types.{word_by_name as word_by_name_in};
 
 use crate::bytes::{is_same, text};
 use crate::name_reason::NameReason;
+use crate::parts::Member;
 use crate::refusal::{Refusal, wrong};
 use crate::scope::{Scope, last_name, spend, type_named, word_of};
 use courier_notation::{Numeric, Reference};
@@ -18,7 +19,7 @@ use courier_texts::Named;
 use std::alloc::Global;
 
 /// The word of the member of that name.
-fn word_by_name(members: &[(Vec<u8>, u16)], name: &[u8]) -> Option<u16>
+fn word_by_name(members: &[Member], name: &[u8]) -> Option<u16>
     ensures { result ≡ word_by_name_in (members_seen members.now) name.now }
 {
     for member in members {
@@ -29,7 +30,7 @@ fn word_by_name(members: &[(Vec<u8>, u16)], name: &[u8]) -> Option<u16>
     None
 }
 
-fn lists_word(members: &[(Vec<u8>, u16)], word: u16) -> bool
+fn lists_word(members: &[Member], word: u16) -> bool
     ensures { result ≡ lists_word_in (members_seen members.now) word }
 {
     for member in members {
@@ -41,7 +42,7 @@ fn lists_word(members: &[(Vec<u8>, u16)], word: u16) -> bool
 }
 
 /// No member before has that name.
-fn new_name(scope: &Scope, members: &[(Vec<u8>, u16)], name: u32) -> Result<(), Refusal>
+fn new_name(scope: &Scope, members: &[Member], name: u32) -> Result<(), Refusal>
     ensures { Finds (λ _. tt) result (new_name_in (env scope.now) (members_seen members.now) name) }
 {
     match word_by_name(members, text(scope.names, name)) {
@@ -51,7 +52,7 @@ fn new_name(scope: &Scope, members: &[(Vec<u8>, u16)], name: u32) -> Result<(), 
 }
 
 /// The word, if no member before has it.
-fn new_word(members: &[(Vec<u8>, u16)], name: u32, word: u16) -> Result<u16, Refusal>
+fn new_word(members: &[Member], name: u32, word: u16) -> Result<u16, Refusal>
     ensures { Finds (λ x. x) result (new_word_in (members_seen members.now) name word) }
 {
     if lists_word(members, word) {
@@ -61,11 +62,7 @@ fn new_word(members: &[(Vec<u8>, u16)], name: u32, word: u16) -> Result<u16, Ref
 }
 
 #[tactic(auto, unfolding(crate::specs::Types::member_word))]
-fn member_word(
-    scope: &Scope,
-    members: &[(Vec<u8>, u16)],
-    member: (u32, Numeric),
-) -> Result<u16, Refusal>
+fn member_word(scope: &Scope, members: &[Member], member: (u32, Numeric)) -> Result<u16, Refusal>
     ensures { Finds (λ x. x) result (member_word_of (env scope.now) (members_seen members.now) member) }
 {
     new_name(scope, members, member.0)?;
@@ -78,7 +75,7 @@ fn take_member(
     alloc: Global,
     scope: &Scope,
     room: usize,
-    members: &mut Vec<(Vec<u8>, u16)>,
+    members: &mut Vec<Member>,
     member: (u32, Numeric),
 ) -> Result<usize, Refusal>
     ensures exact { Gives (λ left. (members_seen members.new.items, left)) result (member_step (env scope.now) (members_seen members.old.items, room) member) }
@@ -97,7 +94,7 @@ pub(crate) fn members_of(
     scope: &Scope,
     room: usize,
     written: &[(u32, Numeric)],
-) -> Result<(Vec<(Vec<u8>, u16)>, usize), Refusal>
+) -> Result<(Vec<Member>, usize), Refusal>
     ensures exact { Gives (λ x. (members_seen x.0.items, x.1)) result (steps (member_step (env scope.now)) ([], room) written.now) }
     ensures memory { IfNoMemory result (0 < length written.now) }
 {
@@ -114,7 +111,7 @@ pub(crate) fn members_of(
 pub(crate) fn tag_members<'a>(
     scope: &Scope<'a>,
     tag: Option<Reference>,
-) -> Result<Option<&'a [(Vec<u8>, u16)]>, Refusal>
+) -> Result<Option<&'a [Member]>, Refusal>
     ensures { Finds (λ x. option_map (λ m. members_seen m.now) x) result (tag_members_of (env scope.now) tag) }
 {
     match tag {
@@ -171,7 +168,7 @@ fn own_word(name: u32, given: Option<u16>) -> Result<u16, Refusal>
 /// The word of a designator, with what is written behind it.
 fn chosen_word(
     scope: &Scope,
-    tag: Option<&[(Vec<u8>, u16)]>,
+    tag: Option<&[Member]>,
     name: u32,
     given: Option<u16>,
 ) -> Result<u16, Refusal>
@@ -189,8 +186,8 @@ fn chosen_word(
 #[tactic(auto, unfolding(crate::specs::Types::designator_word))]
 fn designator_word(
     scope: &Scope,
-    tag: Option<&[(Vec<u8>, u16)]>,
-    taken: &[(Vec<u8>, u16)],
+    tag: Option<&[Member]>,
+    taken: &[Member],
     designator: (u32, Option<Numeric>),
 ) -> Result<u16, Refusal>
     ensures { Finds (λ x. x) result (designator_word_of (env scope.now) (option_map (λ m. members_seen m.now) tag.entry) (members_seen taken.now) designator) }
@@ -205,8 +202,8 @@ fn designator_word(
 fn take_designator(
     alloc: Global,
     scope: &Scope,
-    tag: Option<&[(Vec<u8>, u16)]>,
-    taken: &mut Vec<(Vec<u8>, u16)>,
+    tag: Option<&[Member]>,
+    taken: &mut Vec<Member>,
     chosen: &mut Vec<(u32, u16)>,
     designator: (u32, Option<Numeric>),
 ) -> Result<(), Refusal>
@@ -224,8 +221,8 @@ fn take_designator(
 pub(crate) fn chosen_of(
     alloc: Global,
     scope: &Scope,
-    tag: Option<&[(Vec<u8>, u16)]>,
-    taken: &mut Vec<(Vec<u8>, u16)>,
+    tag: Option<&[Member]>,
+    taken: &mut Vec<Member>,
     designators: &[(u32, Option<Numeric>)],
 ) -> Result<Vec<(u32, u16)>, Refusal>
     ensures exact { Gives (λ x. (members_seen taken.new.items, x.items)) result (steps (designator_step (env scope.now) (option_map (λ m. members_seen m.now) tag.entry)) (members_seen taken.old.items, []) designators.now) }

@@ -16,6 +16,7 @@ use crate::copying::copy_of;
 use crate::distinct::all_once;
 use crate::members::{chosen_of, members_of, tag_members};
 use crate::name_reason::NameReason;
+use crate::parts::{Candidate, Component, Member};
 use crate::refusal::{Refusal, wrong};
 use crate::scope::{Scope, spend, type_named, word_of};
 use courier_notation::{Numeric, Reference, WrittenType};
@@ -63,40 +64,19 @@ fn referred(
     Ok((copy, left))
 }
 
+/// The element of an array or a sequence, and what is left of the room for parts.
 #[cycle(types)]
-#[tactic(auto, unfolding(crate::specs::Types::array_meant))]
-fn array(
+fn element_of(
     alloc: Global,
     depth: usize,
-    element: &WrittenType,
-    count: Numeric,
+    written: &WrittenType,
     scope: &Scope,
     room: usize,
-) -> Result<(Named, usize), Refusal>
-    ensures exact { Gives (λ x. (named_model x.0, x.1)) result (array_meant (env scope.now) count (type_meant (env scope.now) depth (type_model element.now)) room) }
-    ensures memory { IfNoMemory result (IsOk (word_of_numeric (env scope.now) count)) }
+) -> Result<(Box<Named>, usize), Refusal>
+    ensures { Gives (λ x. (named_model x.0.value, x.1)) result (type_meant (env scope.now) depth (type_model written.now) room) }
 {
-    let count = word_of(scope, count)?;
-    let (part, left) = type_of(alloc, depth, element, scope, room)?;
-    Ok((Named::Array(count, Box::new(alloc, part)?), left))
-}
-
-#[cycle(types)]
-#[tactic(auto, unfolding(crate::specs::Types::sequence_meant))]
-fn sequence(
-    alloc: Global,
-    depth: usize,
-    element: &WrittenType,
-    most: Option<Numeric>,
-    scope: &Scope,
-    room: usize,
-) -> Result<(Named, usize), Refusal>
-    ensures exact { Gives (λ x. (named_model x.0, x.1)) result (sequence_meant (env scope.now) most (type_meant (env scope.now) depth (type_model element.now)) room) }
-    ensures memory { IfNoMemory result (IsOk (maximum_in (env scope.now) most)) }
-{
-    let most = maximum_of(scope, most)?;
-    let (part, left) = type_of(alloc, depth, element, scope, room)?;
-    Ok((Named::Sequence(most, Box::new(alloc, part)?), left))
+    let (part, left) = type_of(alloc, depth, written, scope, room)?;
+    Ok((Box::new(alloc, part)?, left))
 }
 
 /// The name and the type of a component or a candidate, and what is left of the room for parts.
@@ -109,7 +89,7 @@ fn named_part(
     scope: &Scope,
     room: usize,
     name: u32,
-) -> Result<((Vec<u8>, Named), usize), Refusal>
+) -> Result<(Component, usize), Refusal>
     ensures exact { Gives (λ x. ((x.0.0.items, named_model x.0.1), x.1)) result (named_part_of (env scope.now) (type_meant (env scope.now) depth (type_model written.now)) room name) }
     ensures memory { IfNoMemory result (IsOk (spent (env scope.now) room 1)) }
 {
@@ -128,7 +108,7 @@ fn take_component(
     written: &WrittenType,
     scope: &Scope,
     room: usize,
-    parts: &mut Vec<(Vec<u8>, Named)>,
+    parts: &mut Vec<Component>,
     name: u32,
 ) -> Result<usize, Refusal>
     ensures exact { Gives (λ left. (components_seen parts.new.items, left)) result (component_step (env scope.now) (type_meant (env scope.now) depth (type_model written.now)) (components_seen parts.old.items, room) name) }
@@ -147,7 +127,7 @@ fn take_components(
     written: &WrittenType,
     scope: &Scope,
     room: usize,
-    parts: &mut Vec<(Vec<u8>, Named)>,
+    parts: &mut Vec<Component>,
     names: &[u32],
 ) -> Result<usize, Refusal>
     ensures exact { Gives (λ left. (components_seen parts.new.items, left)) result (steps (component_step (env scope.now) (type_meant (env scope.now) depth (type_model written.now))) (components_seen parts.old.items, room) names.now) }
@@ -168,7 +148,7 @@ pub(crate) fn components_of(
     groups: &[(Vec<u32>, WrittenType)],
     scope: &Scope,
     room: usize,
-) -> Result<(Vec<(Vec<u8>, Named)>, usize), Refusal>
+) -> Result<(Vec<Component>, usize), Refusal>
     ensures exact { Gives (λ x. (components_seen x.0.items, x.1)) result (components_meant (env scope.now) (type_meant (env scope.now) depth) [] ([], room) (fields_from (field_models groups.now))) }
     ensures memory { IfNoMemory result (0 < length groups.now) }
 {
@@ -207,7 +187,7 @@ fn take_candidate(
     written: &WrittenType,
     scope: &Scope,
     room: usize,
-    parts: &mut Vec<(Vec<u8>, (u16, Named))>,
+    parts: &mut Vec<Candidate>,
     chosen: (u32, u16),
 ) -> Result<usize, Refusal>
     ensures exact { Gives (λ left. (candidates_seen parts.new.items, left)) result (candidate_step (env scope.now) (type_meant (env scope.now) depth (type_model written.now)) (candidates_seen parts.old.items, room) chosen) }
@@ -226,7 +206,7 @@ fn take_candidates(
     written: &WrittenType,
     scope: &Scope,
     room: usize,
-    parts: &mut Vec<(Vec<u8>, (u16, Named))>,
+    parts: &mut Vec<Candidate>,
     chosen: &[(u32, u16)],
 ) -> Result<usize, Refusal>
     ensures exact { Gives (λ left. (candidates_seen parts.new.items, left)) result (steps (candidate_step (env scope.now) (type_meant (env scope.now) depth (type_model written.now))) (candidates_seen parts.old.items, room) chosen.now) }
@@ -247,11 +227,11 @@ fn take_group(
     depth: usize,
     written: &WrittenType,
     designators: &[(u32, Option<Numeric>)],
-    tag: Option<&[(Vec<u8>, u16)]>,
+    tag: Option<&[Member]>,
     scope: &Scope,
     room: usize,
-    taken: &mut Vec<(Vec<u8>, u16)>,
-    parts: &mut Vec<(Vec<u8>, (u16, Named))>,
+    taken: &mut Vec<Member>,
+    parts: &mut Vec<Candidate>,
 ) -> Result<usize, Refusal>
     ensures exact { Gives (λ left. (members_seen taken.new.items, (candidates_seen parts.new.items, left))) result (candidate_group (env scope.now) (option_map (λ m. members_seen m.now) tag.entry) (type_meant (env scope.now) depth (type_model written.now)) (members_seen taken.old.items) (candidates_seen parts.old.items, room) designators.now) }
     ensures memory { IfNoMemory result (0 < length designators.now) }
@@ -266,11 +246,11 @@ fn take_groups(
     alloc: Global,
     depth: usize,
     groups: &[(Vec<(u32, Option<Numeric>)>, WrittenType)],
-    tag: Option<&[(Vec<u8>, u16)]>,
+    tag: Option<&[Member]>,
     scope: &Scope,
     room: usize,
-    taken: &mut Vec<(Vec<u8>, u16)>,
-    parts: &mut Vec<(Vec<u8>, (u16, Named))>,
+    taken: &mut Vec<Member>,
+    parts: &mut Vec<Candidate>,
 ) -> Result<usize, Refusal>
     ensures exact { Gives (λ left. (candidates_seen parts.new.items, left)) result (candidates_meant (env scope.now) (option_map (λ m. members_seen m.now) tag.entry) (type_meant (env scope.now) depth) (members_seen taken.old.items) (candidates_seen parts.old.items, room) (candidates_from (candidate_models groups.now))) }
     ensures memory { IfNoMemory result (0 < length groups.now) }
@@ -290,10 +270,10 @@ fn candidates_of(
     alloc: Global,
     depth: usize,
     groups: &[(Vec<(u32, Option<Numeric>)>, WrittenType)],
-    tag: Option<&[(Vec<u8>, u16)]>,
+    tag: Option<&[Member]>,
     scope: &Scope,
     room: usize,
-) -> Result<(Vec<(Vec<u8>, (u16, Named))>, usize), Refusal>
+) -> Result<(Vec<Candidate>, usize), Refusal>
     ensures exact { Gives (λ x. (candidates_seen x.0.items, x.1)) result (candidates_meant (env scope.now) (option_map (λ m. members_seen m.now) tag.entry) (type_meant (env scope.now) depth) [] ([], room) (candidates_from (candidate_models groups.now))) }
     ensures memory { IfNoMemory result (0 < length groups.now) }
 {
@@ -325,7 +305,7 @@ fn choice_of(
 
 /// A type, whose parts stand at most so deep.
 #[cycle(types)]
-#[tactic(auto, unfolding(crate::specs::Types::type_level_meant))]
+#[tactic(auto, unfolding(crate::specs::Types::type_level_meant, crate::specs::Types::array_meant, crate::specs::Types::sequence_meant))]
 fn type_by(
     alloc: Global,
     depth: usize,
@@ -345,8 +325,16 @@ fn type_by(
         WrittenType::Unspecified => Ok((Named::Unspecified, room)),
         WrittenType::Text => Ok((Named::Text, room)),
         WrittenType::Enumeration(members) => enumeration(alloc, members, scope, room),
-        WrittenType::Array(count, element) => array(alloc, depth, element, *count, scope, room),
-        WrittenType::Sequence(most, element) => sequence(alloc, depth, element, *most, scope, room),
+        WrittenType::Array(count, element) => {
+            let count = word_of(scope, *count)?;
+            let (part, left) = element_of(alloc, depth, element, scope, room)?;
+            Ok((Named::Array(count, part), left))
+        }
+        WrittenType::Sequence(most, element) => {
+            let most = maximum_of(scope, *most)?;
+            let (part, left) = element_of(alloc, depth, element, scope, room)?;
+            Ok((Named::Sequence(most, part), left))
+        }
         WrittenType::Record(groups) => record_of(alloc, depth, groups, scope, room),
         WrittenType::Choice(tag, groups) => choice_of(alloc, depth, groups, *tag, scope, room),
         WrittenType::Named(reference) => referred(alloc, *reference, scope, room),

@@ -67,11 +67,8 @@ decreases-candidates_of l = 9 * l.depth + 6
 abbrev pub decreases-choice_of : goal.decreases-choice_of
 decreases-choice_of l = 9 * l.depth + 7
 
-abbrev pub decreases-array : goal.decreases-array
-decreases-array l = 9 * l.depth + 1
-
-abbrev pub decreases-sequence : goal.decreases-sequence
-decreases-sequence l = 9 * l.depth + 1
+abbrev pub decreases-element_of : goal.decreases-element_of
+decreases-element_of l = 9 * l.depth + 1
 
 abbrev pub decreases-type_by : goal.decreases-type_by
 decreases-type_by l = 9 * l.depth + 8
