@@ -1,5 +1,5 @@
 -- Parts counted and appended.
-use Rattle.std.proofs.Common.{◌≡◌, ◌≢◌, ℕ, zero, suc, ◌+◌, List, [], ◌∷◌, ◌++◌, drop, Vec, Global, Result, Ok, Err, OnErr, OnOk, map, length, refl, sym, ap, ◌∙◌, append_assoc, arith}
+use Rattle.std.proofs.Common.{◌≡◌, ◌≢◌, ℕ, zero, suc, List, [], ◌∷◌, ◌++◌, drop, Vec, Global, Result, Ok, Err, OnErr, map, length, refl, sym, ap, ◌∙◌, append_assoc, arith}
 use Rattle.std.specs.List.{flat_map}
 use Rattle.courier_texts.specs.declared.named.Named.{Named}
 use Rattle.courier_texts.specs.Named.{NamedModel, component_models, variant_models}
@@ -16,10 +16,6 @@ variants_counted [] = refl
 variants_counted (x ∷ xs) = let rest = variants_counted xs in omega (arith, rest)
 
 -- ---- a record or a choice, in front of its parts
-
-pub on_ok : {A E P Q : Type 0} (r : Result A E) → (P → Q) → OnOk r P → OnOk r Q
-on_ok (Ok v) f h = f h
-on_ok (Err e) f h = h
 
 pub on_err : {A E P : Type 0} (r : Result A E) → P → OnErr r P
 on_err (Ok v) p = tt

@@ -1,17 +1,18 @@
 use Rattle.std.proofs.Common.{ap, ◌∙◌}
+use Rattle.std.proofs.lemmas.Result.{on_ok_weaker}
 use Rattle.courier_texts.specs.Named.{named_model}
 use Rattle.program_tables.specs.Tables.{nodes_seen}
 use Rattle.courier_texts.proofs.Printed.{named_choice, named_record}
-use Rattle.program_tables.proofs.Nodes.{choice_there, on_ok, record_there}
+use Rattle.program_tables.proofs.Nodes.{choice_there, record_there}
 use Rattle.program_tables.proofs.tables.+nodes.Goals as goal
 
 pub append_choice-returns : goal.append_choice-returns
 append_choice-returns t c =
-    on_ok c.append_variants.result (choice_there (nodes_seen c.args.out.now.items) (nodes_seen c.append_node.new.out.items) (nodes_seen c.append_variants.new.out.items) c.args.name.now c.args.variants.now c.in_ok-append_node.ensures) c.append_variants.ensures.nodes
+    on_ok_weaker c.append_variants.result (choice_there (nodes_seen c.args.out.now.items) (nodes_seen c.append_node.new.out.items) (nodes_seen c.append_variants.new.out.items) c.args.name.now c.args.variants.now c.in_ok-append_node.ensures) c.append_variants.ensures.nodes
 
 pub append_record-returns : goal.append_record-returns
 append_record-returns t c =
-    on_ok c.append_components.result (record_there (nodes_seen c.args.out.now.items) (nodes_seen c.append_node.new.out.items) (nodes_seen c.append_components.new.out.items) c.args.name.now c.args.components.now c.in_ok-append_node.ensures) c.append_components.ensures.nodes
+    on_ok_weaker c.append_components.result (record_there (nodes_seen c.args.out.now.items) (nodes_seen c.append_node.new.out.items) (nodes_seen c.append_components.new.out.items) c.args.name.now c.args.components.now c.in_ok-append_node.ensures) c.append_components.ensures.nodes
 
 pub append_type-returns-in-Record : goal.append_type-returns-in-Record
 append_type-returns-in-Record t c =

@@ -1,4 +1,4 @@
-use Rattle.std.proofs.Common.{ap, sym, Result, Ok, Err}
+use Rattle.std.proofs.Common.{ap}
 use Rattle.courier_texts.specs.Named.{named_model}
 use Rattle.courier_programs.specs.Meanings.{meaning_model}
 use Rattle.program_tables.proofs.Nodes.{on_err, type_is_there}
