@@ -92,13 +92,8 @@ fn read_lexed(
 {
     match read_program(alloc, &lexed.tokens) {
         Ok(written) => resolve_text(alloc, text, before, lexed, &written),
-        Err(
-            Stop::Wrong {
-                place: left,
-                reason,
-            },
-        ) => {
-            let index = lexed.tokens.len().saturating_sub(left);
+        Err(Stop::Wrong { place, reason }) => {
+            let index = lexed.tokens.len().saturating_sub(place);
             Err(ProgramRefusal::Wrong {
                 place: place_of_token(text, &lexed.left, index),
                 reason: ProgramReason::Notation(reason),
@@ -120,13 +115,8 @@ pub fn read_text(alloc: Global, text: &[u8], before: &[Program]) -> Result<Progr
 {
     match lex(alloc, text) {
         Ok(lexed) => read_lexed(alloc, text, before, &lexed),
-        Err(
-            Stop::Wrong {
-                place: left,
-                reason,
-            },
-        ) => Err(ProgramRefusal::Wrong {
-            place: text.len().saturating_sub(left),
+        Err(Stop::Wrong { place, reason }) => Err(ProgramRefusal::Wrong {
+            place: text.len().saturating_sub(place),
             reason: ProgramReason::Notation(reason),
         }),
         Err(Stop::NoMemory) => Err(ProgramRefusal::NoMemory),
