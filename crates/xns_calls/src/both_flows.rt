@@ -23,7 +23,7 @@ pub struct BothFlows<'a> {
 }
 
 impl Drop for BothFlows<'_> {
-    /// Lets the flows go as they are.
+    /// Lets go of both flows, which stay as they are.
     fn drop(self)
         ensures scratch { self.exit.0.now ≡ self.entry.scratch.now }
         ensures page { self.exit.1.0.now ≡ self.entry.page.now }
@@ -41,7 +41,7 @@ impl Drop for BothFlows<'_> {
 }
 
 impl BothFlows<'_> {
-    /// Sees both from the other one.
+    /// From here on both are seen from the other one.
     #[inline(always)]
     pub fn turn(&mut self)
         ensures { self.new ≡ turned self.old }
