@@ -8,7 +8,7 @@ ghost use Rattle.xns_lines.specs.Text.{hex_word};
 ghost use Rattle.xns_dump.specs.Layers.Courier.{callee_text};
 ghost use Rattle.xns_calls.specs.Naming.{named_or, reason_name, shown_model, unread_text};
 ghost use Rattle.xns_calls.specs.Telling.{answer_line, call_line};
-ghost use Rattle.xns_calls.specs.Texts.{answer_end, answer_front, call_end, call_front, end_text, flow_line, heading_text, missing_line};
+ghost use Rattle.xns_calls.specs.Texts.{answer_end, answer_front, call_end, end_text, flow_line, heading_text, missing_line};
 ghost use Rattle.xns_calls.specs.Texts.{reason_text, refused_line, repeats_line, words_behind};
 
 use crate::heading::Heading;
@@ -114,19 +114,6 @@ fn append_item_number(report: &mut Report, name: &[u8], number: u64) -> Result<(
     append_decimal_u64(report, number)
 }
 
-/// Appends what a call begins with.
-#[tactic(auto, unfolding(crate::specs::Texts::call_front))]
-fn append_call_front(
-    report: &mut Report,
-    heading: &Heading<'_>,
-    transaction: u16,
-) -> Result<(), AllocError>
-    ensures { Adds result report.old report.new (call_front heading.now transaction) }
-{
-    append_heading(report, heading)?;
-    append_field(report, b" call ", transaction)
-}
-
 /// Appends why a call is not named, and ends its line.
 #[tactic(auto, unfolding(crate::specs::Texts::call_end))]
 fn append_call_end(report: &mut Report, shown: &Shown) -> Result<(), AllocError>
@@ -155,6 +142,7 @@ fn append_arguments(
 }
 
 /// Appends the line of a call.
+#[tactic(auto, unfolding(crate::specs::Texts::call_front))]
 pub fn append_call(
     report: &mut Report,
     heading: &Heading<'_>,
@@ -169,7 +157,8 @@ pub fn append_call(
     if is_plain(heading.origin.time, words, shown) {
         return append_plain_call(report, heading, call, words);
     }
-    append_call_front(report, heading, call.transaction)?;
+    append_heading(report, heading)?;
+    append_field(report, b" call ", call.transaction)?;
     append_arguments(report, call, words, shown)?;
     append_call_end(report, shown)
 }
