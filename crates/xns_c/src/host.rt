@@ -148,7 +148,7 @@ pub extern "C" fn xns_host_connect(
     let Some(mut kept) = handle.take(alloc) else {
         return NO_HOST;
     };
-    let result = kept.connect(now, via, socket, peer, number);
+    let result = kept.connect(now, via, socket, peer.address(), number);
     handle.put(kept);
     result
 }

@@ -13,7 +13,6 @@ ghost use Rattle.xns_c.specs.Heads.{answer_of_kind};
 ghost use Rattle.xns_c.specs.Hosts.{AbandonsOne, HostCalls, AnswersCall, Closes, Connects, HostMoves, HostServes, Receives, Wakes, FetchesEvent, FetchesPacket};
 ghost use Rattle.xns_c.specs.Hosts.{TagsOne, keeps_answer, kept_after, kept_closing, kept_tagging};
 ghost use Rattle.xns_c.specs.Results.{ok};
-ghost use Rattle.xns_c.specs.Structs.{address_of_struct};
 
 use crate::address::XnsAddress;
 use crate::event::XnsEvent;
@@ -25,6 +24,7 @@ use crate::telling_events::{give_event, is_answer, number_of, set_tag};
 use courier_sessions::Program;
 use std::alloc::Global;
 use xns_host::{Call, Event, Host, HostFault, Outgoing, Settings};
+use xns_idp::Address;
 
 /// Never: a time that does not come.
 pub const NEVER: u64 = u64::MAX;
@@ -81,13 +81,13 @@ impl KeptHost {
         now: u64,
         via: u64,
         socket: u16,
-        peer: &XnsAddress,
+        peer: Address,
         number: &mut usize,
     ) -> u32
-        ensures connects { Connects self.old self.new now socket (address_of_struct peer.now) via number.new result }
+        ensures connects { Connects self.old self.new now socket peer via number.new result }
         ensures untold { result ≢ ok → number.new ≡ number.old }
     {
-        match self.host.connect(now, via, socket, peer.address()) {
+        match self.host.connect(now, via, socket, peer) {
             Ok(found) => {
                 *number = found;
                 OK
