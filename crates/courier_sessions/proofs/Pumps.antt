@@ -24,7 +24,7 @@ pub record Feeding {S : Type 0} (side : Side S) (first : S × State) (session : 
   pub left : length end.taken + fed ≡ end.handed + all
 
 module _ {S : Type 0} (side : Side S) where
-  -- the items stop moving at the side t and the end that g comes to, with this result
+  -- the items stop moving at the side t and the end v, with this result
   rests : (first : S × State) (t n : S) (e f : Held) (r : Result (Unit {0}) FeedRefusal) (v : State) → f ≡ e → Leads side first (t, v) →
       StandsFor e v → Settles side (t, v) r n → Pumped side first r n f
   rests first t n e f r v still leads stands settled = record {
