@@ -19,11 +19,11 @@ pub const CALLER: Address = Address {
     socket: 0x400,
 };
 
-/// The asked host, at its Echo socket.
+/// The asked host, on the same network, at its Echo socket.
 pub const ECHO_SERVER: Address = Address {
-    network: 1,
     host: [0, 0, 0xaa, 0, 1, 2],
     socket: 2,
+    ..CALLER
 };
 
 /// The asked host, at a service's socket.
