@@ -91,10 +91,6 @@ first_whole h t ordered = first_whole_over h t.track.early t ordered
 
 -- ---- where nothing is missing
 
-cond_same : (p : Bool) (a b c : Told) → (p ≡ false → b ≡ c) → cond p a b ≡ cond p a c
-cond_same true a b c e = refl
-cond_same false a b c e = e refl
-
 -- what is late in this way, and not read, is kept
 pub late_kept : (first : ℕ) (before : List ℕ) (t : Told) → ((n : ℕ) → n < first → IsKnown n t) → ((n : ℕ) → IsAmong n before → IsKnown n t) → (L : ℕ → Type 0) → ((n : ℕ) → first ≤ n → L n → IsAmong n before)
     → (m : ℕ) → next_of t ≤ m → L m → Kept m (early_of t)

@@ -29,12 +29,6 @@ use Rattle.xns_host.proofs.Ends.{leads_to}
 abbrev Places : Type 0
 Places = List (Option Guest)
 
--- a connection that was read from a place is there
-pub there_in : (P : Guest → Type 0) (a : Places) (n : ℕ) (old : Option Guest) → n < length a → old ≡ get_or a n old → IsThere P (Some old)
-    → IsThere P (slice_get a n)
-there_in P a n old less read one =
-    record { guest = one.guest; there = slice_get_read a (length a) n old refl less read ∙ one.there; is = one.is }
-
 -- ---- the packet that opens a connection
 
 one_place : (a b : Address) → a.host ≡ b.host → a.socket ≡ b.socket → same_place a b ≡ true
