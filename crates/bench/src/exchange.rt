@@ -123,7 +123,8 @@ fn exchange_all(
     Ok(tally)
 }
 
-/// Sends a round of items from one end to the other, which hands them up. Once the packets have come, both ends tick.
+/// Sends a round of items from one end to the other, which hands them up. The late packets come after the others. Once all have come,
+/// both ends tick.
 fn exchange(
     alloc: Global,
     from: &mut Endpoint,
@@ -132,10 +133,13 @@ fn exchange(
     tally: &mut Tally,
 ) -> Result<(), AllocError> {
     send_round(alloc, from)?;
-    deliver_round(alloc, from, to, way, tally)?;
+    let packets = from.flush(alloc)?;
+    deliver_in_turn(alloc, &packets, from, to, way, tally)?;
+    deliver_fated(alloc, &packets, from, to, way, Fate::Late)?;
     let again = tick(alloc, from, to)?.saturating_add(tick(alloc, to, from)?);
+    let sent = again.saturating_add(packets.len() as u64);
     tally.again = tally.again.saturating_add(again);
-    tally.packets = tally.packets.saturating_add(again);
+    tally.packets = tally.packets.saturating_add(sent);
     tally.handed = tally.handed.saturating_add(hand_up(to));
     Ok(())
 }
@@ -145,21 +149,6 @@ fn send_round(alloc: Global, from: &mut Endpoint) -> Result<(), AllocError> {
     for _ in 0..ROUND {
         let _ = from.send(item(alloc, &BODY)?);
     }
-    Ok(())
-}
-
-/// Delivers the packets of a round, the late ones after the others.
-fn deliver_round(
-    alloc: Global,
-    from: &mut Endpoint,
-    to: &mut Endpoint,
-    way: Way,
-    tally: &mut Tally,
-) -> Result<(), AllocError> {
-    let packets = from.flush(alloc)?;
-    deliver_in_turn(alloc, &packets, from, to, way, tally)?;
-    deliver_fated(alloc, &packets, from, to, way, Fate::Late)?;
-    tally.packets = tally.packets.saturating_add(packets.len() as u64);
     Ok(())
 }
 

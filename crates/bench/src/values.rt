@@ -66,6 +66,14 @@ impl Kind {
     }
 }
 
+/// A value to be timed: its shape, its words, and how often it is read and written, which it is once at least.
+#[derive(Clone, Copy)]
+struct Trial<'a> {
+    shape: &'a Shape,
+    words: &'a [u16],
+    times: u32,
+}
+
 /// How many words a value has, and the least nanoseconds of each kind of work.
 #[derive(Clone, Copy)]
 struct Found {
@@ -96,31 +104,33 @@ pub fn run(rt: &HostRuntime, times: u32) -> io::Result<()> {
 fn time_kind(rt: &HostRuntime, kind: Kind, shape: &Shape, times: u32) -> io::Result<()> {
     let mut words = Vec::new(rt.alloc());
     kind.push_words(&mut words)?;
-    time_value(rt, kind.name(), shape, &words, times)
+    time_value(
+        rt,
+        kind.name(),
+        Trial {
+            shape,
+            words: &words,
+            times,
+        },
+    )
 }
 
 /// Times one value, and prints what was found.
-fn time_value(
-    rt: &HostRuntime,
-    name: &str,
-    shape: &Shape,
-    words: &[u16],
-    times: u32,
-) -> io::Result<()> {
+fn time_value(rt: &HostRuntime, name: &str, trial: Trial) -> io::Result<()> {
     let mut found = Found {
         taken: 0,
         read: u128::MAX,
         pieces: u128::MAX,
         write: u128::MAX,
     };
-    if shape.check().is_err()
-        || !time_whole(rt, shape, words, times, &mut found)?
-        || !time_pieces(rt, shape, words, times, &mut found)?
+    if trial.shape.check().is_err()
+        || !time_whole(rt, trial, &mut found)?
+        || !time_pieces(rt, trial, &mut found)?
     {
         return Ok(());
     }
     println!(rt; "{name} {} words", found.taken)?;
-    if times > 0 {
+    if trial.times > 0 {
         return print_least(rt, name, &found);
     }
     Ok(())
@@ -133,23 +143,17 @@ fn print_least(rt: &HostRuntime, name: &str, found: &Found) -> io::Result<()> {
     println!(rt; "{name} write {}", found.write)
 }
 
-/// Reads and writes the value so often, and at least once; `false` where the words do not spell one, or it is written otherwise.
-fn time_whole(
-    rt: &HostRuntime,
-    shape: &Shape,
-    words: &[u16],
-    times: u32,
-    found: &mut Found,
-) -> io::Result<bool>
-    requires { IsChecked (shape_model shape.now) }
+/// Reads and writes the value; `false` where the words do not spell one, or it is written otherwise.
+fn time_whole(rt: &HostRuntime, trial: Trial, found: &mut Found) -> io::Result<bool>
+    requires { IsChecked (shape_model trial.shape.now) }
 {
     let mut out = Vec::new(rt.alloc());
-    for _ in 0..times.max(1) {
-        if !time_read(rt, shape, words, &mut out, found)? {
+    for _ in 0..trial.times.max(1) {
+        if !time_read(rt, trial.shape, trial.words, &mut out, found)? {
             return Ok(false);
         }
     }
-    Ok(out.as_slice() == words)
+    Ok(out.as_slice() == trial.words)
 }
 
 /// Reads the value, and then writes it; `false` where the words spell none.
@@ -190,20 +194,14 @@ fn time_write(
     Ok(true)
 }
 
-/// Reads the value from pieces so often, and at least once; `false` where the words do not spell one.
-fn time_pieces(
-    rt: &HostRuntime,
-    shape: &Shape,
-    words: &[u16],
-    times: u32,
-    found: &mut Found,
-) -> io::Result<bool>
-    requires { IsChecked (shape_model shape.now) }
+/// Reads the value from pieces; `false` where the words do not spell one.
+fn time_pieces(rt: &HostRuntime, trial: Trial, found: &mut Found) -> io::Result<bool>
+    requires { IsChecked (shape_model trial.shape.now) }
 {
     let mut pieces = Vec::new(rt.alloc());
-    push_pieces(rt.alloc(), words, &mut pieces)?;
-    for _ in 0..times.max(1) {
-        if !time_pieced(rt, shape, &pieces, found)? {
+    push_pieces(rt.alloc(), trial.words, &mut pieces)?;
+    for _ in 0..trial.times.max(1) {
+        if !time_pieced(rt, trial.shape, &pieces, found)? {
             return Ok(false);
         }
     }
