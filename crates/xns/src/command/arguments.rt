@@ -17,10 +17,20 @@ use std::alloc::{AllocError, Global};
 use xns_calls::Times;
 use xns_command::{Mode, Refusal};
 
+/// What the subcommands that read a file do.
+const DUMP_ABOUT: &str = "Prints what the packets of a capture, or of lines of hex, say";
+
+const CALLS_ABOUT: &str =
+    "Prints the calls that a capture or lines of hex carry, and what came back";
+
+const SIM_ABOUT: &str = "Plays calls through a network that loses, repeats and reorders";
+
 /// The name of the argument for a file.
 const FILE: &str = "file";
 /// What the file of `dump` and `calls` is.
 const CAPTURE: &str = "A capture (pcap or pcapng), or lines of hex; - or no FILE is standard input";
+/// What the file of `sim` is.
+const PLAY: &str = "The lines of a play; - or no FILE is standard input";
 
 /// The names of the flags for times.
 const TIMES: &str = "times";
@@ -81,15 +91,21 @@ fn with_programs<'a>(alloc: Global, command: Command<'a>) -> Result<Command<'a>,
     command.arg(option)
 }
 
-/// `dump`, with its file.
-fn dump_command<'a>(alloc: Global) -> Result<Command<'a>, AllocError>
-    ensures app { IfOk result (λ command. app_of command ≡ with_rule (new_app (codes "dump")) file_rule) }
+/// A command of this name, with its file.
+fn file_command<'a>(
+    alloc: Global,
+    name: &'a str,
+    about: &'a str,
+    after_help: &'a str,
+    file_help: &'a str,
+) -> Result<Command<'a>, AllocError>
+    ensures app { IfOk result (λ command. app_of command ≡ with_rule (new_app name.entry.now) file_rule) }
     ensures local { IfOk result (λ command. (fields_of command).has_globals ≡ false) }
 {
-    let dump = Command::new(alloc, "dump")
-        .about("Prints what the packets of a capture, or of lines of hex, say")
-        .after_help(DUMP_HELP);
-    with_file(alloc, dump, CAPTURE)
+    let command = Command::new(alloc, name)
+        .about(about)
+        .after_help(after_help);
+    with_file(alloc, command, file_help)
 }
 
 /// `calls`, with its file, the flags for times, and the descriptions of programs.
@@ -97,28 +113,10 @@ fn calls_command<'a>(alloc: Global) -> Result<Command<'a>, AllocError>
     ensures app { IfOk result (λ command. app_of command ≡ calls_app) }
     ensures local { IfOk result (λ command. (fields_of command).has_globals ≡ false) }
 {
-    let calls = Command::new(alloc, "calls")
-        .about("Prints the calls that a capture or lines of hex carry, and what came back")
-        .after_help(CALLS_HELP);
-    let calls = with_file(alloc, calls, CAPTURE)?;
+    let calls = file_command(alloc, "calls", CALLS_ABOUT, CALLS_HELP, CAPTURE)?;
     let calls = with_flag(alloc, calls, TIMES, TIMES_HELP)?;
     let calls = with_flag(alloc, calls, RELATIVE, RELATIVE_HELP)?;
     with_programs(alloc, calls)
-}
-
-/// `sim`, with its file.
-fn sim_command<'a>(alloc: Global) -> Result<Command<'a>, AllocError>
-    ensures app { IfOk result (λ command. app_of command ≡ with_rule (new_app (codes "sim")) file_rule) }
-    ensures local { IfOk result (λ command. (fields_of command).has_globals ≡ false) }
-{
-    let sim = Command::new(alloc, "sim")
-        .about("Plays calls through a network that loses, repeats and reorders")
-        .after_help(SIM_HELP);
-    with_file(
-        alloc,
-        sim,
-        "The lines of a play; - or no FILE is standard input",
-    )
 }
 
 /// `programs`, with its files.
@@ -143,7 +141,7 @@ fn programs_command<'a>(alloc: Global) -> Result<Command<'a>, AllocError>
 fn reading_program<'a>(alloc: Global) -> Result<Command<'a>, AllocError>
     ensures { IfOk result (λ command. app_of command ≡ reading_app) }
 {
-    let dump = dump_command(alloc)?;
+    let dump = file_command(alloc, "dump", DUMP_ABOUT, DUMP_HELP, CAPTURE)?;
     let calls = calls_command(alloc)?;
     Command::new(alloc, "xns")
         .version(VERSION)
@@ -158,7 +156,7 @@ fn reading_program<'a>(alloc: Global) -> Result<Command<'a>, AllocError>
 fn program<'a>(alloc: Global) -> Result<Command<'a>, AllocError>
     ensures { IfOk result (λ command. app_of command ≡ program_app) }
 {
-    let sim = sim_command(alloc)?;
+    let sim = file_command(alloc, "sim", SIM_ABOUT, SIM_HELP, PLAY)?;
     let programs = programs_command(alloc)?;
     reading_program(alloc)?
         .subcommand(sim)?

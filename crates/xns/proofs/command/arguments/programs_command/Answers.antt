@@ -1,11 +1,11 @@
 use Rattle.std.proofs.Common.{◌≡◌, ◌∙◌, ap, ap₂, rules, Option, Some, None, codes, false, true}
 use Rattle.std.specs.Prelude.{IsSomeAnd}
+use Rattle.std.proofs.lemmas.Result.{IfOk-weaker}
 use Rattle.clap.specs.Lexer.{usize_max}
 use Rattle.clap.specs.Words.{Rule, app_of, new_app, new_rule, rule_of, with_rule}
 use Rattle.clap.specs.declared.builder.arg.Arg.{Arg}
 use Rattle.clap.specs.declared.builder.range.ValueRange.{ValueRange}
 use Rattle.xns.specs.Command.Arguments.{files_rule}
-use Rattle.xns.proofs.Locals.{if_ok}
 use Rattle.xns.proofs.command.arguments.programs_command.Goals as goal
 
 given : (o : Option ValueRange) → IsSomeAnd o (λ r. r ≡ record { start_inclusive = 1; end_inclusive = usize_max }) → o ≡ Some (record { start_inclusive = 1; end_inclusive = usize_max })
@@ -27,4 +27,4 @@ returns-clause-app c =
     ap (λ (a : Arg). a.global) c.help-files.ensures ∙ ap (λ (a : Arg). a.global) c.required.ensures ∙ ap (λ (a : Arg). a.global) c.num_args.ensures.0
     ∙ ap (λ (a : Arg). a.global) c.value_name.ensures ∙ c.new.ensures.optional.1 in
     let app : app_of c.after_help.result ≡ new_app (codes "programs") = search rules in
-    if_ok _ _ c.arg.result c.arg.ensures (λ r h. h.shape local ∙ ap₂ with_rule app rule)
+    IfOk-weaker c.arg.result _ _ (λ r h. h.shape local ∙ ap₂ with_rule app rule) c.arg.ensures
