@@ -4,17 +4,17 @@ use Rattle.std.specs.Prelude.{◌%◌, ◌||◌, if◌then◌else◌, nat_lt, sl
 use Rattle.std.specs.Option.{is_some}
 use Rattle.courier_messages.specs.RawCalls.{RawCall, call_message, transaction_of, most_call_words}
 use Rattle.courier_messages.specs.declared.message.Message.{Message}
-use Rattle.courier_sessions.specs.Answering.{Answering, answer_message, answer_refusal, transaction_in, why_unlisted}
+use Rattle.courier_sessions.specs.Answering.{Answering, answer_message, answer_refusal, transaction_in}
 use Rattle.courier_sessions.specs.Talk.{call_refusal, next_transaction}
 use Rattle.courier_sessions.specs.declared.answer.Answer.{Answer}
 use Rattle.courier_sessions.specs.declared.call_refusal.CallRefusal.{CallRefusal}
 use Rattle.courier_sessions.specs.declared.call_refusal.CallRefusal.TheVariants as uncalled
-use Rattle.courier_sessions.specs.declared.unlisted.Unlisted.{Unlisted}
 use Rattle.xns_connection.specs.Deeds.{answered_for, handed_by, side_answered, side_called, side_taken}
 use Rattle.xns_connection.specs.Refusing.{answer_fault, call_fault, side_answer_fault, side_call_fault}
 use Rattle.xns_connection.specs.Story.{listed_call, waiting_message}
 use Rattle.xns_connection.specs.declared.side.Side.{Side}
 use Rattle.xns_connection.specs.declared.side.Side.TheVariants.{Calls, Answers}
+use Rattle.xns_connection.proofs.Doing.{is_listed_call}
 use Rattle.host_world.proofs.Sides.{HasAnswers, Has}
 
 at_end : {X : Type 0} (xs : List X) (x : X) (k : ℕ) → k ≡ length xs → slice_get (xs ++ x ∷ []) k ≡ Some x
@@ -135,14 +135,6 @@ pub record HandsCall (cs rs : List Message) (side : Side) (m : Message) : Type 0
   pub even : length cs ≡ length rs
   pub has : Has false (cs ++ m ∷ []) rs (side_taken side)
 
-is_listed_call : (w : Option Unlisted) (n m : Message) → (if is_some w then None else Some n) ≡ Some m → n ≡ m
-is_listed_call None n m e = cc
-is_listed_call (Some u) n m e = absurd (cc)
-
-the_call : (a : Answering) (o : Option Message) (m : Message) → listed_call a.programs o ≡ Some m → o ≡ Some m
-the_call a None m e = absurd (cc)
-the_call a (Some n) m e = ap Some (is_listed_call (why_unlisted a.programs n) n m e)
-
 handed_has : (cs rs : List Message) (a : Answering) (o : Option Message) (m : Message) → o ≡ Some m → length cs ≡ length rs → HasAnswers (cs ++ m ∷ []) rs (handed_by o a)
 handed_has cs rs a None m e even = absurd (cc)
 handed_has cs rs a (Some n) m e even =
@@ -162,6 +154,6 @@ handed_has cs rs a (Some n) m e even =
 pub call_handed : (cs rs : List Message) (side : Side) (m : Message) → waiting_message side ≡ Some m → Has false cs rs side → HandsCall cs rs side m
 call_handed cs rs (Calls t) m is h = absurd h
 call_handed cs rs (Answers a) m is h =
-    let none = h.single m (the_call a a.call m is) in
+    let none = h.single m (is_listed_call a.programs a.call m is).0 in
     let even = h.even none in
     record { even = even; has = handed_has cs rs a (listed_call a.programs a.call) m is even }

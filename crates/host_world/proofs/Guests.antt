@@ -20,6 +20,7 @@ use Rattle.xns_connection.specs.Living.{Deeds}
 use Rattle.xns_connection.specs.Step.{AStepKeepsItsPromises, Hands, MovesOwed, calmly, moving_on, none_waits, parts_of}
 use Rattle.xns_connection.specs.Story.{ProgramDoesNothing as StoryGoesOn, Story, asked_of, waiting_message, with_handed}
 use Rattle.xns_connection.specs.Telling.{GivesNextPacket, HearsBytes, Tells}
+use Rattle.xns_connection.proofs.Leading.{stays}
 use Rattle.xns_host.specs.Went.{GuestActs, GuestAnnounced, GuestGives, GuestHears, GuestStep, GuestTells, GuestUnserved, given_by, hears, lost}
 use Rattle.xns_connection.specs.declared.connection.Connection.{Connection}
 use Rattle.xns_connection.specs.declared.conversation.Conversation.{Conversation}
@@ -32,7 +33,7 @@ use Rattle.host_world.specs.Meets.{Meets}
 use Rattle.host_world.specs.Pairing.{with_no_more, one_answer_more, one_call_more, one_message_more}
 use Rattle.host_world.specs.declared.station.Station.{Station}
 use Rattle.host_world.proofs.Gives.{gives_on_from, packet_of}
-use Rattle.host_world.proofs.Paired.{Onward, acts_on, gives_on, hears_on, stays, stays_so, then_on, told}
+use Rattle.host_world.proofs.Paired.{Onward, acts_on, gives_on, hears_on, stays_so, then_on, told}
 use Rattle.host_world.proofs.Telling.{tells_given_up, tells_handed}
 
 -- ---- acts

@@ -27,8 +27,9 @@ use Rattle.xns_connection.specs.Closing.{drains}
 use Rattle.xns_connection.specs.Living.{Deeds, GoesFrom}
 use Rattle.xns_connection.specs.Reasons.{answer_fault_of}
 use Rattle.xns_connection.specs.Refusing.{side_answer_fault, Answers as Refusals}
-use Rattle.xns_connection.specs.Story.{Story, ProgramDoesNothing, asked_of, start, waiting_message, with_handed}
+use Rattle.xns_connection.specs.Story.{Story, ProgramDoesNothing, asked_of, waiting_message, with_handed}
 use Rattle.xns_connection.specs.Telling.{Tells, Goes, GivesNextPacket, MovesAndGives, HearsBytes}
+use Rattle.xns_connection.proofs.Leading.{stays}
 use Rattle.xns_agenda.specs.Waiting.{StepsAt, still}
 use Rattle.xns_connection.specs.declared.connection.Connection.{Connection}
 use Rattle.xns_connection.specs.declared.conversation.Conversation.{Conversation}
@@ -233,10 +234,6 @@ pair_hears p c d side bytes is same hears = record {
       (on.next, record { calls = stands.calls; called = stands.called; meets = on.meets; same = same_after p d side m on.next stands.same on.conversation on.does.other }, on.does);
   beside = beside p side d;
 }
-
--- from where a story is it goes on in place
-pub stays : (h : Story) → ProgramDoesNothing h h
-stays h = record { programs = refl; path = start; made = refl; handed = refl; taken = ([], append-nil h.taken); answers = ([], append-nil h.answers); even = refl }
 
 -- where nothing is done, a meeting is as it was
 pub stays_so : (most : ℕ) (m : Meeting) (side : Side) → DoesAt most m m side with_no_more []

@@ -1,13 +1,11 @@
 -- What a connection has done is told on where no item moves: it is given up, a message is handed, a packet is made.
 use Rattle.std.proofs.Common.{◌≡◌, ◌⊎◌, inl, inr, ◌∙◌, ap, refl, sym, subst, ℕ, Bool, true, false, List, [], ◌∷◌, ◌++◌, take, drop, length, Option, Some, None}
-use Rattle.std.specs.Prelude.{◌&&◌, ◌||◌, slice_get, if◌then◌else◌}
-use Rattle.std.specs.Option.{is_some}
+use Rattle.std.specs.Prelude.{◌&&◌, ◌||◌, slice_get}
 use Rattle.courier_messages.specs.declared.message.Message.{Message}
 use Rattle.courier_sessions.proofs.Answered.{hands as call_handed}
 use Rattle.courier_sessions.proofs.Done.{hands as outcome_handed}
-use Rattle.courier_sessions.specs.Answering.{Answering, after_call, transaction_in, why_unlisted}
+use Rattle.courier_sessions.specs.Answering.{Answering, transaction_in, why_unlisted}
 use Rattle.courier_sessions.specs.Talk.{Talk}
-use Rattle.courier_sessions.specs.declared.program.Program.{Program}
 use Rattle.courier_sessions.specs.declared.unlisted.Unlisted.{Unlisted}
 use Rattle.xns_spp.specs.Growth.{Begins}
 use Rattle.xns_spp.specs.Held.{StandsFor}
@@ -21,6 +19,7 @@ use Rattle.xns_connection.specs.declared.closing.Closing.{Closing}
 use Rattle.xns_connection.specs.declared.conversation.Conversation.{Conversation}
 use Rattle.xns_connection.specs.declared.side.Side.{Side}
 use Rattle.xns_connection.specs.declared.side.Side.TheVariants.{Calls, Answers}
+use Rattle.xns_connection.proofs.Doing.{handed_keeps, is_listed_call}
 
 -- ---- the end went on, and accepted and handed up nothing
 
@@ -73,14 +72,6 @@ caller_handed h t m is has =
     let done = outcome_handed h.made h.fed h.given h.handed (record t { failed = false; phase = has.phase }) m has.done is in
     record { phase = has.phase; done = done; going = has.going; table = has.table }
 
-listed_is : (w : Option Unlisted) (n m : Message) → (if is_some w then None else Some n) ≡ Some m → (n ≡ m) × (w ≡ None)
-listed_is None n m e = (cc, refl)
-listed_is (Some u) n m e = absurd (cc)
-
-the_call : (programs : List Program) (o : Option Message) (m : Message) → listed_call programs o ≡ Some m → (o ≡ Some m) × (why_unlisted programs m ≡ None)
-the_call programs None m e = absurd (cc)
-the_call programs (Some n) m e = let l = listed_is (why_unlisted programs n) n m e in (ap Some l.0, ap (why_unlisted programs) (sym l.0) ∙ l.1)
-
 one_of : {X : Type 0} (xs : List X) (x y : X) (k : ℕ) → slice_get (xs ++ x ∷ []) k ≡ Some y → (slice_get xs k ≡ Some y) ⊎ (x ≡ y)
 one_of [] x y ℕ.zero e = inr (cc)
 one_of [] x y (ℕ.suc k) e = absurd (cc)
@@ -108,13 +99,8 @@ server_handed h a m is listed has =
 side_handed : (h : Story) (side : Side) (m : Message) → waiting_message side ≡ Some m → SideHas h side → SideHas (with_handed side h m) (side_taken side)
 side_handed h (Calls t) m is has = caller_handed h t m is has
 side_handed h (Answers a) m is has =
-    let call = the_call a.programs a.call m is in
+    let call = is_listed_call a.programs a.call m is in
     subst (λ (o : Option Message). SideHas (with_handed (Answers a) h m) (Answers (handed_by o a))) (sym is) (server_handed h a m call.0 call.1 has)
-
--- where handing any call leaves something as it was, handing none does too
-handed_keeps : {X : Type 0} (f : Answering → X) (a : Answering) (o : Option Message) → ((m : Message) → f (after_call a m) ≡ f a) → f (handed_by o a) ≡ f a
-handed_keeps f a None same = refl
-handed_keeps f a (Some m) same = same m
 
 same_stopped : (side : Side) (k : Closing) → drains (side_taken side) k ≡ drains side k
 same_stopped (Calls t) k = refl

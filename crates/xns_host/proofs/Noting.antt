@@ -6,6 +6,7 @@ use Rattle.std.proofs.lemmas.List.{get_or-replicate, get_or-set_other, get_or-se
 use Rattle.std.proofs.lemmas.Option.{get_or_from_slice_get, slice_get_read, slice_get_within}
 use Rattle.courier_messages.specs.declared.message.Message.{Message}
 use Rattle.courier_sessions.proofs.Done.{none_there as nothing_there}
+use Rattle.xns_agenda.proofs.Free.{last_other, last_same}
 use Rattle.xns_agenda.proofs.Putting.{one_place, place_other, place_set, same_or_other}
 use Rattle.xns_agenda.specs.Agenda.{Plan, HasNobody, IsFor, IsNoted, noted, released}
 use Rattle.xns_host.specs.Events.{event_by, event_in, is_newly_open, later_event}
@@ -24,12 +25,6 @@ use Rattle.xns_connection.specs.declared.side.Side.TheVariants.{Calls, Answers}
 use Rattle.xns_connection.specs.declared.why.Why.{Why}
 
 -- ---- turns
-
-last_same : (line : Line) (n : ℕ) → n < length line.tickets → has_turn (with_last line n) n ≡ true
-last_same line n less = ap is_some (get_or-set_same line.tickets n (Some line.next) None less)
-
-last_other : (line : Line) (n k : ℕ) → k ≢ n → has_turn (with_last line n) k ≡ has_turn line k
-last_other line n k other = ap is_some (get_or-set_other line.tickets n k (Some line.next) None other)
 
 given_same : (b : Bool) (line : Line) (n : ℕ) → has_turn line n ≡ b → n < length line.tickets → has_turn (if b then line else with_last line n) n ≡ true
 given_same true line n is less = is
