@@ -1,20 +1,13 @@
 use crate::outcome::{Outcome, put_count};
 use crate::player::SERVER;
-use crate::station::{Station, both};
+use crate::station::{LISTED, Station, both};
 use courier_messages::PiecedMessage;
-use courier_sessions::{Answer, Program};
+use courier_sessions::Answer;
 use std::alloc::{AllocError, Global};
 use xns_host::{Event, HostFault, Settings};
 
 /// How many connections a crowd has at once.
 const CONNECTIONS: usize = 1_000;
-
-/// The program that the server has.
-const LISTED: [Program; 1] = [Program {
-    number: 7,
-    lowest: 2,
-    highest: 2,
-}];
 
 /// One packet in so many is lost.
 const LOST: usize = 100;
@@ -85,7 +78,7 @@ impl Crowd {
 
     /// Serves the program, and opens all connections.
     fn open(&mut self) -> Result<(), HostFault> {
-        self.server.serve(SERVER.socket, &LISTED)?;
+        self.server.serve(SERVER.socket, &[LISTED])?;
         for _ in 0..CONNECTIONS {
             self.client.connect(self.now, 0, 1_024, SERVER)?;
         }

@@ -3,6 +3,13 @@ use std::alloc::Global;
 use xns_host::{Call, Event, Host, HostFault, Outgoing, Settings};
 use xns_idp::Address;
 
+/// The program that servers serve.
+pub const LISTED: Program = Program {
+    number: 7,
+    lowest: 2,
+    highest: 2,
+};
+
 /// A host that is played. Its functions are those of the host, and promise nothing: a play shows what comes of them, and no proof of a play
 /// reads what the host promises.
 #[derive(Drop)]

@@ -1,15 +1,7 @@
-use courier_sessions::Program;
 use host_scenes::player::SERVER;
-use host_scenes::station::{Station, both};
+use host_scenes::station::{LISTED, Station, both};
 use std::alloc::Global;
 use xns_host::{HostFault, Settings};
-
-/// The program that the server has.
-const LISTED: [Program; 1] = [Program {
-    number: 7,
-    lowest: 2,
-    highest: 2,
-}];
 
 /// A host that makes a call and abandons it, and the one that it calls.
 #[derive(Drop)]
@@ -38,7 +30,7 @@ impl Abandoned {
 
     /// Carries the call to the server.
     fn call(&mut self) -> Result<(), HostFault> {
-        self.server.serve(SERVER.socket, &LISTED)?;
+        self.server.serve(SERVER.socket, &[LISTED])?;
         self.number = self.client.connect(0, 0, 1_024, SERVER)?;
         self.client.call(0, self.number, 7, &[1, 2, 3])?;
         for _ in 0..10 {

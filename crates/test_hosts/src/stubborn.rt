@@ -1,16 +1,9 @@
 use courier_messages::{PiecedMessage, Words};
-use courier_sessions::{Answer, Program};
+use courier_sessions::Answer;
 use host_scenes::player::SERVER;
-use host_scenes::station::{Station, both};
+use host_scenes::station::{LISTED, Station, both};
 use std::alloc::{AllocError, Global};
 use xns_host::{Event, HostFault, Settings, Why};
-
-/// The program that the server has.
-const LISTED: [Program; 1] = [Program {
-    number: 7,
-    lowest: 2,
-    highest: 2,
-}];
 
 /// The words of a call: of some items, so that it does not fit in one packet.
 const LONG: [u16; 1_000] = [7; 1_000];
@@ -51,8 +44,8 @@ fn host_at(alloc: Global, host: [u8; 6]) -> Result<Station, HostFault> {
 
 /// Serves the program, once more where memory is refused.
 fn serve(host: &mut Station) -> Result<(), HostFault> {
-    match host.serve(SERVER.socket, &LISTED) {
-        Err(HostFault::NoMemory) => host.serve(SERVER.socket, &LISTED),
+    match host.serve(SERVER.socket, &[LISTED]) {
+        Err(HostFault::NoMemory) => host.serve(SERVER.socket, &[LISTED]),
         served => served,
     }
 }

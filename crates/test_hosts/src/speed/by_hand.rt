@@ -1,6 +1,8 @@
 use crate::speed::WORDS;
-use crate::speed::pair::{CLIENT, LISTED, SERVICE};
+use crate::speed::pair::CLIENT;
 use courier_sessions::{Answer, WordCaller, WordServer, WordSide, pump};
+use host_scenes::player::SERVER;
+use host_scenes::station::LISTED;
 use std::alloc::{AllocError, Global};
 use xns_spp::Endpoint;
 
@@ -30,7 +32,7 @@ pub struct ByHand {
 impl Calling {
     fn new(alloc: Global) -> Result<Calling, AllocError> {
         let side = WordCaller::new(alloc)?;
-        let endpoint = Endpoint::initiator(alloc, CLIENT, 9, SERVICE, 8, 16)?;
+        let endpoint = Endpoint::initiator(alloc, CLIENT, 9, SERVER, 8, 16)?;
         Ok(Calling { side, endpoint })
     }
 }
@@ -44,7 +46,7 @@ fn server(alloc: Global) -> Result<WordServer, AllocError> {
 impl Answering {
     fn new(alloc: Global) -> Result<Answering, AllocError> {
         let side = server(alloc)?;
-        let endpoint = Endpoint::responder(alloc, SERVICE, 7, CLIENT, 9, 8, 16)?;
+        let endpoint = Endpoint::responder(alloc, SERVER, 7, CLIENT, 9, 8, 16)?;
         Ok(Answering { side, endpoint })
     }
 }

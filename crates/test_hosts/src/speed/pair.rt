@@ -1,29 +1,16 @@
 use crate::speed::WORDS;
-use courier_sessions::{Answer, Program};
-use host_scenes::station::{Station, both};
+use courier_sessions::Answer;
+use host_scenes::player::SERVER;
+use host_scenes::station::{LISTED, Station, both};
 use std::alloc::Global;
 use xns_host::{Event, HostFault, Settings};
 use xns_idp::Address;
-
-/// Where the service is.
-pub const SERVICE: Address = Address {
-    network: 1,
-    host: [0, 0, 170, 0, 1, 1],
-    socket: 5,
-};
 
 /// Where the client is.
 pub const CLIENT: Address = Address {
     network: 1,
     host: [0, 0, 170, 0, 2, 2],
     socket: 3_000,
-};
-
-/// The program that the service serves.
-pub const LISTED: Program = Program {
-    number: 7,
-    lowest: 2,
-    highest: 2,
 };
 
 /// Two hosts, one of which calls the other.
@@ -61,7 +48,7 @@ impl Pair {
     /// Two hosts with room for so many connections.
     pub fn new(alloc: Global, connections: usize) -> Result<Pair, HostFault> {
         let client = host_at(alloc, CLIENT, connections)?;
-        let (client, service) = both(client, host_at(alloc, SERVICE, connections))?;
+        let (client, service) = both(client, host_at(alloc, SERVER, connections))?;
         Ok(Pair {
             alloc,
             client,
@@ -134,7 +121,7 @@ impl Pair {
 
     /// Opens a connection by a call, and returns its number.
     fn open(&mut self) -> Result<usize, HostFault> {
-        let number = self.client.connect(self.now, 0, CLIENT.socket, SERVICE)?;
+        let number = self.client.connect(self.now, 0, CLIENT.socket, SERVER)?;
         self.call(number)?;
         self.talk()?;
         self.talk()?;
@@ -143,7 +130,7 @@ impl Pair {
 
     /// Serves the program, opens so many connections, and returns the number of the last one.
     fn open_all(&mut self, connections: u32) -> Result<usize, HostFault> {
-        self.service.serve(SERVICE.socket, &[LISTED])?;
+        self.service.serve(SERVER.socket, &[LISTED])?;
         let mut last = 0;
         for _ in 0..connections {
             last = self.open()?;
