@@ -11,7 +11,8 @@ use Rattle.xns_spp.specs.State.{State}
 use Rattle.item_world.proofs.Fronts.{front_get}
 use Rattle.item_world.proofs.Kept.{flushed, delivers_lands}
 use Rattle.item_world.proofs.Later.{run_later}
-use Rattle.item_world.proofs.Onward.{Kept, Pair, flip, stands, IsNew, ticked, took, lands_now, arrived, Asked, asked, Knows, Goes, goes, longer, alike, lands_there, flushed_pair, Told, told_out, knows_flushed}
+use Rattle.item_world.proofs.Onward.{Kept, Pair, flip, stands, IsNew, ticked, took, lands_now, arrived, Asked, asked, Knows, Goes, goes, longer}
+use Rattle.item_world.proofs.Flushes.{alike, lands_there, flushed_pair, Told, told_out, knows_flushed}
 use Rattle.item_world.specs.EndLaws.{EndLaws}
 use Rattle.item_world.specs.Events.{arrival, stepped, delivers, world_after}
 use Rattle.item_world.specs.Invariant.{StandsBesidePeer, Holds}

@@ -10,6 +10,7 @@ pub mod GoingOut
 pub mod Channels
 pub mod Plays
 pub mod Onward
+pub mod Flushes
 pub mod Going
 pub mod Finishing
 pub mod SmallSteps

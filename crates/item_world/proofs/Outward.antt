@@ -10,7 +10,8 @@ use Rattle.xns_spp.specs.Sending.{system_packet, after_flush, after_tick}
 use Rattle.xns_spp.specs.State.{State}
 use Rattle.item_world.proofs.Fronts.{front_get}
 use Rattle.item_world.proofs.Later.{all_later}
-use Rattle.item_world.proofs.Onward.{Kept, Pair, flip, stands, IsNew, arrived, replied, ticked, Asked, asked, Knows, Goes, goes, longer, alike, flushed_pair, flushed_here, new_out, lands_as, Told, told_out, knows_flushed}
+use Rattle.item_world.proofs.Onward.{Kept, Pair, flip, stands, IsNew, arrived, replied, ticked, Asked, asked, Knows, Goes, goes, longer}
+use Rattle.item_world.proofs.Flushes.{alike, flushed_pair, flushed_here, new_out, lands_as, Told, told_out, knows_flushed}
 use Rattle.item_world.specs.EndLaws.{EndLaws}
 use Rattle.item_world.specs.Events.{SmallStep, arrival, flushing, ticking}
 use Rattle.item_world.specs.Invariant.{StandsBesidePeer, Holds}
