@@ -18,22 +18,22 @@ over f (Err fault) = Err fault
 
 -- ---- functions: a fault that is meant is its place and what is wrong there
 
--- it stops at the fault that is meant, unless memory ran out
+-- a function stops at the fault that is meant, unless memory ran out
 abbrev pub Fails : {P R Y : Type 0} → Failure P R → Result Y (P × R) → Type 0
 Fails (failures.Wrong place reason) meant = meant ≡ Err (place, reason)
 Fails failures.NoMemory meant = Unit {0}
 
--- it returned what is meant, seen by view, unless memory ran out
+-- a function returned what is meant, seen by view, unless memory ran out
 abbrev pub Gives : {P R X Y : Type 0} → (X → Y) → Result X (Failure P R) → Result Y (P × R) → Type 0
 Gives view (Ok x) meant = meant ≡ Ok (view x)
 Gives view (Err failure) meant = Fails failure meant
 
--- it stops at the fault that is meant, and wants no memory
+-- a function stops at the fault that is meant, and wants no memory
 abbrev pub Stops : {P R Y : Type 0} → Failure P R → Result Y (P × R) → Type 0
 Stops (failures.Wrong place reason) meant = meant ≡ Err (place, reason)
 Stops failures.NoMemory meant = ⊥
 
--- it returned what is meant, seen by view, and wants no memory
+-- a function returned what is meant, seen by view, and wants no memory
 abbrev pub Finds : {P R X Y : Type 0} → (X → Y) → Result X (Failure P R) → Result Y (P × R) → Type 0
 Finds view (Ok x) meant = meant ≡ Ok (view x)
 Finds view (Err failure) meant = Stops failure meant

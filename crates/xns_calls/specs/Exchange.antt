@@ -46,7 +46,7 @@ scene_seen false first second page = scene first second page
 abbrev pub scene_of : BothFlows → Scene
 scene_of flows = scene flows.own.now flows.other.now flows.page.now
 
--- the same flows are seen from the same one, and what stands before the line on the page is as it was
+-- two records have the same flows, seen from the same one, and what stands before the line on the page is as it was
 abbrev pub Continues : BothFlows → BothFlows → Type 0
 Continues old new = (new.heading ≡ old.heading) × (new.page.now.text.front ≡ old.page.now.text.front)
     × (new.scratch.ghost_name ≡ old.scratch.ghost_name) × (new.page.ghost_name ≡ old.page.ghost_name)
