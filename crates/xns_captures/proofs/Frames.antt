@@ -118,7 +118,7 @@ takes_frame old new read bytes tail stands stands' frame step h count first take
 
 -- ---- it stops
 
--- it stops behind the frames that came, by a fault that fits what comes behind them
+-- a reading stops behind the frames that came, by a fault that fits what comes behind them
 stops_behind : (fault : FileFault) (old : Reading) (read kept : List ℕ) (stands left : Says) (h : HasRead old read kept stands)
     → EndsBy fault h.frames (λ rest. rest_of old (kept ++ rest)) → left (packets_in None 1 h.frames) → HasStopped fault read left
 stops_behind fault old read kept stands left h ends is_left = record {

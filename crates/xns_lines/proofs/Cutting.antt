@@ -229,7 +229,7 @@ module _ (most : ℕ) where
     is_left = h.is_left;
   }
 
-  -- it stopped behind the lines that are over
+  -- a run stopped behind the lines that are over
   stops_behind : (c : Cutter) (read : List ℕ) (f : RunFault) (left : Says) → HasCut most c read → IsJustified most f read (closed_lines read) (line_if_any (open_line read)) → left (closed_lines read) → StopsShort most f read left
   stops_behind c read f left h shown is_left = record {
     good = closed_lines read;
@@ -318,7 +318,7 @@ module _ (most : ℕ) where
   taker_stopped stands fails contents t t' w w' start left f read x h =
       stopped_in start left (λ before. stands t before (contents w) []) (λ before. stands t' before (contents w')) (λ before. fails t' before (contents w')) f read x h
 
-  -- it stopped with a piece that was read behind the others
+  -- a run stopped with a piece that was read behind the others
   pub taker_stopped_with : {T W : Type 0} (stands fails : T → Option (List ℕ) → Option (List ℕ) → Says) (contents : W → Option (List ℕ)) (t t' : T) (w w' : W) (start mid left : Option (List ℕ)) (f : RunFault) (read piece : List ℕ)
       → Consumes start mid read → Consumes mid left piece
       → ((before : Option (List ℕ)) → stands t before (contents w) [] → StopsShort most f (read ++ piece) (StandsAfter f (stands t' before (contents w')) (fails t' before (contents w'))))
