@@ -4,6 +4,7 @@ use Rattle.courier_types.specs.Shape.{ShapeModel}
 use Rattle.courier_types.specs.Value.{ValueModel, values_from}
 use Rattle.courier_calls.specs.Table.{EntryModel}
 use Rattle.courier_calls.specs.Calls.{OutcomeModel, Serving}
+use Rattle.bench.specs.declared.calls.lists.Lists.{Lists}
 
 -- a list of at most 60,000 cardinals
 abbrev pub list_shape : ShapeModel
@@ -24,12 +25,12 @@ counted zero = []
 counted (suc n) = ValueModel.cardinal n ∷ counted n
 
 -- how many numbers the service may have
-abbrev pub IsCount : ℕ → Type 0
-IsCount n = n ≤ 60000
+abbrev pub IsCount : Lists → Type 0
+IsCount s = s.count ≤ 60000
 
-abbrev pub lists : Serving ℕ
+abbrev pub lists : Serving Lists
 lists = record {
   table = lists_entry ∷ [];
-  outcome = λ n q. OutcomeModel.returned (ValueModel.sequence (values_from (counted n)));
-  after = λ n q. n;
+  outcome = λ s q. OutcomeModel.returned (ValueModel.sequence (values_from (counted s.count)));
+  after = λ s q. s;
 }

@@ -1,13 +1,12 @@
 -- A service that counts down keeps the law of services.
-use Rattle.std.proofs.Common.{◌≡◌, ◌∙◌, ap, ℕ, zero, suc, ◌≤◌, Bool, true, false, [], ◌∷◌, length, refl, arith, Result, Err, Some, None}
+use Rattle.std.proofs.Common.{◌≡◌, ◌∙◌, ap, ℕ, zero, suc, ◌≤◌, Bool, true, false, length, refl, arith, Some, None}
 use Rattle.std.proofs.lemmas.Bool.{le-leb}
-use Rattle.std.specs.Prelude.{if◌then◌else◌, ◌==◌, ◌||◌, ◌&&◌, nat_lt, nat_le}
+use Rattle.std.specs.Prelude.{if◌then◌else◌, ◌==◌, ◌&&◌, nat_le}
 use Rattle.courier_types.specs.Shape.{ShapeModel}
 use Rattle.courier_types.specs.Value.{ValueModel, count, values_from}
 use Rattle.courier_types.specs.Spelling.{values_spelling}
 use Rattle.courier_types.specs.Fits.{has_shape, each_passes, AreValues}
-use Rattle.courier_calls.specs.Table.{EntryModel, ProcedureModel}
-use Rattle.courier_calls.specs.Calls.{AskedCall, SeenModel, OutcomeModel, found, in_procedures, HasArguments, IsListedCall, IsSent, AllowsOutcome}
+use Rattle.courier_calls.specs.Calls.{AskedCall, OutcomeModel, found, in_procedures, HasArguments, IsListedCall, IsSent, AllowsOutcome}
 use Rattle.courier_calls.specs.Calls.{IsAllowed, IsLawful}
 use Rattle.courier_calls.specs.OneEntry.{of_one_entry}
 use Rattle.bench.specs.Lists.{list_shape, lists_entry, counted, IsCount, lists}
@@ -65,8 +64,8 @@ allowed list q s h =
 
 pub lists_lawful : IsLawful lists IsCount
 lists_lawful = record {
-  carries_out = λ n q few h. record {
-    outcome = allowed (ValueModel.sequence (values_from (counted n))) q (counted_sent n few) h;
+  carries_out = λ s q few h. record {
+    outcome = allowed (ValueModel.sequence (values_from (counted s.count))) q (counted_sent s.count few) h;
     after = few;
   };
   table = (record { low = omega arith; high = omega arith; errors = tt }, tt);

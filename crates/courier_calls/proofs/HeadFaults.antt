@@ -13,18 +13,8 @@ use Rattle.courier_calls.specs.declared.call.Target.{Target}
 use Rattle.courier_calls.specs.Calls.{SeenModel, found}
 use Rattle.courier_calls.specs.Table.{ProcedureModel, ErrorModel, EntryModel, table_model, error_of}
 use Rattle.courier_calls.specs.Caller.{CallerState, answer_to, results_in, abort_seen_as, error_in, refusal_in, message_refusal, RefusesMessage, head_fault, target_fault, is_answer_listed, listed_unless, IsRightButForWords, CallerJudges, CallerHears}
+use Rattle.courier_messages.proofs.Heads.{headed}
 use Rattle.courier_messages.proofs.Runs.{weaker}
-
-whole : (m : Message) → m ≡ with_words (head_in m) (words_in m)
-whole (Call t p v q words) = refl
-whole (Reject t r words) = refl
-whole (Return t words) = refl
-whole (Abort t e words) = refl
-
--- a message with this head
-headed : (m : Message) (ms : List Message) (head : Head) → map head_in (m ∷ ms) ≡ head ∷ [] → (m ≡ with_words head (words_in m)) × (ms ≡ [])
-headed m [] head h = let e : head_in m ≡ head = cc in (whole m ∙ ap (λ (d : Head). with_words d (words_in m)) e, refl)
-headed m (n ∷ ms) head h = absurd cc
 
 -- a fault of the text
 pub fault_first : (caller : CallerState) (e : SessionFault) (ms : List Message) (q : Result Phase SessionFault) → Stops e ⊥ ((q ≡ Err e) × (ms ≡ []))

@@ -1,20 +1,17 @@
 -- What an item would bring, before it is taken.
 use Rattle.std.proofs.Common.{◌≡◌, ◌∙◌, ap, refl, subst, sym, ℕ, List, [], ◌∷◌, ◌++◌, drop, length, map, Bool, true, false, Option, None, Result, Ok, Err}
-use Rattle.std.proofs.Common.{arith, ◌-◌, inl, inr}
-use Rattle.std.proofs.lemmas.List.{length-drop}
 use Rattle.std.specs.Prelude.{is_ok}
 use Rattle.xns_spp.specs.declared.item.Item.{Item}
 use Rattle.courier_messages.specs.declared.fault.SessionFault.{SessionFault}
 use Rattle.courier_messages.specs.declared.fault.SessionFault.TheVariants as faults
 use Rattle.courier_messages.specs.declared.head.Head.{Head}
 use Rattle.courier_messages.specs.declared.incoming.Stage.{Stage}
-use Rattle.courier_messages.specs.declared.incoming.Stage.TheVariants.{Opening, Fresh, Inside}
 use Rattle.courier_messages.specs.declared.message.Message.{Message}
-use Rattle.courier_messages.specs.Conversation.{Phase, inside, range_bytes}
+use Rattle.courier_messages.specs.Conversation.{Phase, inside}
 use Rattle.courier_messages.specs.Head.{head_in}
-use Rattle.courier_messages.specs.Inside.{IsHeld, kept_at, phase_in}
+use Rattle.courier_messages.specs.Inside.{kept_at, phase_in}
 use Rattle.courier_messages.specs.Phases.{after_sign, ended, run, said, onwards, ◌then◌}
-use Rattle.courier_messages.specs.Refusal.{Foresees, KeepsNothing, Stops}
+use Rattle.courier_messages.specs.Refusal.{Foresees, Stops}
 use Rattle.courier_messages.specs.Text.{Sign, byte, mark, signs, end_of, item_of}
 use Rattle.courier_messages.proofs.Runs.{signs_open, run_append, said_append, said_bytes, run_mark, said_mark, without_mark, weaker}
 

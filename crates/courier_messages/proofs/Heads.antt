@@ -1,5 +1,5 @@
 -- The words behind a message's head.
-use Rattle.std.proofs.Common.{◌≡◌, ◌∙◌, ap, sym, subst, refl, ℕ, suc, ◌+◌, ◌-◌, ◌*◌, ◌/◌, ◌%◌, ◌≤◌, inl, inr, Bool, true, false, List, [], ◌∷◌, ◌++◌, length, drop, arith, length-append, length-drop, le-ltb, ne_eqb, eq-eqb, Result, Ok, Err}
+use Rattle.std.proofs.Common.{◌≡◌, ◌∙◌, ap, sym, subst, refl, ℕ, suc, ◌+◌, ◌-◌, ◌*◌, ◌/◌, ◌%◌, ◌≤◌, inl, inr, Bool, true, false, List, [], ◌∷◌, ◌++◌, length, map, drop, arith, length-append, length-drop, le-ltb, ne_eqb, eq-eqb, Result, Ok, Err}
 use Rattle.std.specs.Prelude.{if◌then◌else◌, ◌==◌}
 use Rattle.courier_types.specs.Pieces.{words_of}
 use Rattle.courier_messages.specs.declared.fault.MessageFault.{MessageFault}
@@ -9,8 +9,19 @@ use Rattle.courier_messages.specs.declared.message.Message.TheVariants as messag
 use Rattle.courier_messages.specs.declared.head.Head.{Head}
 use Rattle.courier_messages.specs.declared.head.Head.TheVariants as heads
 use Rattle.courier_messages.specs.Message.{message_words, call_in, reject_in, abort_in, message_in, unless_long, message_of}
-use Rattle.courier_messages.specs.Head.{with_words, words_in, head_size, size_of, ReadsHead}
+use Rattle.courier_messages.specs.Head.{with_words, head_in, words_in, head_size, size_of, ReadsHead}
 use Rattle.courier_messages.specs.Inside.{IsSkipped}
+
+with_its_words : (m : Message) → m ≡ with_words (head_in m) (words_in m)
+with_its_words (messages.Call t p v q words) = refl
+with_its_words (messages.Reject t r words) = refl
+with_its_words (messages.Return t words) = refl
+with_its_words (messages.Abort t e words) = refl
+
+-- the one message that there is has this head
+pub headed : (m : Message) (ms : List Message) (head : Head) → map head_in (m ∷ ms) ≡ head ∷ [] → (m ≡ with_words head (words_in m)) × (ms ≡ [])
+headed m [] head h = let e : head_in m ≡ head = cc in (with_its_words m ∙ ap (λ (d : Head). with_words d (words_in m)) e, refl)
+headed m (n ∷ ms) head h = absurd cc
 
 abbrev pub read_as : Message → Result Message MessageFault
 read_as m = Ok m

@@ -19,3 +19,4 @@ pub mod Called
 mod Fronts
 mod Foreseen
 pub mod Apart
+pub mod Empties

@@ -35,6 +35,13 @@ words_in (messages.Reject transaction reason words) = words
 words_in (messages.Return transaction words) = words
 words_in (messages.Abort transaction error words) = words
 
+-- the transaction that a message belongs to
+abbrev pub transaction_in : Message → ℕ
+transaction_in (messages.Call transaction program version procedure words) = transaction
+transaction_in (messages.Reject transaction reason words) = transaction
+transaction_in (messages.Return transaction words) = transaction
+transaction_in (messages.Abort transaction error words) = transaction
+
 -- the words of a head
 abbrev pub head_words : Head → List ℕ
 head_words head = message_words (with_words head [])

@@ -1,7 +1,7 @@
 //! A message without its words.
-ghost use Rattle.std.specs.Prelude.{◌≡◌, ◌+◌, ◌++◌, length, vec_len, vec_capacity};
+ghost use Rattle.std.specs.Prelude.{◌≡◌, ℕ, ◌+◌, List, ◌++◌, length, vec_len, vec_capacity};
 ghost use Rattle.courier_types.specs.Writing.{HasRoom};
-ghost use Rattle.courier_messages.specs.Head.{with_words, words_in, head_size, head_words};
+ghost use Rattle.courier_messages.specs.Head.{with_words, words_in, transaction_in, head_size, head_words};
 ghost use Rattle.courier_types.specs.Source.{bytes_of};
 
 use crate::kinds::{ABORT, CALL, REJECT, RETURN};
@@ -36,38 +36,40 @@ impl Head {
     pub fn of(message: &Message) -> Head
         ensures { message.now ≡ with_words result (words_in message.now) }
     {
+        let transaction = message.transaction();
         match message {
             Message::Call {
-                transaction,
                 program,
                 version,
                 procedure,
                 ..
             } => Head::Call {
-                transaction: *transaction,
+                transaction,
                 program: *program,
                 version: *version,
                 procedure: *procedure,
             },
-            Message::Reject {
+            Message::Reject { reason, .. } => Head::Reject {
                 transaction,
-                reason,
-                ..
-            } => Head::Reject {
-                transaction: *transaction,
                 reason: *reason,
             },
-            Message::Return { transaction, .. } => Head::Return {
-                transaction: *transaction,
-            },
-            Message::Abort {
+            Message::Return { .. } => Head::Return { transaction },
+            Message::Abort { error, .. } => Head::Abort {
                 transaction,
-                error,
-                ..
-            } => Head::Abort {
-                transaction: *transaction,
                 error: *error,
             },
+        }
+    }
+
+    /// The transaction that the message belongs to: an answer has that of its call.
+    pub fn transaction(self) -> u16
+        ensures { (words : List ℕ) → result ≡ transaction_in (with_words self words) }
+    {
+        match self {
+            Head::Call { transaction, .. }
+            | Head::Reject { transaction, .. }
+            | Head::Return { transaction }
+            | Head::Abort { transaction, .. } => transaction,
         }
     }
 
@@ -122,23 +124,21 @@ impl Head {
         ensures len { vec_len out.new ≡ vec_len out.old + length (bytes_of (head_words self)) }
         ensures capacity { vec_capacity out.new ≡ vec_capacity out.old }
     {
+        let transaction = self.transaction();
         match self {
             Head::Call {
-                transaction,
                 program,
                 version,
                 procedure,
+                ..
             } => {
                 let high = (program / 65536) as u16;
                 let low = (program % 65536) as u16;
                 put_words(&[CALL, transaction, high, low, version, procedure], out)
             }
-            Head::Reject {
-                transaction,
-                reason,
-            } => put_words(&[REJECT, transaction, reason], out),
-            Head::Return { transaction } => put_words(&[RETURN, transaction], out),
-            Head::Abort { transaction, error } => put_words(&[ABORT, transaction, error], out),
+            Head::Reject { reason, .. } => put_words(&[REJECT, transaction, reason], out),
+            Head::Return { .. } => put_words(&[RETURN, transaction], out),
+            Head::Abort { error, .. } => put_words(&[ABORT, transaction, error], out),
         }
     }
 }

@@ -1,6 +1,6 @@
 //! Courier's four messages.
 ghost use Rattle.std.specs.Prelude.{◌≡◌};
-ghost use Rattle.courier_messages.specs.Head.{words_in};
+ghost use Rattle.courier_messages.specs.Head.{transaction_in, words_in};
 
 use crate::words::Words;
 
@@ -31,6 +31,18 @@ pub enum Message {
 }
 
 impl Message {
+    /// The transaction that the message belongs to: an answer has that of its call.
+    pub fn transaction(&self) -> u16
+        ensures { result ≡ transaction_in self.now }
+    {
+        match self {
+            Message::Call { transaction, .. }
+            | Message::Reject { transaction, .. }
+            | Message::Return { transaction, .. }
+            | Message::Abort { transaction, .. } => *transaction,
+        }
+    }
+
     /// The words behind the message's head: arguments, results, or the words of a reject or of an error.
     pub fn words(&self) -> &[u16]
         ensures { result.now ≡ words_in self.now }

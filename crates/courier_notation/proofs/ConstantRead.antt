@@ -1,5 +1,6 @@
 -- Tokens that are read as a constant spell it, and what spells a constant is read as that constant.
-use Rattle.std.proofs.Common.{◌≡◌, ℕ, zero, suc, ◌≤◌, Bool, true, false, cond, List, [], ◌∷◌, ◌++◌, Result, Ok, refl, ap, subst, ◌∙◌, append_assoc, arith, inl, inr}
+use Rattle.std.proofs.Common.{◌≡◌, ℕ, zero, suc, ◌≤◌, Bool, true, false, not, cond, List, [], ◌∷◌, ◌++◌, Result, Ok, refl, ap, subst, ◌∙◌, append_assoc, arith, inl, inr}
+use Rattle.std.proofs.lemmas.Bool.{not-true}
 use Rattle.courier_notation.specs.declared.declared.Constant.{Constant}
 use Rattle.courier_notation.specs.declared.declared.Constant.TheVariants as constants
 use Rattle.courier_notation.specs.declared.reason.Reason.TheVariants as reasons
@@ -8,7 +9,7 @@ use Rattle.courier_notation.specs.declared.token.Token.TheVariants as tokens
 use Rattle.courier_notation.specs.declared.written.Reference.{Reference}
 use Rattle.courier_notation.specs.declared.written.Reference.TheVariants as references
 use Rattle.courier_notation.specs.Failing.{◌>>=◌, over}
-use Rattle.courier_notation.specs.Reading.{Fault, Reader, behind_comma, others_at, listed, most_parts, reference_behind, token_at}
+use Rattle.courier_notation.specs.Reading.{Fault, Reader, behind_comma, nested, others_at, listed, most_parts, reference_behind, token_at}
 use Rattle.courier_notation.specs.Programs.{long_number, begins_constant, chosen_behind, component_behind, element_at, elements_behind, constant_behind, constant_at}
 use Rattle.courier_notation.specs.Spelling.{reference_spelling}
 use Rattle.courier_notation.specs.ProgramSpelling.{SpellsConstant, SpellsElement, SpellsElements, number, negative, quoted, is_true, is_false, named, chosen, nothing, listed as listed_elements, alone, component, last, more}
@@ -137,7 +138,7 @@ by_first depth find tokens.OpenBracket ts x e = bracketed_found depth find ts x 
 by_first depth find t ts x e = absurd cc
 
 constant_found : (depth : ℕ) → Finds depth
-unfolding constant_at
+unfolding nested
 constant_found zero ts x e = absurd cc
 constant_found (suc depth) [] x e = absurd cc
 constant_found (suc depth) (t ∷ ts) x e = by_first depth (constant_found depth) t ts x e
@@ -151,14 +152,7 @@ constant_takes depth ts c rest e = let f = constant_found depth ts (c, rest) e i
 -- what may stand behind a constant: nothing with which it would go on
 abbrev pub is_behind_constant : List Token → Bool
 is_behind_constant (tokens.Dot ∷ ts) = false
-is_behind_constant (tokens.Number n ∷ ts) = false
-is_behind_constant (tokens.Quoted n ∷ ts) = false
-is_behind_constant (tokens.Name n ∷ ts) = false
-is_behind_constant (tokens.True ∷ ts) = false
-is_behind_constant (tokens.False ∷ ts) = false
-is_behind_constant (tokens.Minus ∷ ts) = false
-is_behind_constant (tokens.OpenBracket ∷ ts) = false
-is_behind_constant ts = true
+is_behind_constant ts = not (begins_constant ts)
 
 abbrev got : {A : Type 0} → A → List Token → Result (A × List Token) Fault
 got x rest = Ok (x, rest)
@@ -170,17 +164,11 @@ own_name n (t ∷ ts) h = refl
 
 none_begins : (ts : List Token) → is_behind_constant ts ≡ true → begins_constant ts ≡ false
 none_begins [] h = refl
-none_begins (tokens.Number n ∷ ts) h = absurd cc
-none_begins (tokens.Quoted n ∷ ts) h = absurd cc
-none_begins (tokens.Name n ∷ ts) h = absurd cc
-none_begins (tokens.True ∷ ts) h = absurd cc
-none_begins (tokens.False ∷ ts) h = absurd cc
-none_begins (tokens.Minus ∷ ts) h = absurd cc
-none_begins (tokens.OpenBracket ∷ ts) h = absurd cc
-none_begins (t ∷ ts) h = refl
+none_begins (tokens.Dot ∷ ts) h = refl
+none_begins (t ∷ ts) h = not-true (begins_constant (t ∷ ts)) h
 
 named_read : (depth : ℕ) (r : Reference) (rest : List Token) → is_behind_constant rest ≡ true → constant_at (suc depth) (reference_spelling r ++ rest) ≡ got (constants.Named r) rest
-unfolding constant_at constant_behind chosen_behind
+unfolding nested constant_behind chosen_behind
 named_read depth (references.Own n) rest h = rw (own_name n rest h, none_begins rest h) refl
 named_read depth (references.Other p n) rest h = rw (none_begins rest h) refl
 
@@ -191,7 +179,7 @@ own_before n (tokens.Dot ∷ ts) h = absurd cc
 own_before n (t ∷ ts) h = refl
 
 chosen_read : (depth : ℕ) (r : Reference) (c : Constant) (ts rest : List Token) → begins_constant ts ≡ true → constant_at depth ts ≡ got c rest → constant_at (suc depth) (reference_spelling r ++ ts) ≡ got constants.Other rest
-unfolding constant_at constant_behind chosen_behind
+unfolding nested constant_behind chosen_behind
 chosen_read depth (references.Own n) c ts rest b h = rw (own_before n ts b, b, h) refl
 chosen_read depth (references.Other p n) c ts rest b h = rw (b, h) refl
 
@@ -251,7 +239,7 @@ inside_read one (tokens.CloseBracket ∷ ts) h = absurd cc
 inside_read one (t ∷ ts) h = refl
 
 brackets_read : (depth : ℕ) (ts : List Token) (xs : List Constant) (rest : List Token) → begins_constant ts ≡ true → listed (element_at (constant_at depth)) most_parts ts ≡ got xs (tokens.CloseBracket ∷ rest) → constant_at (suc depth) (tokens.OpenBracket ∷ ts) ≡ got constants.Other rest
-unfolding constant_at constant_behind
+unfolding nested constant_behind
 brackets_read depth ts xs rest b h = inside_read (constant_at depth) ts b ∙ rw h refl
 
 -- a constant that is read of the tokens
@@ -273,7 +261,7 @@ more_of depth count (suc most) ts next rest few r others =
     (r.0 ∷ o.0, more_read (element_at (constant_at depth)) most ts r.0 next o.0 (tokens.CloseBracket ∷ rest) r.1 o.1)
 
 mutual
-  unfolding constant_at constant_behind elements_behind
+  unfolding nested constant_behind elements_behind
 
   pub constant_read : {depth : ℕ} {c : Constant} {text : List Token} → SpellsConstant depth c text → (rest : List Token) → is_behind_constant rest ≡ true → constant_at depth (text ++ rest) ≡ got c rest
   constant_read (number depth n) rest h = refl

@@ -2,6 +2,7 @@ pub mod Failing
 pub mod Listing
 pub mod Models
 pub mod Takes
+pub mod Groups
 pub mod Sound
 pub mod Complete
 pub mod Fronts

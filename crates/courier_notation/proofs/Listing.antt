@@ -7,8 +7,8 @@ use Rattle.courier_notation.specs.declared.failure.Failure.{Failure}
 use Rattle.courier_notation.specs.declared.failure.Failure.TheVariants as failures
 use Rattle.courier_notation.specs.declared.token.Token.{Token}
 use Rattle.courier_notation.specs.Failing.{◌>>=◌, Fails, Stops, over}
-use Rattle.courier_notation.specs.Reading.{Fault, Reader, passed, behind_comma, listed, most_parts, name_at, designator_at, field_at, candidate_at}
-use Rattle.courier_notation.specs.Written.{Designator, TypeModel}
+use Rattle.courier_notation.specs.Reading.{Fault, Reader, passed, behind_comma, group_at, listed, most_parts}
+use Rattle.courier_notation.specs.Written.{TypeModel}
 use Rattle.courier_notation.proofs.Failing.{bind_ok, first_was_right}
 
 -- what was read before, and what is still read
@@ -95,14 +95,10 @@ first_of_list {x} one (suc n) ts is = first_was_right (one ts) _ x is
 first_of_parts : {A B : Type 0} {x : B} (one : Reader A) (ts : List Token) (f : List A × List Token → Result B Fault) → (listed one most_parts ts >>= f) ≡ Ok x → IsOk (one ts)
 first_of_parts {x} one ts f is = first_of_list one most_parts ts (bind_ok (listed one most_parts ts) f x is).1
 
--- components begin with a name, and candidates with a designator
-pub first_name : (one : Reader TypeModel) (ts : List Token) {x : (List ℕ × TypeModel) × List Token} → field_at one ts ≡ Ok x → IsOk (name_at ts)
-unfolding field_at
-first_name one ts is = first_of_parts name_at ts _ is
-
-pub first_designator : (one : Reader TypeModel) (ts : List Token) {x : (List Designator × TypeModel) × List Token} → candidate_at one ts ≡ Ok x → IsOk (designator_at ts)
-unfolding candidate_at
-first_designator one ts is = first_of_parts designator_at ts _ is
+-- a group begins with its first part
+pub first_in_group : {A : Type 0} (part : Reader A) (mark : Token × Reason) (one : Reader TypeModel) (ts : List Token) {x : (List A × TypeModel) × List Token} → group_at part mark one ts ≡ Ok x → IsOk (part ts)
+unfolding group_at
+first_in_group part mark one ts is = first_of_parts part ts _ is
 
 -- ---- parts that are passed over
 

@@ -1,5 +1,5 @@
 -- Tokens that are read as a program spell it.
-use Rattle.std.proofs.Common.{◌≡◌, ◌⊎◌, ℕ, zero, suc, ◌<◌, ◌≤◌, Bool, true, false, cond, List, [], ◌∷◌, ◌++◌, length, Result, Ok, Err, refl, sym, ap, subst, ◌∙◌, append-nil, arith, inl, inr}
+use Rattle.std.proofs.Common.{◌≡◌, ◌⊎◌, ℕ, zero, suc, ◌<◌, ◌≤◌, Bool, true, false, cond, List, [], ◌∷◌, ◌++◌, length, Result, Ok, Err, refl, ap, subst, ◌∙◌, append-nil, arith, inl, inr}
 use Rattle.std.specs.List.{AllByRecursion}
 use Rattle.courier_notation.specs.declared.declared.Dependency.{Dependency}
 use Rattle.courier_notation.specs.declared.reason.Reason.{Reason}
@@ -10,15 +10,15 @@ use Rattle.courier_notation.specs.declared.written.Reference.{Reference}
 use Rattle.courier_notation.specs.Written.{fields_from}
 use Rattle.courier_notation.specs.ProgramModels.{DeclaredModel, FieldList, ProgramModel}
 use Rattle.courier_notation.specs.Failing.{◌>>=◌, over}
-use Rattle.courier_notation.specs.Reading.{Fault, Reader, enclosed, listed, most_parts, token_at, name_at, fields_behind, fields_at, type_at}
+use Rattle.courier_notation.specs.Reading.{Fault, Reader, behind_first, enclosed, in_parentheses, optional, reference_behind, listed, most_parts, token_at, name_at, fields_behind, fields_at, type_at}
 use Rattle.courier_notation.specs.Programs.{most_depth, long_number, small_at, constant_at, arguments_at, results_at, reference_at, reports_at}
 use Rattle.courier_notation.specs.Programs.{procedure_behind, error_behind, type_declared, constant_declared, declared_at, declaration_at, is_end, most_declarations, declarations_at, dependency_at, dependencies_at, nothing_at, Header, header_at, body_at, program_with, program_of}
 use Rattle.courier_notation.specs.Spelling.{reference_spelling, parts_spelling, type_spelling, fields_spelling, AreParts}
 use Rattle.courier_notation.specs.ProgramSpelling.{SpellsFields, SaysNothing, SpellsArguments, SpellsResults, SpellsReports, numbered, SpellsDeclared, SpellsDeclaration, SpellsDeclarations, dependency_spelling, IsDependency, SpellsDependencies, SpellsProgram}
 use Rattle.courier_notation.proofs.Failing.{ok_is, bind_ok, over_ok}
-use Rattle.courier_notation.proofs.Takes.{done, Takes, Takes-then, Takes-behind, Takes-one, TakesOnly, IsSound, IsSmall, Any, listed_takes, name_takes, reference_takes, small_behind_takes}
-use Rattle.courier_notation.proofs.Takes.{colon_is, open_bracket_is, close_bracket_is, open_parenthesis_is, close_parenthesis_is, begin_is, end_is, program_is, version_is, upon_is, equal_is, semicolon_is, dot_is}
-use Rattle.courier_notation.proofs.Sound.{type_takes, fields_behind_take}
+use Rattle.courier_notation.proofs.Takes.{done, Takes, IsFirst, bracket_first, returns_first, reports_first, depends_first, Takes-then, Takes-behind, Takes-one, TakesOnly, IsSound, IsSmall, Any, listed_takes, name_takes, by_name_takes, others_ok, reference_takes, small_behind_takes}
+use Rattle.courier_notation.proofs.Takes.{colon_is, open_bracket_is, close_bracket_is, begin_is, end_is, program_is, version_is, upon_is, equal_is, semicolon_is, dot_is}
+use Rattle.courier_notation.proofs.Sound.{type_takes, fields_behind_take, inside_takes}
 use Rattle.courier_notation.proofs.ConstantRead.{constant_takes}
 
 -- ---- numbers
@@ -55,36 +55,33 @@ fields_found ts x e =
     let text = fields_spelling (fields_from x.0) ++ tokens.CloseBracket ∷ [] in
     record { text = tokens.OpenBracket ∷ text; takes = Takes-behind tokens.OpenBracket (open_bracket_is ts a.0 a.1) f.takes; spells = (f.few, f.good, refl) }
 
--- nothing was said
-nothing_found : {A : Type 0} (Says : List A → List Token → Type 0) (ts : List Token) (x : List A × List Token) → done ([], ts) ≡ Ok x → Found (λ xs text. SaysNothing xs text ⊎ Says xs text) ts x
-nothing_found {A} Says ts x e =
-    let made : List A × List Token = ([], ts) in
-    subst (λ (p : List A × List Token). Found (λ xs text. SaysNothing xs text ⊎ Says xs text) ts p) (ok_is made x e) (record { text = []; takes = record { parts = refl }; spells = inl (refl, refl) })
+-- what a token announces
+optional_found : {A : Type 0} (first : Token) → IsFirst first → (one : Reader (List A)) (Says : List A → List Token → Type 0)
+    → ((ts : List Token) (x : List A × List Token) → one ts ≡ Ok x → Found (λ xs text. Says xs (first ∷ text)) ts x) → (ts : List Token) (x : List A × List Token) → optional first one ts ≡ Ok x → Found (λ xs text. SaysNothing xs text ⊎ Says xs text) ts x
+unfolding optional
+optional_found {A} first is_first one Says found ts x e =
+    elim (others_ok one ts (behind_first first ts) x.0 x.1 e) [
+      | inl m ↦ let f = found m.0 x m.2 in record { text = first ∷ f.text; takes = Takes-behind first (is_first ts m.0 m.1) f.takes; spells = inr f.spells }
+      | inr n ↦ record { text = []; takes = record { parts = n.2 }; spells = inl (n.1, refl) }
+    ]
+
+inside_found : (ts : List Token) (x : FieldList × List Token) → fields_behind (type_at most_depth) ts ≡ Ok x → Found (λ fields text. SpellsFields fields (tokens.OpenBracket ∷ text)) ts x
+inside_found ts x e =
+    let f = fields_behind_take most_depth (type_takes most_depth) ts x.0 x.1 e in
+    record { text = fields_spelling (fields_from x.0) ++ tokens.CloseBracket ∷ []; takes = f.takes; spells = (f.few, f.good, refl) }
 
 arguments_found : (ts : List Token) (x : FieldList × List Token) → arguments_at ts ≡ Ok x → Found SpellsArguments ts x
-unfolding arguments_at
-arguments_found [] x e = nothing_found SpellsFields [] x e
-arguments_found (tokens.OpenBracket ∷ ts) x e = let f = fields_found (tokens.OpenBracket ∷ ts) x e in record { text = f.text; takes = f.takes; spells = inr f.spells }
-arguments_found (t ∷ ts) x e = nothing_found SpellsFields (t ∷ ts) x e
+arguments_found = optional_found tokens.OpenBracket bracket_first (fields_behind (type_at most_depth)) SpellsFields inside_found
 
 abbrev SaysResults : FieldList → List Token → Type 0
 SaysResults fields text = (inside : List Token) × (text ≡ tokens.Returns ∷ inside) × SpellsFields fields inside
 
 results_found : (ts : List Token) (x : FieldList × List Token) → results_at ts ≡ Ok x → Found SpellsResults ts x
-unfolding results_at
-results_found [] x e = nothing_found SaysResults [] x e
-results_found (tokens.Returns ∷ ts) x e =
-    let f = fields_found ts x e in
-    record { text = tokens.Returns ∷ f.text; takes = Takes-behind tokens.Returns refl f.takes; spells = inr (f.text, refl, f.spells) }
-results_found (t ∷ ts) x e = nothing_found SaysResults (t ∷ ts) x e
+results_found = optional_found tokens.Returns returns_first (fields_at (type_at most_depth)) SaysResults
+    (λ ts x e. let f = fields_found ts x e in record { text = f.text; takes = f.takes; spells = (f.text, refl, f.spells) })
 
 whole_takes : IsSound reference_spelling Any reference_at
-unfolding reference_at
-whole_takes ts x rest e =
-    let a = bind_ok (name_at ts) _ (x, rest) e in
-    let t0 = name_takes ts a.0.0 a.0.1 a.1 in
-    let t1 = reference_takes a.0.0 a.0.1 x rest a.2 in
-    (subst (λ (t : List Token). Takes t (reference_spelling x) rest) (sym t0.0.parts) t1, tt)
+whole_takes = by_name_takes reference_spelling Any reference_behind (λ n ts r rest e. (reference_takes n ts r rest e, tt))
 
 -- parts, with the opening and the closing token
 enclosed_takes : {A : Type 0} (opening closing : Token) (no_opening no_closing : Reason) → TakesOnly opening no_opening → TakesOnly closing no_closing → (spell : A → List Token) (Good : A → Type 0) (one : Reader A) → IsSound spell Good one
@@ -104,12 +101,9 @@ abbrev SaysReports : List Reference → List Token → Type 0
 SaysReports errors text = AreParts errors × (text ≡ tokens.Reports ∷ tokens.OpenBracket ∷ (parts_spelling reference_spelling errors ++ tokens.CloseBracket ∷ []))
 
 reports_found : (ts : List Token) (x : List Reference × List Token) → reports_at ts ≡ Ok x → Found SpellsReports ts x
-unfolding reports_at
-reports_found [] x e = nothing_found SaysReports [] x e
-reports_found (tokens.Reports ∷ ts) x e =
+reports_found = optional_found tokens.Reports reports_first (enclosed (tokens.OpenBracket, reasons.NoOpenBracket) (tokens.CloseBracket, reasons.NoCloseBracket) reference_at) SaysReports (λ ts x e.
     let f = enclosed_takes tokens.OpenBracket tokens.CloseBracket reasons.NoOpenBracket reasons.NoCloseBracket open_bracket_is close_bracket_is reference_spelling Any reference_at whole_takes ts x e in
-    record { text = tokens.Reports ∷ tokens.OpenBracket ∷ (parts_spelling reference_spelling x.0 ++ tokens.CloseBracket ∷ []); takes = Takes-behind tokens.Reports refl f.0; spells = inr (f.1, refl) }
-reports_found (t ∷ ts) x e = nothing_found SaysReports (t ∷ ts) x e
+    record { text = tokens.OpenBracket ∷ (parts_spelling reference_spelling x.0 ++ tokens.CloseBracket ∷ []); takes = f.0; spells = (f.1, refl) })
 
 -- a number behind an equals sign
 numbered_takes : (ts : List Token) (rest : List Token) (n : ℕ × List Token) → token_at tokens.Equal reasons.NoEqual ts ≡ Ok rest → small_at rest ≡ Ok n → Takes ts (numbered n.0) n.1 × IsSmall n.0
@@ -239,20 +233,16 @@ dependency_takes : IsSound dependency_spelling IsDependency dependency_at
 unfolding dependency_at
 dependency_takes ts x rest e =
     let a = bind_ok (name_at ts) _ (x, rest) e in
-    let b = bind_ok (token_at tokens.OpenParenthesis reasons.NoOpenParenthesis a.0.1) _ (x, rest) a.2 in
-    let c = bind_ok (long_number b.0) _ (x, rest) b.2 in
-    let d = bind_ok (token_at tokens.CloseParenthesis reasons.NoCloseParenthesis c.0.1) _ (x, rest) c.2 in
-    let f = bind_ok (token_at tokens.Version reasons.NoVersion d.0) _ (x, rest) d.2 in
-    let g = bind_ok (small_at f.0) _ (x, rest) f.2 in
+    let b = bind_ok (in_parentheses long_number a.0.1) _ (x, rest) a.2 in
+    let c = bind_ok (token_at tokens.Version reasons.NoVersion b.0.1) _ (x, rest) b.2 in
+    let d = bind_ok (small_at c.0) _ (x, rest) c.2 in
     let n = name_takes ts a.0.0 a.0.1 a.1 in
-    let l = long_takes b.0 c.0.0 c.0.1 c.1 in
-    let s = small_takes f.0 g.0.0 g.0.1 g.1 in
-    let t3 = Takes-behind tokens.Version (version_is d.0 f.0 f.1) s.0 in
-    let t2 = Takes-behind tokens.CloseParenthesis (close_parenthesis_is c.0.1 d.0 d.1) t3 in
-    let t1 = Takes-behind (tokens.Number c.0.0) l.0.parts t2 in
-    let t0 = Takes-behind tokens.OpenParenthesis (open_parenthesis_is a.0.1 b.0 b.1) t1 in
+    let l = inside_takes number_spelling Any long_number long_takes a.0.1 b.0.0 b.0.1 b.1 in
+    let s = small_takes c.0 d.0.0 d.0.1 d.1 in
+    let t1 = Takes-behind tokens.Version (version_is b.0.1 c.0 c.1) s.0 in
+    let t0 = Takes-then l.0 t1 in
     let whole = Takes-behind (tokens.Name a.0.0) n.0.parts t0 in
-    subst (λ (p : Dependency × List Token). Takes ts (dependency_spelling p.0) p.1 × IsDependency p.0) (ok_is (made a.0.0 c.0.0 g.0.0, g.0.1) (x, rest) g.2) (whole, s.1)
+    subst (λ (p : Dependency × List Token). Takes ts (dependency_spelling p.0) p.1 × IsDependency p.0) (ok_is (made a.0.0 b.0.0 d.0.0, d.0.1) (x, rest) d.2) (whole, s.1)
   where
     made : ℕ → ℕ → ℕ → Dependency
     made name number version = record { name = name; number = number; version = version }
@@ -261,12 +251,9 @@ abbrev SaysDependencies : List Dependency → List Token → Type 0
 SaysDependencies ds text = AreParts ds × AllByRecursion IsDependency ds × (text ≡ tokens.Depends ∷ tokens.Upon ∷ (parts_spelling dependency_spelling ds ++ tokens.Semicolon ∷ []))
 
 dependencies_found : (ts : List Token) (x : List Dependency × List Token) → dependencies_at ts ≡ Ok x → Found SpellsDependencies ts x
-unfolding dependencies_at
-dependencies_found [] x e = nothing_found SaysDependencies [] x e
-dependencies_found (tokens.Depends ∷ ts) x e =
+dependencies_found = optional_found tokens.Depends depends_first (enclosed (tokens.Upon, reasons.NoUpon) (tokens.Semicolon, reasons.NoSemicolon) dependency_at) SaysDependencies (λ ts x e.
     let f = enclosed_takes tokens.Upon tokens.Semicolon reasons.NoUpon reasons.NoSemicolon upon_is semicolon_is dependency_spelling IsDependency dependency_at dependency_takes ts x e in
-    record { text = tokens.Depends ∷ tokens.Upon ∷ (parts_spelling dependency_spelling x.0 ++ tokens.Semicolon ∷ []); takes = Takes-behind tokens.Depends refl f.0; spells = inr (f.1, f.2, refl) }
-dependencies_found (t ∷ ts) x e = nothing_found SaysDependencies (t ∷ ts) x e
+    record { text = tokens.Upon ∷ (parts_spelling dependency_spelling x.0 ++ tokens.Semicolon ∷ []); takes = f.0; spells = (f.1, f.2, refl) })
 
 abbrev header_spelling : Header → List Token
 header_spelling h =

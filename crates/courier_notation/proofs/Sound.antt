@@ -1,6 +1,8 @@
 -- Tokens that are read as a type are its spelling.
-use Rattle.std.proofs.Common.{◌≡◌, ℕ, zero, suc, ◌≤◌, List, [], ◌∷◌, ◌++◌, length, Option, Some, None, Result, Ok, refl, sym, ap, subst, ◌∙◌, append_assoc, arith}
+use Rattle.std.proofs.Common.{◌≡◌, ℕ, zero, suc, ◌≤◌, List, [], ◌∷◌, ◌++◌, Option, Some, None, Result, Ok, refl, sym, ap, subst, append_assoc, arith}
 use Rattle.std.specs.List.{AllByRecursion}
+use Rattle.courier_types.specs.declared.predefined.Predefined.{Predefined}
+use Rattle.courier_types.specs.declared.predefined.Predefined.TheVariants as predefined_types
 use Rattle.courier_notation.specs.declared.reason.Reason.{Reason}
 use Rattle.courier_notation.specs.declared.reason.Reason.TheVariants as reasons
 use Rattle.courier_notation.specs.declared.token.Token.{Token}
@@ -10,53 +12,50 @@ use Rattle.courier_notation.specs.declared.written.Reference.{Reference}
 use Rattle.courier_notation.specs.Written.{TypeModel, Designator, fields_from, candidates_from}
 use Rattle.courier_notation.specs.Failing.{◌>>=◌, over}
 use Rattle.courier_notation.specs.Reading.{Fault, Reader, listed, most_parts, name_at, reference_behind, numeric_at, token_at}
-use Rattle.courier_notation.specs.Reading.{member_at, designator_behind, designator_at, field_at, fields_behind, fields_at, candidate_at, tag_at, maximum_at, enumeration_behind, long_behind, array_behind, sequence_behind, choice_behind, record_behind, type_behind, type_at}
-use Rattle.courier_notation.specs.Spelling.{name_spelling, numeric_spelling, maximum_spelling, tag_spelling, number_spelling, member_spelling, designator_spelling, more_spelling, parts_spelling}
-use Rattle.courier_notation.specs.Spelling.{type_spelling, fields_spelling, more_fields_spelling, candidates_spelling, more_candidates_spelling, IsNumeric, IsNumberIfAny, AreParts, field_count, candidate_count, IsType, AreFields, AreCandidates}
+use Rattle.courier_notation.specs.Reading.{nested, in_parentheses, member_at, designator_behind, designator_at, group_at, field_at, fields_behind, fields_at, candidate_at, tag_at, maximum_at, enumeration_behind, long_behind, array_behind, sequence_behind, choice_behind, record_behind, type_behind, type_at}
+use Rattle.courier_notation.specs.Spelling.{name_spelling, numeric_spelling, maximum_spelling, tag_spelling, member_spelling, designator_spelling, parts_spelling}
+use Rattle.courier_notation.specs.Spelling.{predefined_spelling, type_spelling, fields_spelling, candidates_spelling, IsNumeric, IsNumberIfAny, AreParts, field_count, IsType, AreFields}
 use Rattle.courier_notation.proofs.Failing.{ok_is, bind_ok, over_ok}
-use Rattle.courier_notation.proofs.Takes.{Takes, Takes-then, Takes-behind, Takes-one, TakesOnly, IsSound, Any, GoodDesignator, GoodMember, listed_takes, name_takes, reference_takes, numeric_takes}
+use Rattle.courier_notation.proofs.Takes.{Takes, Takes-then, Takes-behind, Takes-one, TakesOnly, IsSound, Any, GoodDesignator, GoodMember, listed_takes, name_takes, by_name_takes, reference_takes, numeric_takes}
+use Rattle.courier_notation.proofs.Groups.{GoodGroup, group_spelling, field_spelling, candidate_spelling, fields_kept, candidates_kept}
 use Rattle.courier_notation.proofs.Takes.{of_is, arrow_is, colon_is, open_brace_is, close_brace_is, open_bracket_is, close_bracket_is, open_parenthesis_is, close_parenthesis_is}
 
 -- ---- parts of types
 
--- a number in parentheses
-inside_takes : (ts : List Token) (x : Numeric) (after rest : List Token) → numeric_at ts ≡ Ok (x, after) → token_at tokens.CloseParenthesis reasons.NoCloseParenthesis after ≡ Ok rest → Takes (tokens.OpenParenthesis ∷ ts) (number_spelling (Some x)) rest × IsNumeric x
-inside_takes ts x after rest e f =
-    let n = numeric_takes ts x after e in
-    let whole : Takes ts (numeric_spelling x ++ tokens.CloseParenthesis ∷ []) rest = Takes-then n.0 (Takes-one tokens.CloseParenthesis (close_parenthesis_is after rest f)) in
-    (Takes-behind tokens.OpenParenthesis refl whole, n.1)
+-- what stands in parentheses
+pub inside_takes : {A : Type 0} (spell : A → List Token) (Good : A → Type 0) (one : Reader A) → IsSound spell Good one → IsSound (λ x. tokens.OpenParenthesis ∷ (spell x ++ tokens.CloseParenthesis ∷ [])) Good (in_parentheses one)
+unfolding in_parentheses
+inside_takes {A} spell Good one sound ts x rest e =
+    let a = bind_ok (token_at tokens.OpenParenthesis reasons.NoOpenParenthesis ts) _ (x, rest) e in
+    let b = bind_ok (one a.0) _ (x, rest) a.2 in
+    let c = bind_ok (token_at tokens.CloseParenthesis reasons.NoCloseParenthesis b.0.1) _ (x, rest) b.2 in
+    let t = sound a.0 b.0.0 b.0.1 b.1 in
+    let inside = Takes-then t.0 (Takes-one tokens.CloseParenthesis (close_parenthesis_is b.0.1 c.0 c.1)) in
+    let whole = Takes-behind tokens.OpenParenthesis (open_parenthesis_is ts a.0 a.1) inside in
+    subst (λ (p : A × List Token). Takes ts (tokens.OpenParenthesis ∷ (spell p.0 ++ tokens.CloseParenthesis ∷ [])) p.1 × Good p.0) (ok_is (b.0.0, c.0) (x, rest) c.2) (whole, t.1)
 
 member_takes : IsSound member_spelling GoodMember member_at
 unfolding member_at
 member_takes ts x rest e =
     let a = bind_ok (name_at ts) _ (x, rest) e in
-    let b = bind_ok (token_at tokens.OpenParenthesis reasons.NoOpenParenthesis a.0.1) _ (x, rest) a.2 in
-    let c = bind_ok (numeric_at b.0) _ (x, rest) b.2 in
-    let d = bind_ok (token_at tokens.CloseParenthesis reasons.NoCloseParenthesis c.0.1) _ (x, rest) c.2 in
+    let b = bind_ok (in_parentheses numeric_at a.0.1) _ (x, rest) a.2 in
     let t0 = name_takes ts a.0.0 a.0.1 a.1 in
-    let t1 = inside_takes b.0 c.0.0 c.0.1 d.0 c.1 d.1 in
-    let t2 : Takes a.0.1 (number_spelling (Some c.0.0)) d.0 = subst (λ (t : List Token). Takes t (number_spelling (Some c.0.0)) d.0) (sym (open_parenthesis_is a.0.1 b.0 b.1)) t1.0 in
-    let both = Takes-then t0.0 t2 in
-    subst (λ (p : (ℕ × Numeric) × List Token). Takes ts (member_spelling p.0) p.1 × IsNumeric p.0.1) (ok_is ((a.0.0, c.0.0), d.0) (x, rest) d.2) (both, t1.1)
+    let t1 = inside_takes numeric_spelling IsNumeric numeric_at numeric_takes a.0.1 b.0.0 b.0.1 b.1 in
+    let made : (ℕ × Numeric) × List Token = ((a.0.0, b.0.0), b.0.1) in
+    subst (λ (p : (ℕ × Numeric) × List Token). Takes ts (member_spelling p.0) p.1 × IsNumeric p.0.1) (ok_is made (x, rest) b.2) (Takes-then t0.0 t1.0, t1.1)
 
 designator_number_takes : (n : ℕ) (ts : List Token) (x : Designator) (rest : List Token) → designator_behind n ts ≡ Ok (x, rest) → Takes (tokens.Name n ∷ ts) (designator_spelling x) rest × GoodDesignator x
 unfolding designator_behind
 designator_number_takes n [] x rest e = subst (λ (p : Designator × List Token). Takes (tokens.Name n ∷ []) (designator_spelling p.0) p.1 × GoodDesignator p.0) (ok_is ((n, None), []) (x, rest) e) (record { parts = refl }, tt)
 designator_number_takes n (tokens.OpenParenthesis ∷ ts) x rest e =
-    let a = bind_ok (numeric_at ts) _ (x, rest) e in
-    let b = bind_ok (token_at tokens.CloseParenthesis reasons.NoCloseParenthesis a.0.1) _ (x, rest) a.2 in
-    let t = inside_takes ts a.0.0 a.0.1 b.0 a.1 b.1 in
-    let made : Designator × List Token = ((n, Some a.0.0), b.0) in
-    subst (λ (p : Designator × List Token). Takes (tokens.Name n ∷ tokens.OpenParenthesis ∷ ts) (designator_spelling p.0) p.1 × GoodDesignator p.0) (ok_is made (x, rest) b.2) (record { parts = ap (λ (t : List Token). tokens.Name n ∷ t) t.0.parts }, t.1)
+    let a = bind_ok (in_parentheses numeric_at (tokens.OpenParenthesis ∷ ts)) _ (x, rest) e in
+    let t = inside_takes numeric_spelling IsNumeric numeric_at numeric_takes (tokens.OpenParenthesis ∷ ts) a.0.0 a.0.1 a.1 in
+    let made : Designator × List Token = ((n, Some a.0.0), a.0.1) in
+    subst (λ (p : Designator × List Token). Takes (tokens.Name n ∷ tokens.OpenParenthesis ∷ ts) (designator_spelling p.0) p.1 × GoodDesignator p.0) (ok_is made (x, rest) a.2) (record { parts = ap (λ (t : List Token). tokens.Name n ∷ t) t.0.parts }, t.1)
 designator_number_takes n (t ∷ ts) x rest e = subst (λ (p : Designator × List Token). Takes (tokens.Name n ∷ t ∷ ts) (designator_spelling p.0) p.1 × GoodDesignator p.0) (ok_is ((n, None), t ∷ ts) (x, rest) e) (record { parts = refl }, tt)
 
 designator_takes : IsSound designator_spelling GoodDesignator designator_at
-unfolding designator_at
-designator_takes ts x rest e =
-    let a = bind_ok (name_at ts) _ (x, rest) e in
-    let t0 = name_takes ts a.0.0 a.0.1 a.1 in
-    let t1 = designator_number_takes a.0.0 a.0.1 x rest a.2 in
-    subst (λ (t : List Token). Takes t (designator_spelling x) rest × GoodDesignator x) (sym t0.0.parts) t1
+designator_takes = by_name_takes designator_spelling GoodDesignator designator_behind designator_number_takes
 
 maximum_takes : IsSound maximum_spelling IsNumberIfAny maximum_at
 unfolding maximum_at
@@ -120,44 +119,16 @@ typed_takes {B} spell Good one sound mark missing is_mark depth types make ts x 
       typed = type.1;
     }
 
-abbrev field_spelling : List ℕ × TypeModel → List Token
-field_spelling f = parts_spelling name_spelling f.0 ++ tokens.Colon ∷ type_spelling f.1
-
-abbrev GoodField : ℕ → List ℕ × TypeModel → Type 0
-GoodField depth f = AreParts f.0 × IsType depth f.1
-
-field_takes : (depth : ℕ) → IsTypeSound depth → IsSound field_spelling (GoodField depth) (field_at (type_at depth))
-unfolding field_at
-field_takes depth sound ts x rest e =
-    let Field : Type 0 = List ℕ × TypeModel in
-    let t = typed_takes {B = Field} (parts_spelling name_spelling) (AreGood Any) (listed name_at most_parts) (parts_take name_spelling Any name_at name_takes) tokens.Colon reasons.NoColon colon_is depth sound (λ names type. (names, type)) ts (x, rest) e in
-    subst (λ (f : Field). Takes ts (field_spelling f) rest × GoodField depth f) t.made (t.takes, (t.good.0, t.typed))
-
--- ---- parts that are kept otherwise than in a list
-
--- the spelling of such parts, behind a first part and at the front
-more_are : {A M : Type 0} (from : List A → M) (more : M → List Token) (spell : A → List Token) → more (from []) ≡ [] → ((x : A) (xs : List A) → more (from (x ∷ xs)) ≡ tokens.Comma ∷ spell x ++ more (from xs)) → (xs : List A) → more (from xs) ≡ more_spelling spell xs
-more_are from more spell none some [] = none
-more_are from more spell none some (x ∷ xs) = some x xs ∙ ap (λ (t : List Token). tokens.Comma ∷ spell x ++ t) (more_are from more spell none some xs)
-
-parts_are : {A M : Type 0} (from : List A → M) (whole more : M → List Token) (spell : A → List Token) → whole (from []) ≡ [] → ((x : A) (xs : List A) → whole (from (x ∷ xs)) ≡ spell x ++ more (from xs))
-    → ((xs : List A) → more (from xs) ≡ more_spelling spell xs) → (xs : List A) → whole (from xs) ≡ parts_spelling spell xs
-parts_are from whole more spell none some others [] = none
-parts_are from whole more spell none some others (x ∷ xs) = some x xs ∙ ap (λ (t : List Token). spell x ++ t) (others xs)
-
--- what is good about such parts, and how many they are
-are_good : {A M : Type 0} (from : List A → M) (Are : M → Type 0) (Good : A → Type 0) → Are (from []) → ((x : A) (xs : List A) → Good x → Are (from xs) → Are (from (x ∷ xs))) → (xs : List A) → AllByRecursion Good xs → Are (from xs)
-are_good from Are Good none some [] h = none
-are_good from Are Good none some (x ∷ xs) h = some x xs h.0 (are_good from Are Good none some xs h.1)
-
-count_is : {A M : Type 0} (from : List A → M) (count : M → ℕ) → count (from []) ≡ 0 → ((x : A) (xs : List A) → count (from (x ∷ xs)) ≡ suc (count (from xs))) → (xs : List A) → count (from xs) ≡ length xs
-count_is from count none some [] = none
-count_is from count none some (x ∷ xs) = some x xs ∙ ap suc (count_is from count none some xs)
+-- parts that are written together, and their type
+group_takes : {A : Type 0} (spell : A → List Token) (Good : A → Type 0) (one : Reader A) → IsSound spell Good one → (mark : Token) (missing : Reason) → TakesOnly mark missing
+    → (depth : ℕ) → IsTypeSound depth → IsSound (group_spelling spell mark) (GoodGroup Good depth) (group_at one (mark, missing) (type_at depth))
+unfolding group_at
+group_takes {A} spell Good one sound mark missing is_mark depth types ts x rest e =
+    let Group : Type 0 = List A × TypeModel in
+    let t = typed_takes {B = Group} (parts_spelling spell) (AreGood Good) (listed one most_parts) (parts_take spell Good one sound) mark missing is_mark depth types (λ parts type. (parts, type)) ts (x, rest) e in
+    subst (λ (g : Group). Takes ts (group_spelling spell mark g) rest × GoodGroup Good depth g) t.made (t.takes, (t.good.0, t.good.1, t.typed))
 
 -- ---- components
-
-fields_are : (fs : List (List ℕ × TypeModel)) → fields_spelling (fields_from fs) ≡ parts_spelling field_spelling fs
-fields_are = parts_are fields_from fields_spelling more_fields_spelling field_spelling refl (λ f fs. refl) (more_are fields_from more_fields_spelling field_spelling refl (λ f fs. refl))
 
 -- components that were read
 pub record AreFieldsRead (depth : ℕ) (ts : List Token) (fs : List (List ℕ × TypeModel)) (rest : List Token) : Type 0 where
@@ -176,11 +147,12 @@ some_fields_take : (depth : ℕ) → IsTypeSound depth → (ts : List Token) (fs
 some_fields_take depth sound ts fs rest e =
     let a = bind_ok (listed (field_at (type_at depth)) most_parts ts) _ (fs, rest) e in
     let b = bind_ok (token_at tokens.CloseBracket reasons.NoCloseBracket a.0.1) _ (fs, rest) a.2 in
-    let l = listed_takes field_spelling (GoodField depth) (field_at (type_at depth)) (field_takes depth sound) most_parts ts a.0.0 a.0.1 a.1 in
-    let takes : Takes ts (fields_spelling (fields_from a.0.0)) a.0.1 = subst (λ (t : List Token). Takes ts t a.0.1) (sym (fields_are a.0.0)) l.takes in
+    let l = listed_takes field_spelling (GoodGroup Any depth) (field_at (type_at depth)) (group_takes name_spelling Any name_at name_takes tokens.Colon reasons.NoColon colon_is depth sound) most_parts ts a.0.0 a.0.1 a.1 in
+    let kept = fields_kept depth in
+    let takes : Takes ts (fields_spelling (fields_from a.0.0)) a.0.1 = subst (λ (t : List Token). Takes ts t a.0.1) (sym (kept.spelled a.0.0)) l.takes in
     let whole = Takes-then takes (Takes-one tokens.CloseBracket (close_bracket_is a.0.1 b.0 b.1)) in
     subst (λ (p : List (List ℕ × TypeModel) × List Token). AreFieldsRead depth ts p.0 p.1) (ok_is (a.0.0, b.0) (fs, rest) b.2)
-    (record { takes = whole; few = omega (arith, l.few, count_is fields_from field_count refl (λ f fs. refl) a.0.0); good = are_good fields_from (AreFields depth) (GoodField depth) tt (λ f fs here others. (here.0, here.1, others)) a.0.0 l.good })
+    (record { takes = whole; few = omega (arith, l.few, kept.counted a.0.0); good = (kept.good a.0.0).0 l.good })
 
 pub fields_behind_take : (depth : ℕ) → IsTypeSound depth → (ts : List Token) (fs : List (List ℕ × TypeModel)) (rest : List Token) → fields_behind (type_at depth) ts ≡ Ok (fs, rest) → AreFieldsRead depth ts fs rest
 unfolding fields_behind
@@ -189,22 +161,6 @@ fields_behind_take depth sound (tokens.CloseBracket ∷ ts) fs rest e =
     let made : List (List ℕ × TypeModel) × List Token = ([], ts) in
     subst (λ (p : List (List ℕ × TypeModel) × List Token). AreFieldsRead depth (tokens.CloseBracket ∷ ts) p.0 p.1) (ok_is made (fs, rest) e) (record { takes = record { parts = refl }; few = omega arith; good = tt })
 fields_behind_take depth sound (t ∷ ts) fs rest e = some_fields_take depth sound (t ∷ ts) fs rest e
-
-abbrev candidate_spelling : List Designator × TypeModel → List Token
-candidate_spelling c = parts_spelling designator_spelling c.0 ++ tokens.Arrow ∷ type_spelling c.1
-
-abbrev GoodCandidate : ℕ → List Designator × TypeModel → Type 0
-GoodCandidate depth c = AreParts c.0 × AllByRecursion GoodDesignator c.0 × IsType depth c.1
-
-candidate_takes : (depth : ℕ) → IsTypeSound depth → IsSound candidate_spelling (GoodCandidate depth) (candidate_at (type_at depth))
-unfolding candidate_at
-candidate_takes depth sound ts x rest e =
-    let Candidate : Type 0 = List Designator × TypeModel in
-    let t = typed_takes {B = Candidate} (parts_spelling designator_spelling) (AreGood GoodDesignator) (listed designator_at most_parts) (parts_take designator_spelling GoodDesignator designator_at designator_takes) tokens.Arrow reasons.NoArrow arrow_is depth sound (λ designators type. (designators, type)) ts (x, rest) e in
-    subst (λ (c : Candidate). Takes ts (candidate_spelling c) rest × GoodCandidate depth c) t.made (t.takes, (t.good.0, t.good.1, t.typed))
-
-candidates_are : (cs : List (List Designator × TypeModel)) → candidates_spelling (candidates_from cs) ≡ parts_spelling candidate_spelling cs
-candidates_are = parts_are candidates_from candidates_spelling more_candidates_spelling candidate_spelling refl (λ c cs. refl) (more_are candidates_from more_candidates_spelling candidate_spelling refl (λ c cs. refl))
 
 -- ---- types
 
@@ -222,10 +178,14 @@ enumeration_takes depth ts x e =
     let whole = Takes-behind tokens.OpenBrace refl inner in
     subst (λ (p : TypeModel × List Token). Read (suc depth) (tokens.OpenBrace ∷ ts) p) (ok_is (TypeModel.enumeration a.0.0, b.0) x b.2) (whole, ((l.some, l.few), l.good))
 
+-- a predefined type, with the first of its keywords
+predefined_takes : (depth : ℕ) (type : Predefined) (ts : List Token) (x : TypeModel × List Token) → (TypeModel.predefined type, ts) ≡ x → Read (suc depth) (predefined_spelling type ++ ts) x
+predefined_takes depth type ts x e = subst (λ (p : TypeModel × List Token). Read (suc depth) (predefined_spelling type ++ ts) p) e (record { parts = refl }, tt)
+
 long_takes : (depth : ℕ) (ts : List Token) (x : TypeModel × List Token) → long_behind ts ≡ Ok x → Read (suc depth) (tokens.Long ∷ ts) x
 long_takes depth [] x e = absurd cc
-long_takes depth (tokens.Cardinal ∷ ts) x e = subst (λ (p : TypeModel × List Token). Read (suc depth) (tokens.Long ∷ tokens.Cardinal ∷ ts) p) (ok_is (TypeModel.long_cardinal, ts) x e) (record { parts = refl }, tt)
-long_takes depth (tokens.Integer ∷ ts) x e = subst (λ (p : TypeModel × List Token). Read (suc depth) (tokens.Long ∷ tokens.Integer ∷ ts) p) (ok_is (TypeModel.long_integer, ts) x e) (record { parts = refl }, tt)
+long_takes depth (tokens.Cardinal ∷ ts) x e = predefined_takes depth predefined_types.LongCardinal ts x (ok_is _ x e)
+long_takes depth (tokens.Integer ∷ ts) x e = predefined_takes depth predefined_types.LongInteger ts x (ok_is _ x e)
 long_takes depth (t ∷ ts) x e = absurd cc
 
 array_takes : (depth : ℕ) → IsTypeSound depth → (ts : List Token) (x : TypeModel × List Token) → array_behind (type_at depth) ts ≡ Ok x → Read (suc depth) (tokens.Array ∷ ts) x
@@ -260,8 +220,9 @@ choice_takes depth sound ts x e =
     let d = bind_ok (listed (candidate_at (type_at depth)) most_parts c.0) _ x c.2 in
     let f = bind_ok (token_at tokens.CloseBrace reasons.NoCloseBrace d.0.1) _ x d.2 in
     let tag = tag_takes ts a.0.0 a.0.1 a.1 in
-    let l = listed_takes candidate_spelling (GoodCandidate depth) (candidate_at (type_at depth)) (candidate_takes depth sound) most_parts c.0 d.0.0 d.0.1 d.1 in
-    let takes : Takes c.0 (candidates_spelling (candidates_from d.0.0)) d.0.1 = subst (λ (t : List Token). Takes c.0 t d.0.1) (sym (candidates_are d.0.0)) l.takes in
+    let l = listed_takes candidate_spelling (GoodGroup GoodDesignator depth) (candidate_at (type_at depth)) (group_takes designator_spelling GoodDesignator designator_at designator_takes tokens.Arrow reasons.NoArrow arrow_is depth sound) most_parts c.0 d.0.0 d.0.1 d.1 in
+    let kept = candidates_kept depth in
+    let takes : Takes c.0 (candidates_spelling (candidates_from d.0.0)) d.0.1 = subst (λ (t : List Token). Takes c.0 t d.0.1) (sym (kept.spelled d.0.0)) l.takes in
     let text = candidates_spelling (candidates_from d.0.0) ++ tokens.CloseBrace ∷ [] in
     let inner = Takes-then takes (Takes-one tokens.CloseBrace (close_brace_is d.0.1 f.0 f.1)) in
     let braced = Takes-behind tokens.OpenBrace (open_brace_is b.0 c.0 c.1) inner in
@@ -270,16 +231,16 @@ choice_takes depth sound ts x e =
     let regrouped : tag_spelling a.0.0 ++ (tokens.Of ∷ tokens.OpenBrace ∷ text) ≡ (tag_spelling a.0.0 ++ tokens.Of ∷ tokens.OpenBrace ∷ candidates_spelling (candidates_from d.0.0)) ++ tokens.CloseBrace ∷ [] = sym (append_assoc (tag_spelling a.0.0) (tokens.Of ∷ tokens.OpenBrace ∷ candidates_spelling (candidates_from d.0.0)) (tokens.CloseBrace ∷ [])) in
     let spelled = subst (λ (t : List Token). Takes ts t f.0) regrouped both in
     let whole = Takes-behind tokens.Choice refl spelled in
-    let counted = count_is candidates_from candidate_count refl (λ c cs. refl) d.0.0 in
-    subst (λ (p : TypeModel × List Token). Read (suc depth) (tokens.Choice ∷ ts) p) (ok_is (TypeModel.choice a.0.0 (candidates_from d.0.0), f.0) x f.2) (whole, (omega (arith, l.some), omega (arith, l.few), are_good candidates_from (AreCandidates depth) (GoodCandidate depth) tt (λ c cs here others. (here.0, here.1, here.2, others)) d.0.0 l.good))
+    let counted = kept.counted d.0.0 in
+    subst (λ (p : TypeModel × List Token). Read (suc depth) (tokens.Choice ∷ ts) p) (ok_is (TypeModel.choice a.0.0 (candidates_from d.0.0), f.0) x f.2) (whole, (omega (arith, l.some), omega (arith, l.few), (kept.good d.0.0).0 l.good))
 
 behind_takes : (depth : ℕ) → IsTypeSound depth → (t : Token) (ts : List Token) (x : TypeModel × List Token) → type_behind (type_at depth) t ts ≡ Ok x → Read (suc depth) (t ∷ ts) x
 unfolding type_behind
-behind_takes depth sound tokens.Boolean ts x e = subst (λ (p : TypeModel × List Token). Read (suc depth) (tokens.Boolean ∷ ts) p) (ok_is (TypeModel.boolean, ts) x e) (record { parts = refl }, tt)
-behind_takes depth sound tokens.Cardinal ts x e = subst (λ (p : TypeModel × List Token). Read (suc depth) (tokens.Cardinal ∷ ts) p) (ok_is (TypeModel.cardinal, ts) x e) (record { parts = refl }, tt)
-behind_takes depth sound tokens.Integer ts x e = subst (λ (p : TypeModel × List Token). Read (suc depth) (tokens.Integer ∷ ts) p) (ok_is (TypeModel.integer, ts) x e) (record { parts = refl }, tt)
-behind_takes depth sound tokens.Unspecified ts x e = subst (λ (p : TypeModel × List Token). Read (suc depth) (tokens.Unspecified ∷ ts) p) (ok_is (TypeModel.unspecified, ts) x e) (record { parts = refl }, tt)
-behind_takes depth sound tokens.String ts x e = subst (λ (p : TypeModel × List Token). Read (suc depth) (tokens.String ∷ ts) p) (ok_is (TypeModel.text, ts) x e) (record { parts = refl }, tt)
+behind_takes depth sound tokens.Boolean ts x e = predefined_takes depth predefined_types.Boolean ts x (ok_is _ x e)
+behind_takes depth sound tokens.Cardinal ts x e = predefined_takes depth predefined_types.Cardinal ts x (ok_is _ x e)
+behind_takes depth sound tokens.Integer ts x e = predefined_takes depth predefined_types.Integer ts x (ok_is _ x e)
+behind_takes depth sound tokens.Unspecified ts x e = predefined_takes depth predefined_types.Unspecified ts x (ok_is _ x e)
+behind_takes depth sound tokens.String ts x e = predefined_takes depth predefined_types.Text ts x (ok_is _ x e)
 behind_takes depth sound tokens.Long ts x e = long_takes depth ts x e
 behind_takes depth sound tokens.OpenBrace ts x e = enumeration_takes depth ts x e
 behind_takes depth sound tokens.Array ts x e = array_takes depth sound ts x e
@@ -292,7 +253,7 @@ behind_takes depth sound (tokens.Name n) ts x e =
 behind_takes depth sound t ts x e = absurd cc
 
 pub type_takes : (depth : ℕ) → IsTypeSound depth
-unfolding type_at
+unfolding nested
 type_takes zero ts x rest e = absurd cc
 type_takes (suc depth) [] x rest e = absurd cc
 type_takes (suc depth) (t ∷ ts) x rest e = behind_takes depth (type_takes depth) t ts (x, rest) e

@@ -12,7 +12,7 @@ use Rattle.courier_notation.specs.declared.written.Reference.{Reference}
 use Rattle.courier_notation.specs.declared.written.Reference.TheVariants as references
 use Rattle.courier_notation.specs.Written.{Designator}
 use Rattle.courier_notation.specs.Failing.{over}
-use Rattle.courier_notation.specs.Reading.{Fault, Reader, behind_comma, others_at, listed, token_at, name_at, reference_behind, small_or_fault, numeric_at}
+use Rattle.courier_notation.specs.Reading.{Fault, Reader, by_name, behind_comma, behind_first, others_at, listed, token_at, name_at, reference_behind, small_or_fault, numeric_at}
 use Rattle.courier_notation.proofs.Failing.{ok_is, bind_ok, over_ok}
 use Rattle.courier_notation.specs.Spelling.{name_spelling, reference_spelling, numeric_spelling, more_spelling, parts_spelling, IsNumeric, IsNumberIfAny}
 
@@ -109,6 +109,31 @@ dot_is = elim [ tokens.Dot ∷ ts ↦ λ rest e. behind_same tokens.Dot ts rest 
 pub comma_is : (ts next : List Token) → behind_comma ts ≡ Some next → ts ≡ tokens.Comma ∷ next
 comma_is = elim [ tokens.Comma ∷ ts ↦ λ next e. cc | _ ↦ λ next e. absurd cc ]
 
+-- a token that is found is taken alone
+abbrev pub IsFirst : Token → Type 0
+IsFirst first = (ts next : List Token) → behind_first first ts ≡ Some next → ts ≡ first ∷ next
+
+abbrev found : List Token → Option (List Token)
+found ts = Some ts
+
+first_same : (t : Token) (ts next : List Token) → found ts ≡ found next → t ∷ ts ≡ t ∷ next
+first_same t ts next e = let same : ts ≡ next = cc in ap (λ (r : List Token). t ∷ r) same
+
+no_next : (next : List Token) → None ≡ found next → ⊥
+no_next next e = cc
+
+pub bracket_first : IsFirst tokens.OpenBracket
+bracket_first = elim [ tokens.OpenBracket ∷ ts ↦ λ next e. first_same tokens.OpenBracket ts next e | _ ↦ λ next e. absurd (no_next next e) ]
+
+pub returns_first : IsFirst tokens.Returns
+returns_first = elim [ tokens.Returns ∷ ts ↦ λ next e. first_same tokens.Returns ts next e | _ ↦ λ next e. absurd (no_next next e) ]
+
+pub reports_first : IsFirst tokens.Reports
+reports_first = elim [ tokens.Reports ∷ ts ↦ λ next e. first_same tokens.Reports ts next e | _ ↦ λ next e. absurd (no_next next e) ]
+
+pub depends_first : IsFirst tokens.Depends
+depends_first = elim [ tokens.Depends ∷ ts ↦ λ next e. first_same tokens.Depends ts next e | _ ↦ λ next e. absurd (no_next next e) ]
+
 -- ---- what is good about parts
 
 abbrev pub Any : {A : Type 0} → A → Type 0
@@ -124,6 +149,14 @@ pub name_takes : IsSound name_spelling Any name_at
 name_takes [] n rest e = absurd cc
 name_takes (tokens.Name m ∷ ts) n rest e = subst (λ (p : ℕ × List Token). Takes (tokens.Name m ∷ ts) (name_spelling p.0) p.1 × Unit {0}) (ok_is (m, ts) (n, rest) e) (record { parts = refl }, tt)
 name_takes (t ∷ ts) n rest e = absurd cc
+
+-- what begins with a name
+pub by_name_takes : {A : Type 0} (spell : A → List Token) (Good : A → Type 0) (behind : ℕ → Reader A) → ((n : ℕ) (ts : List Token) (x : A) (rest : List Token) → behind n ts ≡ Ok (x, rest) → Takes (tokens.Name n ∷ ts) (spell x) rest × Good x) → IsSound spell Good (by_name behind)
+unfolding by_name
+by_name_takes spell Good behind sound ts x rest e =
+    let a = bind_ok (name_at ts) _ (x, rest) e in
+    let t = name_takes ts a.0.0 a.0.1 a.1 in
+    subst (λ (t : List Token). Takes t (spell x) rest × Good x) (sym t.0.parts) (sound a.0.0 a.0.1 x rest a.2)
 
 -- ---- references and numbers
 

@@ -108,6 +108,11 @@ abbrev pub token_among : List Token → List ℕ → Option Token
 token_among [] word = None
 token_among (t ∷ ts) word = if bytes_eq word (token_spelling t) then Some t else token_among ts word
 
+-- the token beside a word in a table
+abbrev pub token_beside : {A : Type 0} → (A → List ℕ) → List (A × Token) → List ℕ → Option Token
+token_beside name [] word = None
+token_beside name (entry ∷ entries) word = if bytes_eq word (name entry.0) then Some entry.1 else token_beside name entries word
+
 abbrev pub keywords : List Token
 keywords =
     tokens.Array ∷ tokens.Begin ∷ tokens.Boolean ∷ tokens.Cardinal ∷ tokens.Choice ∷ tokens.Depends ∷ tokens.End ∷

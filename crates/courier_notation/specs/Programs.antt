@@ -11,7 +11,7 @@ use Rattle.courier_notation.specs.declared.limits.TheConstants.{MOST_DEPTH}
 use Rattle.courier_notation.specs.declared.written.Reference.{Reference}
 use Rattle.courier_notation.specs.ProgramModels.{DeclaredModel, FieldList, ProgramModel}
 use Rattle.courier_notation.specs.Failing.{◌>>=◌, over}
-use Rattle.courier_notation.specs.Reading.{Fault, Reader, enclosed, listed, most_parts, name_at, reference_behind, small_or_fault, token_at, fields_at, type_at, Behind, Then, FieldsWant, TypeWants}
+use Rattle.courier_notation.specs.Reading.{Fault, Reader, by_name, enclosed, in_parentheses, listed, most_parts, name_at, nested, optional, reference_behind, small_or_fault, token_at, fields_at, fields_behind, type_at, Behind, Then, FieldsWant, TypeWants}
 
 abbrev pub most_depth : ℕ
 most_depth = MOST_DEPTH
@@ -75,29 +75,24 @@ constant_behind one tokens.OpenBracket ts = elements_behind one ts
 constant_behind one _ ts = Err (length ts + 1, reasons.NoConstant)
 
 -- a constant in which constants stand at most so deep
-unfoldable pub constant_at : ℕ → Reader Constant
-constant_at zero ts = Err (length ts, reasons.TooDeep)
-constant_at (suc depth) [] = Err (0, reasons.NoConstant)
-constant_at (suc depth) (t ∷ ts) = constant_behind (constant_at depth) t ts
+abbrev pub constant_at : ℕ → Reader Constant
+constant_at = nested constant_behind reasons.NoConstant
 
 -- ---- declarations
 
 -- components in brackets, if there are brackets
-unfoldable pub arguments_at : Reader FieldList
-arguments_at (tokens.OpenBracket ∷ ts) = fields_at (type_at most_depth) (tokens.OpenBracket ∷ ts)
-arguments_at ts = Ok ([], ts)
+abbrev pub arguments_at : Reader FieldList
+arguments_at = optional tokens.OpenBracket (fields_behind (type_at most_depth))
 
-unfoldable pub results_at : Reader FieldList
-results_at (tokens.Returns ∷ ts) = fields_at (type_at most_depth) ts
-results_at ts = Ok ([], ts)
+abbrev pub results_at : Reader FieldList
+results_at = optional tokens.Returns (fields_at (type_at most_depth))
 
-unfoldable pub reference_at : Reader Reference
-reference_at ts = name_at ts >>= λ name. reference_behind name.0 name.1
+abbrev pub reference_at : Reader Reference
+reference_at = by_name reference_behind
 
 -- the errors that a procedure reports
-unfoldable pub reports_at : Reader (List Reference)
-reports_at (tokens.Reports ∷ ts) = enclosed (tokens.OpenBracket, reasons.NoOpenBracket) (tokens.CloseBracket, reasons.NoCloseBracket) reference_at ts
-reports_at ts = Ok ([], ts)
+abbrev pub reports_at : Reader (List Reference)
+reports_at = optional tokens.Reports (enclosed (tokens.OpenBracket, reasons.NoOpenBracket) (tokens.CloseBracket, reasons.NoCloseBracket) reference_at)
 
 unfoldable pub procedure_behind : Reader DeclaredModel
 procedure_behind ts = do
@@ -161,16 +156,13 @@ declarations_at (suc n) ts =
 unfoldable pub dependency_at : Reader Dependency
 dependency_at ts = do
   name ← name_at ts
-  inside ← token_at tokens.OpenParenthesis reasons.NoOpenParenthesis name.1
-  number ← long_number inside
-  rest ← token_at tokens.CloseParenthesis reasons.NoCloseParenthesis number.1
-  behind ← token_at tokens.Version reasons.NoVersion rest
+  number ← in_parentheses long_number name.1
+  behind ← token_at tokens.Version reasons.NoVersion number.1
   version ← small_at behind
   Ok (record { name = name.0; number = number.0; version = version.0 }, version.1)
 
-unfoldable pub dependencies_at : Reader (List Dependency)
-dependencies_at (tokens.Depends ∷ ts) = enclosed (tokens.Upon, reasons.NoUpon) (tokens.Semicolon, reasons.NoSemicolon) dependency_at ts
-dependencies_at ts = Ok ([], ts)
+abbrev pub dependencies_at : Reader (List Dependency)
+dependencies_at = optional tokens.Depends (enclosed (tokens.Upon, reasons.NoUpon) (tokens.Semicolon, reasons.NoSemicolon) dependency_at)
 
 -- nothing stands behind the program
 abbrev pub nothing_at : {A : Type 0} → A → List Token → Result A Fault

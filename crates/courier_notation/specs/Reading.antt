@@ -1,6 +1,7 @@
 -- Reading a type from left to right (XSIS 038112, Courier). Which fault is told is this project's rule: the first token that
 -- does not go on as a type does, or a limit that is passed there.
 use Rattle.std.specs.Prelude.{◌⊎◌, ℕ, zero, suc, ◌+◌, List, [], ◌∷◌, length, Option, Some, None, Result, Ok, Err, IsOk, Bool, nat_lt, if◌then◌else◌}
+use Rattle.courier_types.specs.declared.predefined.Predefined.TheVariants as predefined_types
 use Rattle.courier_notation.specs.contracts.token.TokenPartialEq.TheImpl as token_eq
 use Rattle.courier_notation.specs.declared.reason.Reason.{Reason}
 use Rattle.courier_notation.specs.declared.reason.Reason.TheVariants as reasons
@@ -44,6 +45,10 @@ abbrev pub name_at : Reader ℕ
 name_at (tokens.Name n ∷ ts) = Ok (n, ts)
 name_at ts = Err (length ts, reasons.NoName)
 
+-- what begins with a name, from that name and what is read behind it
+unfoldable pub by_name : {A : Type 0} → (ℕ → Reader A) → Reader A
+by_name behind ts = name_at ts >>= λ name. behind name.0 name.1
+
 -- ---- names and numbers
 
 -- a name that is referred to, behind its first part
@@ -73,6 +78,15 @@ abbrev pub others_at : {A : Type 0} → Reader (List A) → List Token → Optio
 others_at others ts (Some next) = others next
 others_at others ts None = Ok ([], ts)
 
+-- what stands behind this token, if it stands first
+abbrev pub behind_first : Token → List Token → Option (List Token)
+behind_first first [] = None
+behind_first first (t ∷ ts) = if is_token t first then Some ts else None
+
+-- the parts that stand behind this token; no parts where it does not stand first
+unfoldable pub optional : {A : Type 0} → Token → Reader (List A) → Reader (List A)
+optional first parts ts = others_at parts ts (behind_first first ts)
+
 -- parts with commas between, at most so many
 unfoldable pub listed : {A : Type 0} → Reader A → ℕ → Reader (List A)
 listed one zero ts = Err (length ts, reasons.TooManyParts)
@@ -88,32 +102,41 @@ enclosed opening closing one ts = do
 
 -- ---- parts of types
 
+-- what stands in parentheses
+unfoldable pub in_parentheses : {A : Type 0} → Reader A → Reader A
+in_parentheses one ts = do
+  inside ← token_at tokens.OpenParenthesis reasons.NoOpenParenthesis ts
+  x ← one inside
+  rest ← token_at tokens.CloseParenthesis reasons.NoCloseParenthesis x.1
+  Ok (x.0, rest)
+
 -- a name, and its number in parentheses
 unfoldable pub member_at : Reader (ℕ × Numeric)
 member_at ts = do
   name ← name_at ts
-  inside ← token_at tokens.OpenParenthesis reasons.NoOpenParenthesis name.1
-  number ← numeric_at inside
-  rest ← token_at tokens.CloseParenthesis reasons.NoCloseParenthesis number.1
-  Ok ((name.0, number.0), rest)
+  number ← in_parentheses numeric_at name.1
+  Ok ((name.0, number.0), number.1)
 
 -- the number of a designator, where one is written
 unfoldable pub designator_behind : ℕ → Reader Designator
 designator_behind n (tokens.OpenParenthesis ∷ ts) = do
-  number ← numeric_at ts
-  rest ← token_at tokens.CloseParenthesis reasons.NoCloseParenthesis number.1
-  Ok ((n, Some number.0), rest)
+  number ← in_parentheses numeric_at (tokens.OpenParenthesis ∷ ts)
+  Ok ((n, Some number.0), number.1)
 designator_behind n ts = Ok ((n, None), ts)
 
-unfoldable pub designator_at : Reader Designator
-designator_at ts = name_at ts >>= λ name. designator_behind name.0 name.1
+abbrev pub designator_at : Reader Designator
+designator_at = by_name designator_behind
+
+-- parts that are written together, and their type behind a mark, which is given with what is told where it is missing
+unfoldable pub group_at : {A : Type 0} → Reader A → Token × Reason → Reader TypeModel → Reader (List A × TypeModel)
+group_at part mark one ts = do
+  parts ← listed part most_parts ts
+  rest ← token_at mark.0 mark.1 parts.1
+  over (λ type. (parts.0, type)) (one rest)
 
 -- names, and their type behind a colon
-unfoldable pub field_at : Reader TypeModel → Reader (List ℕ × TypeModel)
-field_at one ts = do
-  names ← listed name_at most_parts ts
-  rest ← token_at tokens.Colon reasons.NoColon names.1
-  over (λ type. (names.0, type)) (one rest)
+abbrev pub field_at : Reader TypeModel → Reader (List ℕ × TypeModel)
+field_at = group_at name_at (tokens.Colon, reasons.NoColon)
 
 -- components up to a bracket, perhaps none
 unfoldable pub fields_behind : Reader TypeModel → Reader (List (List ℕ × TypeModel))
@@ -128,11 +151,8 @@ unfoldable pub fields_at : Reader TypeModel → Reader (List (List ℕ × TypeMo
 fields_at one ts = token_at tokens.OpenBracket reasons.NoOpenBracket ts >>= fields_behind one
 
 -- designators, and their type behind an arrow
-unfoldable pub candidate_at : Reader TypeModel → Reader (List Designator × TypeModel)
-candidate_at one ts = do
-  designators ← listed designator_at most_parts ts
-  rest ← token_at tokens.Arrow reasons.NoArrow designators.1
-  over (λ type. (designators.0, type)) (one rest)
+abbrev pub candidate_at : Reader TypeModel → Reader (List Designator × TypeModel)
+candidate_at = group_at designator_at (tokens.Arrow, reasons.NoArrow)
 
 -- the enumeration that designators are of, if it is named
 abbrev pub tag_at : Reader (Option Reference)
@@ -153,8 +173,8 @@ enumeration_behind ts = do
   Ok (TypeModel.enumeration members.0, rest)
 
 abbrev pub long_behind : Reader TypeModel
-long_behind (tokens.Cardinal ∷ ts) = Ok (TypeModel.long_cardinal, ts)
-long_behind (tokens.Integer ∷ ts) = Ok (TypeModel.long_integer, ts)
+long_behind (tokens.Cardinal ∷ ts) = Ok (TypeModel.predefined predefined_types.LongCardinal, ts)
+long_behind (tokens.Integer ∷ ts) = Ok (TypeModel.predefined predefined_types.LongInteger, ts)
 long_behind ts = Err (length ts, reasons.NoType)
 
 unfoldable pub array_behind : Reader TypeModel → Reader TypeModel
@@ -183,11 +203,11 @@ record_behind one ts = over (λ fields. TypeModel.fields (fields_from fields)) (
 
 -- a type by its first token
 unfoldable pub type_behind : Reader TypeModel → Token → Reader TypeModel
-type_behind one tokens.Boolean ts = Ok (TypeModel.boolean, ts)
-type_behind one tokens.Cardinal ts = Ok (TypeModel.cardinal, ts)
-type_behind one tokens.Integer ts = Ok (TypeModel.integer, ts)
-type_behind one tokens.Unspecified ts = Ok (TypeModel.unspecified, ts)
-type_behind one tokens.String ts = Ok (TypeModel.text, ts)
+type_behind one tokens.Boolean ts = Ok (TypeModel.predefined predefined_types.Boolean, ts)
+type_behind one tokens.Cardinal ts = Ok (TypeModel.predefined predefined_types.Cardinal, ts)
+type_behind one tokens.Integer ts = Ok (TypeModel.predefined predefined_types.Integer, ts)
+type_behind one tokens.Unspecified ts = Ok (TypeModel.predefined predefined_types.Unspecified, ts)
+type_behind one tokens.String ts = Ok (TypeModel.predefined predefined_types.Text, ts)
 type_behind one tokens.Long ts = long_behind ts
 type_behind one tokens.OpenBrace ts = enumeration_behind ts
 type_behind one tokens.Array ts = array_behind one ts
@@ -197,11 +217,15 @@ type_behind one tokens.Choice ts = choice_behind one ts
 type_behind one (tokens.Name n) ts = over TypeModel.named (reference_behind n ts)
 type_behind one _ ts = Err (length ts + 1, reasons.NoType)
 
+-- what is read by its first token, where the like stands in it at most so deep; and what is told where no token is left
+unfoldable pub nested : {A : Type 0} → (Reader A → Token → Reader A) → Reason → ℕ → Reader A
+nested behind missing zero ts = Err (length ts, reasons.TooDeep)
+nested behind missing (suc depth) [] = Err (0, missing)
+nested behind missing (suc depth) (t ∷ ts) = behind (nested behind missing depth) t ts
+
 -- a type in which types stand at most so deep
-unfoldable pub type_at : ℕ → Reader TypeModel
-type_at zero ts = Err (length ts, reasons.TooDeep)
-type_at (suc depth) [] = Err (0, reasons.NoType)
-type_at (suc depth) (t ∷ ts) = type_behind (type_at depth) t ts
+abbrev pub type_at : ℕ → Reader TypeModel
+type_at = nested type_behind reasons.NoType
 
 -- ---- memory: a list grows behind its first part, and an element of an array or a sequence is put on the heap
 

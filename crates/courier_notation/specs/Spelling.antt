@@ -1,6 +1,8 @@
 -- How a type is written, token by token (XSIS 038112, Courier): the grammar of types.
 use Rattle.std.specs.Prelude.{ℕ, zero, suc, ◌<◌, ◌≤◌, List, [], ◌∷◌, ◌++◌, length, Option, Some, None, Bool, true, false}
 use Rattle.std.specs.List.{AllByRecursion}
+use Rattle.courier_types.specs.declared.predefined.Predefined.{Predefined}
+use Rattle.courier_types.specs.declared.predefined.Predefined.TheVariants as predefined_types
 use Rattle.courier_notation.specs.declared.token.Token.{Token}
 use Rattle.courier_notation.specs.declared.token.Token.TheVariants as tokens
 use Rattle.courier_notation.specs.declared.written.Numeric.{Numeric}
@@ -51,44 +53,57 @@ abbrev pub parts_spelling : {A : Type 0} → (A → List Token) → List A → L
 parts_spelling spell [] = []
 parts_spelling spell (x ∷ xs) = spell x ++ more_spelling spell xs
 
+-- texts with commas between
+abbrev pub joined : List (List Token) → List Token
+joined = parts_spelling (λ text. text)
+
 -- ---- types
+
+-- the keywords of a predefined type
+abbrev pub predefined_spelling : Predefined → List Token
+predefined_spelling predefined_types.Boolean = tokens.Boolean ∷ []
+predefined_spelling predefined_types.Cardinal = tokens.Cardinal ∷ []
+predefined_spelling predefined_types.LongCardinal = tokens.Long ∷ tokens.Cardinal ∷ []
+predefined_spelling predefined_types.Integer = tokens.Integer ∷ []
+predefined_spelling predefined_types.LongInteger = tokens.Long ∷ tokens.Integer ∷ []
+predefined_spelling predefined_types.Unspecified = tokens.Unspecified ∷ []
+predefined_spelling predefined_types.Text = tokens.String ∷ []
 
 abbrev mutual
   pub type_spelling : TypeModel → List Token
-  type_spelling TypeModel.boolean = tokens.Boolean ∷ []
-  type_spelling TypeModel.cardinal = tokens.Cardinal ∷ []
-  type_spelling TypeModel.long_cardinal = tokens.Long ∷ tokens.Cardinal ∷ []
-  type_spelling TypeModel.integer = tokens.Integer ∷ []
-  type_spelling TypeModel.long_integer = tokens.Long ∷ tokens.Integer ∷ []
-  type_spelling TypeModel.unspecified = tokens.Unspecified ∷ []
-  type_spelling TypeModel.text = tokens.String ∷ []
+  type_spelling (TypeModel.predefined type) = predefined_spelling type
   type_spelling (TypeModel.enumeration members) = tokens.OpenBrace ∷ parts_spelling member_spelling members ++ tokens.CloseBrace ∷ []
   type_spelling (TypeModel.array n element) = tokens.Array ∷ numeric_spelling n ++ tokens.Of ∷ type_spelling element
   type_spelling (TypeModel.sequence most element) = tokens.Sequence ∷ maximum_spelling most ++ tokens.Of ∷ type_spelling element
-  type_spelling (TypeModel.fields fields) = tokens.Record ∷ tokens.OpenBracket ∷ fields_spelling fields ++ tokens.CloseBracket ∷ []
+  type_spelling (TypeModel.fields fields) = tokens.Record ∷ tokens.OpenBracket ∷ joined (field_texts fields) ++ tokens.CloseBracket ∷ []
   type_spelling (TypeModel.choice tag candidates) =
-      tokens.Choice ∷ tag_spelling tag ++ tokens.Of ∷ tokens.OpenBrace ∷ candidates_spelling candidates ++ tokens.CloseBrace ∷ []
+      tokens.Choice ∷ tag_spelling tag ++ tokens.Of ∷ tokens.OpenBrace ∷ joined (candidate_texts candidates) ++ tokens.CloseBrace ∷ []
   type_spelling (TypeModel.named r) = reference_spelling r
 
-  pub fields_spelling : FieldModels → List Token
-  fields_spelling no_fields = []
-  fields_spelling (field_and names type fields) =
-      parts_spelling name_spelling names ++ tokens.Colon ∷ type_spelling type ++ more_fields_spelling fields
+  -- each component as it is written
+  pub field_texts : FieldModels → List (List Token)
+  field_texts no_fields = []
+  field_texts (field_and names type fields) = (parts_spelling name_spelling names ++ tokens.Colon ∷ type_spelling type) ∷ field_texts fields
 
-  pub more_fields_spelling : FieldModels → List Token
-  more_fields_spelling no_fields = []
-  more_fields_spelling (field_and names type fields) =
-      tokens.Comma ∷ parts_spelling name_spelling names ++ tokens.Colon ∷ type_spelling type ++ more_fields_spelling fields
+  -- each candidate as it is written
+  pub candidate_texts : CandidateModels → List (List Token)
+  candidate_texts no_candidates = []
+  candidate_texts (candidate_and designators type candidates) =
+      (parts_spelling designator_spelling designators ++ tokens.Arrow ∷ type_spelling type) ∷ candidate_texts candidates
 
-  pub candidates_spelling : CandidateModels → List Token
-  candidates_spelling no_candidates = []
-  candidates_spelling (candidate_and designators type candidates) =
-      parts_spelling designator_spelling designators ++ tokens.Arrow ∷ type_spelling type ++ more_candidates_spelling candidates
+-- components, and those behind a first one
+abbrev pub fields_spelling : FieldModels → List Token
+fields_spelling fields = joined (field_texts fields)
 
-  pub more_candidates_spelling : CandidateModels → List Token
-  more_candidates_spelling no_candidates = []
-  more_candidates_spelling (candidate_and designators type candidates) =
-      tokens.Comma ∷ parts_spelling designator_spelling designators ++ tokens.Arrow ∷ type_spelling type ++ more_candidates_spelling candidates
+abbrev pub more_fields_spelling : FieldModels → List Token
+more_fields_spelling fields = more_spelling (λ text. text) (field_texts fields)
+
+-- candidates, and those behind a first one
+abbrev pub candidates_spelling : CandidateModels → List Token
+candidates_spelling candidates = joined (candidate_texts candidates)
+
+abbrev pub more_candidates_spelling : CandidateModels → List Token
+more_candidates_spelling candidates = more_spelling (λ text. text) (candidate_texts candidates)
 
 -- ---- which types are written
 
@@ -116,13 +131,7 @@ candidate_count (candidate_and designators type candidates) = suc (candidate_cou
 abbrev mutual
   pub IsType : ℕ → TypeModel → Type 0
   IsType zero type = ⊥
-  IsType (suc depth) TypeModel.boolean = Unit {0}
-  IsType (suc depth) TypeModel.cardinal = Unit {0}
-  IsType (suc depth) TypeModel.long_cardinal = Unit {0}
-  IsType (suc depth) TypeModel.integer = Unit {0}
-  IsType (suc depth) TypeModel.long_integer = Unit {0}
-  IsType (suc depth) TypeModel.unspecified = Unit {0}
-  IsType (suc depth) TypeModel.text = Unit {0}
+  IsType (suc depth) (TypeModel.predefined type) = Unit {0}
   IsType (suc depth) (TypeModel.enumeration members) = AreParts members × AllByRecursion (λ m. IsNumeric m.1) members
   IsType (suc depth) (TypeModel.array n element) = IsNumeric n × IsType depth element
   IsType (suc depth) (TypeModel.sequence most element) = IsNumberIfAny most × IsType depth element

@@ -1,6 +1,7 @@
 -- Types as they are written (XSIS 038112, Courier).
 use Rattle.std.specs.Prelude.{ℕ, List, [], ◌∷◌, map, Option}
 use Rattle.std.specs.Global.{Vec}
+use Rattle.courier_types.specs.declared.predefined.Predefined.{Predefined}
 use Rattle.courier_notation.specs.declared.written.Numeric.{Numeric}
 use Rattle.courier_notation.specs.declared.written.Reference.{Reference}
 use Rattle.courier_notation.specs.declared.written.WrittenType.{WrittenType, fold-WrittenType}
@@ -13,13 +14,7 @@ Designator = ℕ × Option Numeric
 -- a type without where it lies in memory
 mutual
   pub data TypeModel : Type 0 where
-    boolean : TypeModel
-    cardinal : TypeModel
-    long_cardinal : TypeModel
-    integer : TypeModel
-    long_integer : TypeModel
-    unspecified : TypeModel
-    text : TypeModel
+    predefined : Predefined → TypeModel
     enumeration : List (ℕ × Numeric) → TypeModel
     array : Numeric → TypeModel → TypeModel
     sequence : Option Numeric → TypeModel → TypeModel
@@ -57,13 +52,7 @@ candidates_of_seen (c ∷ cs) = candidate_and c.0.items c.1 (candidates_of_seen 
 
 -- one level, where the types inside are seen already
 abbrev pub type_level : WrittenType-F TypeModel → TypeModel
-type_level WrittenType-F.Boolean = TypeModel.boolean
-type_level WrittenType-F.Cardinal = TypeModel.cardinal
-type_level WrittenType-F.LongCardinal = TypeModel.long_cardinal
-type_level WrittenType-F.Integer = TypeModel.integer
-type_level WrittenType-F.LongInteger = TypeModel.long_integer
-type_level WrittenType-F.Unspecified = TypeModel.unspecified
-type_level WrittenType-F.Text = TypeModel.text
+type_level (WrittenType-F.Predefined type) = TypeModel.predefined type
 type_level (WrittenType-F.Enumeration members) = TypeModel.enumeration members.items
 type_level (WrittenType-F.Array n element) = TypeModel.array n element.value
 type_level (WrittenType-F.Sequence most element) = TypeModel.sequence most element.value
@@ -75,14 +64,15 @@ type_level (WrittenType-F.Named name) = TypeModel.named name
 abbrev pub type_model : WrittenType → TypeModel
 type_model = fold-WrittenType TypeModel type_level
 
-abbrev pub field_model : Vec ℕ × WrittenType → List ℕ × TypeModel
-field_model f = (f.0.items, type_model f.1)
+-- a group: parts that are written together, and their type
+abbrev pub group_model : {A : Type 0} → Vec A × WrittenType → List A × TypeModel
+group_model g = (g.0.items, type_model g.1)
+
+abbrev pub group_models : {A : Type 0} → List (Vec A × WrittenType) → List (List A × TypeModel)
+group_models groups = map group_model groups
 
 abbrev pub field_models : List (Vec ℕ × WrittenType) → List (List ℕ × TypeModel)
-field_models groups = map field_model groups
-
-abbrev pub candidate_model : Vec Designator × WrittenType → List Designator × TypeModel
-candidate_model c = (c.0.items, type_model c.1)
+field_models = group_models
 
 abbrev pub candidate_models : List (Vec Designator × WrittenType) → List (List Designator × TypeModel)
-candidate_models groups = map candidate_model groups
+candidate_models = group_models

@@ -131,7 +131,7 @@ fn constant_by(depth: usize, first: Token, tokens: &[Token]) -> Result<(Constant
 
 /// The constant at the front of the tokens, in which constants stand at most so deep.
 #[cycle(constants)]
-#[tactic(auto, unfolding(crate::specs::Programs::constant_at))]
+#[tactic(auto, unfolding(crate::specs::Reading::nested))]
 pub fn constant_of(depth: usize, tokens: &[Token]) -> Result<(Constant, &[Token]), Stop>
     ensures { Finds (λ x. (x.0, x.1.now)) result (constant_at depth tokens.now) }
 {

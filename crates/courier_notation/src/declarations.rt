@@ -20,15 +20,12 @@ use crate::reason::Reason;
 use crate::stop::Stop;
 use crate::token::Token;
 use crate::types::{bracketed, type_of};
-use crate::written::{Reference, WrittenType};
+use crate::written::{Group, Reference};
 use std::alloc::Global;
 
 /// The arguments of a procedure or an error; none where no bracket stands first.
-#[tactic(auto, unfolding(crate::specs::Programs::arguments_at))]
-fn arguments_of(
-    alloc: Global,
-    tokens: &[Token],
-) -> Result<(Vec<(Vec<u32>, WrittenType)>, &[Token]), Stop>
+#[tactic(auto, unfolding(crate::specs::Reading::optional, crate::specs::Reading::fields_at))]
+fn arguments_of(alloc: Global, tokens: &[Token]) -> Result<(Vec<Group<u32>>, &[Token]), Stop>
     ensures exact { Gives (λ x. (field_models x.0.items, x.1.now)) result (arguments_at tokens.now) }
     ensures memory { IfNoMemory result (FieldsWant tokens.now) }
 {
@@ -39,11 +36,8 @@ fn arguments_of(
 }
 
 /// The results of a procedure; none where `RETURNS` does not stand first.
-#[tactic(auto, unfolding(crate::specs::Programs::results_at))]
-fn results_of(
-    alloc: Global,
-    tokens: &[Token],
-) -> Result<(Vec<(Vec<u32>, WrittenType)>, &[Token]), Stop>
+#[tactic(auto, unfolding(crate::specs::Reading::optional))]
+fn results_of(alloc: Global, tokens: &[Token]) -> Result<(Vec<Group<u32>>, &[Token]), Stop>
     ensures exact { Gives (λ x. (field_models x.0.items, x.1.now)) result (results_at tokens.now) }
     ensures memory { IfNoMemory result (ResultsWant tokens.now) }
 {
@@ -54,7 +48,7 @@ fn results_of(
 }
 
 /// The errors that a procedure reports; none where `REPORTS` does not stand first.
-#[tactic(auto, unfolding(crate::specs::Programs::reports_at))]
+#[tactic(auto, unfolding(crate::specs::Reading::optional))]
 fn reports_of(alloc: Global, tokens: &[Token]) -> Result<(Vec<Reference>, &[Token]), Stop>
     ensures exact { Gives (λ x. (x.0.items, x.1.now)) result (reports_at tokens.now) }
     ensures memory { IfNoMemory result (ReportsWant tokens.now) }

@@ -1,6 +1,6 @@
 //! Programs as they are written.
 
-use crate::written::{Reference, WrittenType};
+use crate::written::{Group, Reference, WrittenType};
 
 /// The value of a constant, as far as a type can depend on it.
 #[derive(Clone, Copy, Debug, PartialEq, Eq)]
@@ -12,21 +12,20 @@ pub enum Constant {
     Other,
 }
 
-/// What a name is declared as (XSIS 038112, Courier). Components are names that are written together, and
-/// their type.
+/// What a name is declared as (XSIS 038112, Courier).
 #[derive(Debug, Drop)]
 pub enum Declared {
     Type(WrittenType),
     Constant(WrittenType, Constant),
     Procedure {
-        arguments: Vec<(Vec<u32>, WrittenType)>,
-        results: Vec<(Vec<u32>, WrittenType)>,
+        arguments: Vec<Group<u32>>,
+        results: Vec<Group<u32>>,
         /// The errors that the procedure reports.
         errors: Vec<Reference>,
         number: u16,
     },
     Error {
-        arguments: Vec<(Vec<u32>, WrittenType)>,
+        arguments: Vec<Group<u32>>,
         number: u16,
     },
 }

@@ -34,4 +34,4 @@ pub use programs::read_program;
 pub use reason::Reason;
 pub use stop::Stop;
 pub use token::Token;
-pub use written::{Numeric, Reference, WrittenType};
+pub use written::{Designator, Group, Numeric, Reference, WrittenType};

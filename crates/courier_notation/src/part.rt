@@ -1,8 +1,8 @@
 //! Parts that a list is made of.
 
 ghost use Rattle.std.specs.Prelude.{IsOk};
-ghost use Rattle.courier_notation.specs.Failing.{Gives, IfNoMemory};
-ghost use Rattle.courier_notation.specs.Reading.{Then, enclosed as enclosed_at, listed, most_parts, token_at};
+ghost use Rattle.courier_notation.specs.Failing.{Finds, Gives, IfNoMemory};
+ghost use Rattle.courier_notation.specs.Reading.{Then, enclosed as enclosed_at, in_parentheses, listed, most_parts, token_at};
 
 use crate::limits::MOST_PARTS;
 use crate::marks::{behind, next_part, wrong};
@@ -39,6 +39,17 @@ pub fn parts_of<P: Part>(alloc: Global, tokens: &[Token]) -> Result<(Vec<P>, &[T
         }
     }
     Err(wrong(rest, Reason::TooManyParts))
+}
+
+/// A part in parentheses.
+#[tactic(auto, unfolding(crate::specs::Reading::in_parentheses))]
+pub fn parenthesized<P: Part>(tokens: &[Token]) -> Result<(P, &[Token]), Stop>
+    ensures { Finds (λ x. (x.0, x.1.now)) result (in_parentheses P.reads tokens.now) }
+{
+    let inside = behind(Token::OpenParenthesis, Reason::NoOpenParenthesis, tokens)?;
+    let (part, rest) = P::read(inside)?;
+    let rest = behind(Token::CloseParenthesis, Reason::NoCloseParenthesis, rest)?;
+    Ok((part, rest))
 }
 
 /// Parts with commas between, behind an opening token and up to a closing one, each with what is told where it is

@@ -1,18 +1,15 @@
 //! Names, numbers and the parts of types, read from tokens.
-ghost use Rattle.std.specs.Prelude.{IsOk};
-ghost use Rattle.courier_notation.specs.Failing.{Finds, Gives, IfNoMemory};
-ghost use Rattle.courier_notation.specs.Reading.{designator_at, designator_behind, listed, maximum_at};
-ghost use Rattle.courier_notation.specs.Reading.{member_at, most_parts, name_at, numeric_at, reference_behind};
-ghost use Rattle.courier_notation.specs.Reading.{small_or_fault, tag_at};
+ghost use Rattle.courier_notation.specs.Failing.{Finds};
+ghost use Rattle.courier_notation.specs.Reading.{designator_at, designator_behind, maximum_at, member_at, name_at, numeric_at};
+ghost use Rattle.courier_notation.specs.Reading.{reference_behind, small_or_fault, tag_at};
 ghost use Rattle.courier_notation.specs.Programs.{long_number, reference_at, small_at};
 
-use crate::marks::{behind, wrong};
-use crate::part::{Part, parts_of};
+use crate::marks::wrong;
+use crate::part::{Part, parenthesized};
 use crate::reason::Reason;
 use crate::stop::Stop;
 use crate::token::Token;
-use crate::written::{Numeric, Reference};
-use std::alloc::Global;
+use crate::written::{Designator, Numeric, Reference};
 
 /// The name that stands first, and the tokens behind it.
 pub fn name_of(tokens: &[Token]) -> Result<(u32, &[Token]), Stop>
@@ -69,6 +66,15 @@ pub fn numeric_of(tokens: &[Token]) -> Result<(Numeric, &[Token]), Stop>
     }
 }
 
+/// A number of one word, or the name of a constant.
+impl Part for Numeric {
+    ghost reads = { numeric_at };
+
+    fn read(tokens: &[Token]) -> Result<(Numeric, &[Token]), Stop> {
+        numeric_of(tokens)
+    }
+}
+
 /// A name.
 impl Part for u32 {
     ghost reads = { name_at };
@@ -78,14 +84,6 @@ impl Part for u32 {
     }
 }
 
-/// Names with commas between.
-pub fn names_of(alloc: Global, tokens: &[Token]) -> Result<(Vec<u32>, &[Token]), Stop>
-    ensures exact { Gives (λ x. (x.0.items, x.1.now)) result (listed name_at most_parts tokens.now) }
-    ensures memory { IfNoMemory result (IsOk (name_at tokens.now)) }
-{
-    parts_of(alloc, tokens)
-}
-
 /// A member of an enumeration: a name, and its number in parentheses.
 impl Part for (u32, Numeric) {
     ghost reads = { member_at };
@@ -93,33 +91,19 @@ impl Part for (u32, Numeric) {
     #[tactic(auto, unfolding(crate::specs::Reading::member_at))]
     fn read(tokens: &[Token]) -> Result<((u32, Numeric), &[Token]), Stop> {
         let (name, rest) = name_of(tokens)?;
-        let inside = behind(Token::OpenParenthesis, Reason::NoOpenParenthesis, rest)?;
-        let (number, rest) = numeric_of(inside)?;
-        let rest = behind(Token::CloseParenthesis, Reason::NoCloseParenthesis, rest)?;
+        let (number, rest) = parenthesized(rest)?;
         Ok(((name, number), rest))
     }
 }
 
-/// Members with commas between.
-pub fn members_of(alloc: Global, tokens: &[Token]) -> Result<(Vec<(u32, Numeric)>, &[Token]), Stop>
-    ensures exact { Gives (λ x. (x.0.items, x.1.now)) result (listed member_at most_parts tokens.now) }
-    ensures memory { IfNoMemory result (IsOk (member_at tokens.now)) }
-{
-    parts_of(alloc, tokens)
-}
-
 /// The designator that begins with the name: its number in parentheses may be left out.
 #[tactic(auto, unfolding(crate::specs::Reading::designator_behind))]
-fn designator_of_name(
-    name: u32,
-    tokens: &[Token],
-) -> Result<((u32, Option<Numeric>), &[Token]), Stop>
+fn designator_of_name(name: u32, tokens: &[Token]) -> Result<(Designator, &[Token]), Stop>
     ensures { Finds (λ x. (x.0, x.1.now)) result (designator_behind name tokens.now) }
 {
     match tokens {
-        [Token::OpenParenthesis, rest @ ..] => {
-            let (number, rest) = numeric_of(rest)?;
-            let rest = behind(Token::CloseParenthesis, Reason::NoCloseParenthesis, rest)?;
+        [Token::OpenParenthesis, ..] => {
+            let (number, rest) = parenthesized(tokens)?;
             Ok(((name, Some(number)), rest))
         }
         _ => Ok(((name, None), tokens)),
@@ -127,25 +111,14 @@ fn designator_of_name(
 }
 
 /// A designator.
-impl Part for (u32, Option<Numeric>) {
+impl Part for Designator {
     ghost reads = { designator_at };
 
-    #[tactic(auto, unfolding(crate::specs::Reading::designator_at))]
-    fn read(tokens: &[Token]) -> Result<((u32, Option<Numeric>), &[Token]), Stop> {
+    #[tactic(auto, unfolding(crate::specs::Reading::by_name))]
+    fn read(tokens: &[Token]) -> Result<(Designator, &[Token]), Stop> {
         let (name, rest) = name_of(tokens)?;
         designator_of_name(name, rest)
     }
-}
-
-/// Designators with commas between.
-pub fn designators_of(
-    alloc: Global,
-    tokens: &[Token],
-) -> Result<(Vec<(u32, Option<Numeric>)>, &[Token]), Stop>
-    ensures exact { Gives (λ x. (x.0.items, x.1.now)) result (listed designator_at most_parts tokens.now) }
-    ensures memory { IfNoMemory result (IsOk (designator_at tokens.now)) }
-{
-    parts_of(alloc, tokens)
 }
 
 /// The enumeration that designators are of; `None` where none is named.
@@ -198,7 +171,7 @@ pub fn small_of(tokens: &[Token]) -> Result<(u16, &[Token]), Stop>
 impl Part for Reference {
     ghost reads = { reference_at };
 
-    #[tactic(auto, unfolding(crate::specs::Programs::reference_at))]
+    #[tactic(auto, unfolding(crate::specs::Reading::by_name))]
     fn read(tokens: &[Token]) -> Result<(Reference, &[Token]), Stop> {
         let (name, rest) = name_of(tokens)?;
         reference_of(name, rest)

@@ -21,7 +21,7 @@ use std::alloc::Global;
 impl Part for Dependency {
     ghost reads = { dependency_at };
 
-    #[tactic(auto, unfolding(crate::specs::Programs::dependency_at))]
+    #[tactic(auto, unfolding(crate::specs::Programs::dependency_at, crate::specs::Reading::in_parentheses))]
     fn read(tokens: &[Token]) -> Result<(Dependency, &[Token]), Stop> {
         let (name, rest) = name_of(tokens)?;
         let inside = behind(Token::OpenParenthesis, Reason::NoOpenParenthesis, rest)?;
@@ -41,7 +41,7 @@ impl Part for Dependency {
 }
 
 /// The programs that are depended upon; none where `DEPENDS` does not stand first.
-#[tactic(auto, unfolding(crate::specs::Programs::dependencies_at))]
+#[tactic(auto, unfolding(crate::specs::Reading::optional))]
 fn dependencies_of(alloc: Global, tokens: &[Token]) -> Result<(Vec<Dependency>, &[Token]), Stop>
     ensures exact { Gives (λ x. (x.0.items, x.1.now)) result (dependencies_at tokens.now) }
     ensures memory { IfNoMemory result (DependenciesWant tokens.now) }

@@ -1,6 +1,6 @@
 //! Types read from tokens, from left to right.
 ghost use Rattle.std.specs.Prelude.{IsOk};
-ghost use Rattle.courier_notation.specs.Written.{TypeModel, candidate_model, candidate_models, field_model};
+ghost use Rattle.courier_notation.specs.Written.{TypeModel, candidate_models, group_model};
 ghost use Rattle.courier_notation.specs.Written.{field_models, type_model};
 ghost use Rattle.courier_notation.specs.Failing.{Finds, Gives, IfNoMemory, over};
 ghost use Rattle.courier_notation.specs.Reading.{array_behind, member_at, name_at, designator_at, numeric_at, maximum_at, candidate_at, choice_behind};
@@ -10,13 +10,13 @@ ghost use Rattle.courier_notation.specs.Reading.{sequence_behind, type_at, type_
 
 use crate::limits::MOST_PARTS;
 use crate::marks::{behind, next_part, wrong};
-use crate::parts::{
-    designators_of, maximum_of, members_of, names_of, numeric_of, reference_of, tag_of,
-};
+use crate::part::parts_of;
+use crate::parts::{maximum_of, numeric_of, reference_of, tag_of};
 use crate::reason::Reason;
 use crate::stop::Stop;
 use crate::token::Token;
-use crate::written::{Numeric, WrittenType};
+use crate::written::{Designator, Group, WrittenType};
+use courier_types::Predefined;
 use std::alloc::Global;
 
 /// An enumeration, behind its opening brace.
@@ -25,7 +25,7 @@ fn enumeration_of(alloc: Global, tokens: &[Token]) -> Result<(WrittenType, &[Tok
     ensures exact { Gives (λ x. (type_model x.0, x.1.now)) result (enumeration_behind tokens.now) }
     ensures memory { IfNoMemory result (IsOk (member_at tokens.now)) }
 {
-    let (members, rest) = members_of(alloc, tokens)?;
+    let (members, rest) = parts_of(alloc, tokens)?;
     let rest = behind(Token::CloseBrace, Reason::NoCloseBrace, rest)?;
     Ok((WrittenType::Enumeration(members), rest))
 }
@@ -34,25 +34,22 @@ fn enumeration_of(alloc: Global, tokens: &[Token]) -> Result<(WrittenType, &[Tok
 fn long_of(tokens: &[Token]) -> Result<(WrittenType, &[Token]), Stop>
     ensures { Finds (λ x. (type_model x.0, x.1.now)) result (long_behind tokens.now) }
 {
-    match tokens {
-        [Token::Cardinal, rest @ ..] => Ok((WrittenType::LongCardinal, rest)),
-        [Token::Integer, rest @ ..] => Ok((WrittenType::LongInteger, rest)),
-        _ => Err(wrong(tokens, Reason::NoType)),
-    }
+    let (long, rest) = match tokens {
+        [Token::Cardinal, rest @ ..] => (Predefined::LongCardinal, rest),
+        [Token::Integer, rest @ ..] => (Predefined::LongInteger, rest),
+        _ => return Err(wrong(tokens, Reason::NoType)),
+    };
+    Ok((WrittenType::Predefined(long), rest))
 }
 
 /// Names, and their type behind a colon.
 #[cycle(types)]
-#[tactic(auto, unfolding(crate::specs::Reading::field_at))]
-fn field_of(
-    alloc: Global,
-    depth: usize,
-    tokens: &[Token],
-) -> Result<((Vec<u32>, WrittenType), &[Token]), Stop>
-    ensures exact { Gives (λ x. (field_model x.0, x.1.now)) result (field_at (type_at depth) tokens.now) }
+#[tactic(auto, unfolding(crate::specs::Reading::group_at))]
+fn field_of(alloc: Global, depth: usize, tokens: &[Token]) -> Result<(Group<u32>, &[Token]), Stop>
+    ensures exact { Gives (λ x. (group_model x.0, x.1.now)) result (field_at (type_at depth) tokens.now) }
     ensures memory { IfNoMemory result (IsOk (name_at tokens.now)) }
 {
-    let (names, rest) = names_of(alloc, tokens)?;
+    let (names, rest) = parts_of(alloc, tokens)?;
     let rest = behind(Token::Colon, Reason::NoColon, rest)?;
     let (written, rest) = type_of(alloc, depth, rest)?;
     Ok(((names, written), rest))
@@ -64,7 +61,7 @@ fn fields_of(
     alloc: Global,
     depth: usize,
     tokens: &[Token],
-) -> Result<(Vec<(Vec<u32>, WrittenType)>, &[Token]), Stop>
+) -> Result<(Vec<Group<u32>>, &[Token]), Stop>
     ensures exact { Gives (λ x. (field_models x.0.items, x.1.now)) result (listed (field_at (type_at depth)) most_parts tokens.now) }
     ensures memory { IfNoMemory result (IsOk (name_at tokens.now)) }
 {
@@ -88,7 +85,7 @@ fn fields_inside(
     alloc: Global,
     depth: usize,
     tokens: &[Token],
-) -> Result<(Vec<(Vec<u32>, WrittenType)>, &[Token]), Stop>
+) -> Result<(Vec<Group<u32>>, &[Token]), Stop>
     ensures exact { Gives (λ x. (field_models x.0.items, x.1.now)) result (fields_behind (type_at depth) tokens.now) }
     ensures memory { IfNoMemory result (IsOk (name_at tokens.now)) }
 {
@@ -109,7 +106,7 @@ pub fn bracketed(
     alloc: Global,
     depth: usize,
     tokens: &[Token],
-) -> Result<(Vec<(Vec<u32>, WrittenType)>, &[Token]), Stop>
+) -> Result<(Vec<Group<u32>>, &[Token]), Stop>
     ensures exact { Gives (λ x. (field_models x.0.items, x.1.now)) result (fields_at (type_at depth) tokens.now) }
     ensures memory { IfNoMemory result (FieldsWant tokens.now) }
 {
@@ -119,16 +116,16 @@ pub fn bracketed(
 
 /// Designators, and their type behind an arrow.
 #[cycle(types)]
-#[tactic(auto, unfolding(crate::specs::Reading::candidate_at))]
+#[tactic(auto, unfolding(crate::specs::Reading::group_at))]
 fn candidate_of(
     alloc: Global,
     depth: usize,
     tokens: &[Token],
-) -> Result<((Vec<(u32, Option<Numeric>)>, WrittenType), &[Token]), Stop>
-    ensures exact { Gives (λ x. (candidate_model x.0, x.1.now)) result (candidate_at (type_at depth) tokens.now) }
+) -> Result<(Group<Designator>, &[Token]), Stop>
+    ensures exact { Gives (λ x. (group_model x.0, x.1.now)) result (candidate_at (type_at depth) tokens.now) }
     ensures memory { IfNoMemory result (IsOk (designator_at tokens.now)) }
 {
-    let (designators, rest) = designators_of(alloc, tokens)?;
+    let (designators, rest) = parts_of(alloc, tokens)?;
     let rest = behind(Token::Arrow, Reason::NoArrow, rest)?;
     let (written, rest) = type_of(alloc, depth, rest)?;
     Ok(((designators, written), rest))
@@ -140,7 +137,7 @@ fn candidates_of(
     alloc: Global,
     depth: usize,
     tokens: &[Token],
-) -> Result<(Vec<(Vec<(u32, Option<Numeric>)>, WrittenType)>, &[Token]), Stop>
+) -> Result<(Vec<Group<Designator>>, &[Token]), Stop>
     ensures exact { Gives (λ x. (candidate_models x.0.items, x.1.now)) result
         (listed (candidate_at (type_at depth)) most_parts tokens.now) }
     ensures memory { IfNoMemory result (IsOk (designator_at tokens.now)) }
@@ -234,11 +231,11 @@ fn type_behind(
     ensures memory { IfNoMemory result (BehindWants (type_at depth) (TypeWants depth) first tokens.now) }
 {
     match first {
-        Token::Boolean => Ok((WrittenType::Boolean, tokens)),
-        Token::Cardinal => Ok((WrittenType::Cardinal, tokens)),
-        Token::Integer => Ok((WrittenType::Integer, tokens)),
-        Token::Unspecified => Ok((WrittenType::Unspecified, tokens)),
-        Token::String => Ok((WrittenType::Text, tokens)),
+        Token::Boolean => Ok((WrittenType::Predefined(Predefined::Boolean), tokens)),
+        Token::Cardinal => Ok((WrittenType::Predefined(Predefined::Cardinal), tokens)),
+        Token::Integer => Ok((WrittenType::Predefined(Predefined::Integer), tokens)),
+        Token::Unspecified => Ok((WrittenType::Predefined(Predefined::Unspecified), tokens)),
+        Token::String => Ok((WrittenType::Predefined(Predefined::Text), tokens)),
         Token::Long => long_of(tokens),
         Token::OpenBrace => enumeration_of(alloc, tokens),
         Token::Array => array_of(alloc, depth, tokens),
@@ -255,7 +252,7 @@ fn type_behind(
 
 /// The type at the front of the tokens, in which types stand in one another at most so deep, and the tokens behind it.
 #[cycle(types)]
-#[tactic(auto, unfolding(crate::specs::Reading::type_at))]
+#[tactic(auto, unfolding(crate::specs::Reading::nested))]
 pub fn type_of(
     alloc: Global,
     depth: usize,

@@ -1,5 +1,7 @@
 //! Types as they are written.
 
+use courier_types::Predefined;
+
 /// A name that is referred to. Names are indices in `Lexed::names`.
 #[derive(Clone, Copy, Debug, PartialEq, Eq)]
 pub enum Reference {
@@ -17,29 +19,28 @@ pub enum Numeric {
     Constant(Reference),
 }
 
+/// A designator: its name, and its word, `None` where that is not written.
+pub type Designator = (u32, Option<Numeric>);
+
+/// Names or designators that are written together, and their type.
+pub type Group<P> = (Vec<P>, WrittenType);
+
 /// A type as it is written (XSIS 038112, Courier, Data types). Names are indices in `Lexed::names`.
 #[derive(Debug, Drop, PartialEq, Eq)]
 pub enum WrittenType {
-    Boolean,
-    Cardinal,
-    LongCardinal,
-    Integer,
-    LongInteger,
-    Unspecified,
-    /// `STRING`
-    Text,
+    /// A type that is written by keywords alone.
+    Predefined(Predefined),
     /// The members: their names and words.
     Enumeration(Vec<(u32, Numeric)>),
     /// The number of elements, and their type.
     Array(Numeric, Box<WrittenType>),
     /// The maximum number of elements, and their type. `None` where no maximum is written: it is 65,535.
     Sequence(Option<Numeric>, Box<WrittenType>),
-    /// The components: the names that are written together, and their type.
-    Record(Vec<(Vec<u32>, WrittenType)>),
-    /// The enumeration whose members the designators are, `None` where none is named; and the candidates:
-    /// the designators that are written together, each with its word, `None` where it is not written, and
-    /// their type.
-    Choice(Option<Reference>, Vec<(Vec<(u32, Option<Numeric>)>, WrittenType)>),
+    /// The components, by their names.
+    Record(Vec<Group<u32>>),
+    /// The enumeration whose members the designators are, `None` where none is named; and the candidates, by
+    /// their designators.
+    Choice(Option<Reference>, Vec<Group<Designator>>),
     /// A type that is declared elsewhere.
     Named(Reference),
 }

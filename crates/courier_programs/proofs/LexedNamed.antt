@@ -16,7 +16,7 @@ use Rattle.courier_texts.specs.Laws.{is_plain, is_plain_name}
 use Rattle.courier_programs.specs.declared.program.Program.{Program}
 use Rattle.courier_programs.specs.Laws.{AreTypesNamed, ReadTypesAreNamed}
 use Rattle.courier_programs.specs.Meanings.{ResolvedModel}
-use Rattle.courier_programs.specs.Refused.{NameFault}
+use Rattle.courier_programs.specs.Faults.{NameFault}
 use Rattle.courier_programs.specs.Resolving.{resolved}
 use Rattle.courier_programs.specs.Texts.{lexed_told, name_told, text_meant, written_told}
 use Rattle.courier_programs.proofs.ProgramsNamed.{AreBefore, resolved_named}

@@ -1,10 +1,10 @@
 pub mod Begins
-pub mod Groups
+pub mod Falls
+pub mod Found
 pub mod LexedNamed
 pub mod Models
 pub mod Names
 pub mod ProgramsNamed
-pub mod Results
 pub mod TypesNamed
 pub mod Wants
 pub mod WrittenNamed

@@ -3,13 +3,14 @@ use Rattle.std.proofs.Common.{◌≡◌, ℕ, Bool, true, false, cond, List, [],
 use Rattle.std.proofs.lemmas.Slice.Eq.{bytes_eq-Decides}
 use Rattle.std.specs.List.{find}
 use Rattle.std.specs.Str.{bytes_eq}
+use Rattle.courier_notation.specs.Failing.{◌>>=◌}
 use Rattle.courier_notation.specs.declared.written.Reference.{Reference}
 use Rattle.courier_notation.specs.declared.written.Reference.TheVariants as references
 use Rattle.courier_texts.specs.Named.{NamedModel}
 use Rattle.courier_programs.specs.declared.program.Program.{Program}
 use Rattle.courier_programs.specs.Laws.{IsDeclared, IsDeclaredAs, ReferredTypeIsDeclared}
 use Rattle.courier_programs.specs.Meanings.{MeaningList, MeaningModel, meaning_of, meanings_seen}
-use Rattle.courier_programs.specs.Refused.{NameFault, ◌>>=◌}
+use Rattle.courier_programs.specs.Faults.{NameFault}
 use Rattle.courier_programs.specs.Scopes.{Env, look_up, program_named, name_text, type_by, type_named}
 
 pub same_bytes : (xs ys : List ℕ) → bytes_eq xs ys ≡ true → xs ≡ ys

@@ -1,6 +1,8 @@
 -- In all that a program declares, members and candidates have names of their own.
-use Rattle.std.proofs.Common.{◌≡◌, ℕ, zero, suc, ◌-◌, Bool, true, false, cond, List, [], ◌∷◌, ◌++◌, Option, Some, None, Result, Ok, Err, refl, sym, subst}
+use Rattle.std.proofs.Common.{◌≡◌, ℕ, zero, suc, ◌-◌, Bool, true, false, cond, List, [], ◌∷◌, ◌++◌, Option, Some, None, Result, Ok, Err, refl, subst}
 use Rattle.std.specs.List.{AllByRecursion, find}
+use Rattle.courier_notation.specs.Failing.{◌>>=◌}
+use Rattle.courier_notation.proofs.Failing.{bind_ok, ok_is, over_ok}
 use Rattle.courier_notation.specs.declared.declared.Dependency.{Dependency}
 use Rattle.courier_notation.specs.declared.written.Reference.{Reference}
 use Rattle.courier_notation.specs.declared.written.Reference.TheVariants as references
@@ -13,12 +15,11 @@ use Rattle.courier_programs.specs.declared.program.Program.{Program}
 use Rattle.courier_programs.specs.Declarations.{Addition, adds_meaning, adds_procedure, adds_error, constant_meant, constant_value, declaration_meant, declaration_step, env_at, error_meant, is_type, most_depth, most_type_parts, once_meant, own_text, procedure_meant, record_shape, settled, sound, whole_fields, whole_type, with_addition}
 use Rattle.courier_programs.specs.Laws.{AreFieldsNamed, AreTypesNamed, IsDeclared, IsErrorNamed, IsMeaningNamed, IsProcedureNamed}
 use Rattle.courier_programs.specs.Meanings.{ResolvedError, FieldsModel, MeaningList, MeaningModel, ResolvedProcedure, ResolvedModel, components_from, meanings_seen, resolved_model}
-use Rattle.courier_programs.specs.Refused.{NameFault, ◌>>=◌, steps}
+use Rattle.courier_programs.specs.Faults.{NameFault, steps}
 use Rattle.courier_programs.specs.Resolving.{dependency_step, empty_program, reports_step, resolved, with_dependencies, with_reports}
 use Rattle.courier_programs.specs.Scopes.{Env, depended_upon, dependency_of, program_by, program_named, read_or_unknown, spent, name_text, type_named, word_of}
 use Rattle.courier_programs.specs.Types.{array_meant, candidates_meant, choice_meant, components_meant, enumeration_meant, fields_meant, maximum_of, member_step, referred, sequence_meant, tag_members, type_level_meant, type_meant, variants_from}
 use Rattle.courier_programs.proofs.Names.{type_is_declared}
-use Rattle.courier_programs.proofs.Results.{bind_ok, done, ok_is, over_ok}
 use Rattle.courier_programs.proofs.TypesNamed.{FieldsIn, IsPlainIn, MakesAll, NamesIn, all_more, candidates_named, components_named, member_named, steps_keep}
 
 -- ---- what is referred to
@@ -66,37 +67,31 @@ referred_named e env (references.Other program name) t is =
 
 -- ---- types
 
-simply : (n : NamedModel) (room : ℕ) (t : NamedModel × ℕ) → done (n, room) ≡ done t → IsNamed n → IsNamed t.0
+simply : (n : NamedModel) (room : ℕ) (t : NamedModel × ℕ) → ◌≡◌ {A = Result (NamedModel × ℕ) NameFault} (Ok (n, room)) (Ok t) → IsNamed n → IsNamed t.0
 simply n room t is named = subst (λ (x : NamedModel × ℕ). IsNamed x.0) (ok_is (n, room) t is) named
 
 level_named : (e : Env) → IsEnvNamed e → (one : TypeModel → ℕ → Result (NamedModel × ℕ) NameFault) → MakesAll e.names one → (type : TypeModel) (room : ℕ) (t : NamedModel × ℕ) → type_level_meant e one type room ≡ Ok t → NamesIn e.names type → IsNamed t.0
 unfolding type_level_meant enumeration_meant array_meant sequence_meant fields_meant choice_meant referred
-level_named e env one makes TypeModel.boolean room t is inside = simply NamedModel.boolean room t is tt
-level_named e env one makes TypeModel.cardinal room t is inside = simply NamedModel.cardinal room t is tt
-level_named e env one makes TypeModel.long_cardinal room t is inside = simply NamedModel.long_cardinal room t is tt
-level_named e env one makes TypeModel.integer room t is inside = simply NamedModel.integer room t is tt
-level_named e env one makes TypeModel.long_integer room t is inside = simply NamedModel.long_integer room t is tt
-level_named e env one makes TypeModel.unspecified room t is inside = simply NamedModel.unspecified room t is tt
-level_named e env one makes TypeModel.text room t is inside = simply NamedModel.text room t is tt
+level_named e env one makes (TypeModel.predefined type) room t is inside = simply (NamedModel.predefined type) room t is tt
 level_named e env one makes (TypeModel.enumeration members) room t is inside =
     let x = over_ok NamedModel.enumeration (steps (member_step e) ([], room) members) t is in
     let have : HaveNames x.0.0 = steps_keep (λ s. HaveNames s.0) (λ m. IsPlainIn e.names m.0) (member_step e) (λ s m n step plain h. member_named e s m n step plain h) ([], room) members x.0 x.1 inside tt in
-    subst (λ (n : NamedModel × ℕ). IsNamed n.0) (sym x.2) have
+    subst (λ (n : NamedModel × ℕ). IsNamed n.0) x.2 have
 level_named e env one makes (TypeModel.array count element) room t is inside =
     let n = bind_ok (word_of e count) _ t is in
     let x = over_ok (NamedModel.array n.0) (one element room) t n.2 in
-    subst (λ (k : NamedModel × ℕ). IsNamed k.0) (sym x.2) (makes element inside room x.0 x.1)
+    subst (λ (k : NamedModel × ℕ). IsNamed k.0) x.2 (makes element inside room x.0 x.1)
 level_named e env one makes (TypeModel.sequence most element) room t is inside =
     let n = bind_ok (maximum_of e most) _ t is in
     let x = over_ok (NamedModel.sequence n.0) (one element room) t n.2 in
-    subst (λ (k : NamedModel × ℕ). IsNamed k.0) (sym x.2) (makes element inside room x.0 x.1)
+    subst (λ (k : NamedModel × ℕ). IsNamed k.0) x.2 (makes element inside room x.0 x.1)
 level_named e env one makes (TypeModel.fields groups) room t is inside =
     let x = over_ok (λ all. NamedModel.components (components_from all)) (components_meant e one [] ([], room) groups) t is in
-    subst (λ (k : NamedModel × ℕ). IsNamed k.0) (sym x.2) (components_named e e.names one makes groups [] ([], room) x.0 x.1 inside tt)
+    subst (λ (k : NamedModel × ℕ). IsNamed k.0) x.2 (components_named e e.names one makes groups [] ([], room) x.0 x.1 inside tt)
 level_named e env one makes (TypeModel.choice tag groups) room t is inside =
     let members = bind_ok (tag_members e tag) _ t is in
     let x = over_ok (λ all. NamedModel.choice (variants_from all)) (candidates_meant e members.0 one [] ([], room) groups) t members.2 in
-    subst (λ (k : NamedModel × ℕ). IsNamed k.0) (sym x.2) (candidates_named e members.0 one makes groups [] ([], room) x.0 x.1 inside tt refl tt)
+    subst (λ (k : NamedModel × ℕ). IsNamed k.0) x.2 (candidates_named e members.0 one makes groups [] ([], room) x.0 x.1 inside tt refl tt)
 level_named e env one makes (TypeModel.named r) room t is inside =
     let x = bind_ok (type_named e r) _ t is in
     let left = bind_ok (spent e room (x.0.1 - 1)) _ t x.2 in

@@ -4,13 +4,13 @@ use Rattle.std.proofs.lemmas.List.{append-nil}
 use Rattle.std.proofs.lemmas.Slice.Eq.{bytes_eq-Decides}
 use Rattle.std.specs.List.{AllByRecursion, find}
 use Rattle.std.specs.Str.{bytes_eq}
+use Rattle.courier_notation.proofs.Failing.{bind_ok, ok_is}
 use Rattle.courier_notation.specs.declared.written.Numeric.{Numeric}
 use Rattle.courier_notation.specs.Written.{TypeModel, FieldModels, no_fields, field_and, CandidateModels, no_candidates, candidate_and, Designator}
 use Rattle.courier_texts.specs.Laws.{is_plain_name, NamesNoMember, HaveNames, NamesNoVariant, IsNamed, AreComponentsNamed, AreVariantsNamed}
 use Rattle.courier_texts.specs.Named.{NamedModel}
 use Rattle.courier_programs.specs.Meanings.{Components, components_from}
-use Rattle.courier_programs.specs.Refused.{NameFault, steps}
-use Rattle.courier_programs.proofs.Results.{bind_ok, ok_is}
+use Rattle.courier_programs.specs.Faults.{NameFault, steps}
 use Rattle.courier_programs.specs.Scopes.{Env, spent, name_text}
 use Rattle.courier_programs.specs.Types.{Candidates, Designators, Members, candidate_group, candidate_step, candidates_meant, component_step, components_meant, designator_step, designator_word, member_step, member_word, named_part, new_name, once, variants_from, word_by_name}
 

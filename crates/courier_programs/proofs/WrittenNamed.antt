@@ -40,13 +40,7 @@ parts_in names spell Good one (x ∷ xs) known =
 
 mutual
   types_in : (names : List (List ℕ)) (type : TypeModel) → AreKnown names (type_spelling type) → NamesIn names type
-  types_in names TypeModel.boolean known = tt
-  types_in names TypeModel.cardinal known = tt
-  types_in names TypeModel.long_cardinal known = tt
-  types_in names TypeModel.integer known = tt
-  types_in names TypeModel.long_integer known = tt
-  types_in names TypeModel.unspecified known = tt
-  types_in names TypeModel.text known = tt
+  types_in names (TypeModel.predefined type) known = tt
   types_in names (TypeModel.enumeration members) known =
       parts_in names member_spelling (λ m. IsPlainIn names m.0) (λ m k. k.0) members (both names (parts_spelling member_spelling members) (tokens.CloseBrace ∷ []) known.1).0
   types_in names (TypeModel.array n element) known = types_in names element (both names (numeric_spelling n) (tokens.Of ∷ type_spelling element) known.1).1.1

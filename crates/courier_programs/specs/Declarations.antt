@@ -6,6 +6,7 @@ use Rattle.courier_types.specs.Check.{shape_fault}
 use Rattle.courier_types.specs.declared.shape_fault.ShapeFault.{ShapeFault}
 use Rattle.courier_types.specs.declared.shape_fault.ShapeFault.TheVariants as shape_faults
 use Rattle.courier_types.specs.Shape.{ShapeModel}
+use Rattle.courier_notation.specs.Failing.{◌>>=◌}
 use Rattle.courier_notation.specs.declared.declared.Constant.{Constant}
 use Rattle.courier_notation.specs.declared.declared.Constant.TheVariants as constants
 use Rattle.courier_notation.specs.declared.declared.Dependency.{Dependency}
@@ -19,7 +20,7 @@ use Rattle.courier_programs.specs.declared.limits.TheConstants.{MOST_TYPE_PARTS}
 use Rattle.courier_programs.specs.declared.name_reason.NameReason.TheVariants as reasons
 use Rattle.courier_programs.specs.declared.program.Program.{Program}
 use Rattle.courier_programs.specs.Meanings.{Components, components_from, FieldsModel, ResolvedProcedure, ResolvedError, MeaningModel, MeaningList, meaning_of, ResolvedModel, meaning_model, resolved_procedure, resolved_error}
-use Rattle.courier_programs.specs.Refused.{NameFault, ◌>>=◌}
+use Rattle.courier_programs.specs.Faults.{NameFault}
 use Rattle.courier_programs.specs.Scopes.{Env, name_text, value_named, spent}
 use Rattle.courier_programs.specs.Types.{type_meant, components_meant}
 

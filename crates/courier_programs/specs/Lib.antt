@@ -1,4 +1,4 @@
-pub mod Refused
+pub mod Faults
 pub mod Meanings
 pub mod Scopes
 pub mod Types

@@ -8,18 +8,22 @@ use Rattle.courier_programs.specs.declared.declarations.Added.{Added}
 use Rattle.courier_programs.specs.declared.declarations.Added.TheVariants as additions
 use Rattle.courier_programs.specs.declared.program.Program.{Program}
 use Rattle.courier_programs.specs.Scopes.{Env, program_by, spent, name_text, type_named, word_of}
-use Rattle.courier_programs.specs.Types.{maximum_of, tag_members}
+use Rattle.courier_programs.specs.Types.{maximum_of, tag_members, type_meant}
 
 abbrev pub HasFields : FieldModels → Type 0
 HasFields no_fields = ⊥
 HasFields (field_and names type groups) = Unit {0}
 
+-- the type stands for something, where it has room and does not stand too deep
+abbrev pub StandsForType : Env → TypeModel → Type 0
+StandsForType e type = (depth : ℕ) × (room : ℕ) × IsOk (type_meant e depth type room)
+
 -- The type has members, elements, components or candidates, or is named. The number, the maximum, the enumeration of the
--- designators and the name in front of them are right.
+-- designators and the name in front of them are right. An element wants memory itself, or stands for something and is then held.
 abbrev pub ResolvedTypeWants : Env → TypeModel → Type 0
 ResolvedTypeWants e (TypeModel.enumeration members) = 0 < length members
-ResolvedTypeWants e (TypeModel.array count element) = IsOk (word_of e count)
-ResolvedTypeWants e (TypeModel.sequence most element) = IsOk (maximum_of e most)
+ResolvedTypeWants e (TypeModel.array count element) = IsOk (word_of e count) × (ResolvedTypeWants e element ⊎ StandsForType e element)
+ResolvedTypeWants e (TypeModel.sequence most element) = IsOk (maximum_of e most) × (ResolvedTypeWants e element ⊎ StandsForType e element)
 ResolvedTypeWants e (TypeModel.fields groups) = HasFields groups
 ResolvedTypeWants e (TypeModel.choice tag groups) = IsOk (tag_members e tag)
 ResolvedTypeWants e (TypeModel.named r) = IsOk (type_named e r)

@@ -1,13 +1,14 @@
 -- A program whose names are resolved (XSIS 038112, Courier, Remote programs). That what a program depends upon is read before it
 -- is this project's rule.
 use Rattle.std.specs.Prelude.{ℕ, List, [], ◌∷◌, ◌++◌, Option, Some, Result, Ok, Err, Bool, true, false, if◌then◌else◌, is_some}
+use Rattle.courier_notation.specs.Failing.{◌>>=◌}
 use Rattle.courier_notation.specs.declared.declared.Dependency.{Dependency}
 use Rattle.courier_notation.specs.declared.written.Reference.{Reference}
 use Rattle.courier_notation.specs.ProgramModels.{DeclaredModel, ProgramModel}
 use Rattle.courier_programs.specs.declared.name_reason.NameReason.TheVariants as reasons
 use Rattle.courier_programs.specs.declared.program.Program.{Program}
 use Rattle.courier_programs.specs.Meanings.{MeaningModel, ResolvedModel}
-use Rattle.courier_programs.specs.Refused.{NameFault, ◌>>=◌, steps}
+use Rattle.courier_programs.specs.Faults.{NameFault, steps}
 use Rattle.courier_programs.specs.Scopes.{Env, name_text, program_by, dependency_of, look_up, last_name}
 use Rattle.courier_programs.specs.Declarations.{declaration_step, env_at, most_type_parts}
 

@@ -4,6 +4,7 @@ use Rattle.std.specs.Prelude.{ℕ, ◌-◌, ◌==◌, ◌&&◌, List, [], map, O
 use Rattle.std.specs.Global.{Vec}
 use Rattle.std.specs.List.{find}
 use Rattle.std.specs.Str.{bytes_eq}
+use Rattle.courier_notation.specs.Failing.{◌>>=◌}
 use Rattle.courier_notation.specs.declared.declared.Dependency.{Dependency}
 use Rattle.courier_notation.specs.declared.written.Numeric.{Numeric}
 use Rattle.courier_notation.specs.declared.written.Numeric.TheVariants as numerics
@@ -14,7 +15,7 @@ use Rattle.courier_programs.specs.declared.name_reason.NameReason.TheVariants as
 use Rattle.courier_programs.specs.declared.program.Program.{Program}
 use Rattle.courier_programs.specs.declared.scope.Scope.{Scope}
 use Rattle.courier_programs.specs.Meanings.{MeaningModel, MeaningList, meaning_of, meanings_seen}
-use Rattle.courier_programs.specs.Refused.{NameFault, ◌>>=◌}
+use Rattle.courier_programs.specs.Faults.{NameFault}
 
 -- what a declaration may refer to
 pub record Env : Type 0 where

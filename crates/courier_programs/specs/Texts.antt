@@ -11,7 +11,7 @@ use Rattle.courier_programs.specs.declared.program.Program.{Program}
 use Rattle.courier_programs.specs.declared.program_refusal.ProgramReason.{ProgramReason}
 use Rattle.courier_programs.specs.declared.program_refusal.ProgramReason.TheVariants as reasons
 use Rattle.courier_programs.specs.Meanings.{ResolvedModel}
-use Rattle.courier_programs.specs.Refused.{NameFault}
+use Rattle.courier_programs.specs.Faults.{NameFault}
 use Rattle.courier_programs.specs.Resolving.{resolved}
 
 -- how many bytes stand in front of a fault, and what is wrong

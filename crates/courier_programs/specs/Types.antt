@@ -4,6 +4,7 @@ use Rattle.std.specs.Prelude.{ℕ, zero, suc, ◌-◌, List, [], ◌∷◌, ◌+
 use Rattle.std.specs.Global.{Vec}
 use Rattle.std.specs.List.{find, list_any}
 use Rattle.std.specs.Str.{bytes_eq}
+use Rattle.courier_notation.specs.Failing.{◌>>=◌, over}
 use Rattle.courier_notation.specs.declared.written.Numeric.{Numeric}
 use Rattle.courier_notation.specs.declared.written.Reference.{Reference}
 use Rattle.courier_notation.specs.Written.{TypeModel, FieldModels, no_fields, field_and, CandidateModels, no_candidates, candidate_and, Designator}
@@ -11,7 +12,7 @@ use Rattle.courier_texts.specs.declared.named.Named.{Named}
 use Rattle.courier_texts.specs.Named.{NamedModel, named_model, VariantModels, no_variants, variant_and}
 use Rattle.courier_programs.specs.declared.name_reason.NameReason.TheVariants as reasons
 use Rattle.courier_programs.specs.Meanings.{Components, components_from}
-use Rattle.courier_programs.specs.Refused.{NameFault, ◌>>=◌, over, steps}
+use Rattle.courier_programs.specs.Faults.{NameFault, steps}
 use Rattle.courier_programs.specs.Scopes.{Env, name_text, last_name, type_named, word_of, spent}
 
 -- members of an enumeration, or designators: their names and words
@@ -168,13 +169,7 @@ candidates_meant e tag one taken st (candidate_and designators type groups) =
 
 -- a type whose parts one makes
 unfoldable pub type_level_meant : Env → (TypeModel → ℕ → Result (NamedModel × ℕ) NameFault) → TypeModel → ℕ → Result (NamedModel × ℕ) NameFault
-type_level_meant e one TypeModel.boolean room = Ok (NamedModel.boolean, room)
-type_level_meant e one TypeModel.cardinal room = Ok (NamedModel.cardinal, room)
-type_level_meant e one TypeModel.long_cardinal room = Ok (NamedModel.long_cardinal, room)
-type_level_meant e one TypeModel.integer room = Ok (NamedModel.integer, room)
-type_level_meant e one TypeModel.long_integer room = Ok (NamedModel.long_integer, room)
-type_level_meant e one TypeModel.unspecified room = Ok (NamedModel.unspecified, room)
-type_level_meant e one TypeModel.text room = Ok (NamedModel.text, room)
+type_level_meant e one (TypeModel.predefined type) room = Ok (NamedModel.predefined type, room)
 type_level_meant e one (TypeModel.enumeration members) room = enumeration_meant e members room
 type_level_meant e one (TypeModel.array count element) room = array_meant e count (one element) room
 type_level_meant e one (TypeModel.sequence most element) room = sequence_meant e most (one element) room

@@ -20,6 +20,16 @@ fn copy_members(alloc: Global, members: &[Member]) -> Result<Vec<Member>, AllocE
     Ok(copies)
 }
 
+/// A name and a type, as a component has them, and a candidate beside its designator.
+#[cycle(copying)]
+fn copy_part(alloc: Global, name: &[u8], part: &Named) -> Result<Component, AllocError>
+    ensures { IfOk result (λ copy. (copy.0.items ≡ name.now) × (named_model copy.1 ≡ named_model part.now)) }
+{
+    let name = Vec::from_slice(alloc, name)?;
+    let part = copy_of(alloc, part)?;
+    Ok((name, part))
+}
+
 #[cycle(copying)]
 fn copy_components(alloc: Global, components: &[Component]) -> Result<Vec<Component>, AllocError>
     ensures copy { IfOk result (λ copies. components_seen copies.items ≡ components_seen components.now) }
@@ -27,9 +37,7 @@ fn copy_components(alloc: Global, components: &[Component]) -> Result<Vec<Compon
 {
     let mut copies = Vec::new(alloc);
     for component in components {
-        let name = Vec::from_slice(alloc, &component.0)?;
-        let part = copy_of(alloc, &component.1)?;
-        copies.push((name, part))?;
+        copies.push(copy_part(alloc, &component.0, &component.1)?)?;
     }
     Ok(copies)
 }
@@ -41,8 +49,7 @@ fn copy_variants(alloc: Global, variants: &[Candidate]) -> Result<Vec<Candidate>
 {
     let mut copies = Vec::new(alloc);
     for variant in variants {
-        let name = Vec::from_slice(alloc, &variant.0)?;
-        let part = copy_of(alloc, &variant.1.1)?;
+        let (name, part) = copy_part(alloc, &variant.0, &variant.1.1)?;
         copies.push((name, (variant.1.0, part)))?;
     }
     Ok(copies)
@@ -55,13 +62,7 @@ pub(crate) fn copy_of(alloc: Global, named: &Named) -> Result<Named, AllocError>
     ensures memory { OnErr result (HasParts (named_model named.now)) }
 {
     match named {
-        Named::Boolean => Ok(Named::Boolean),
-        Named::Cardinal => Ok(Named::Cardinal),
-        Named::LongCardinal => Ok(Named::LongCardinal),
-        Named::Integer => Ok(Named::Integer),
-        Named::LongInteger => Ok(Named::LongInteger),
-        Named::Unspecified => Ok(Named::Unspecified),
-        Named::Text => Ok(Named::Text),
+        Named::Predefined(predefined) => Ok(Named::Predefined(*predefined)),
         Named::Enumeration(members) => Ok(Named::Enumeration(copy_members(alloc, members)?)),
         Named::Array(count, element) => {
             let copy = copy_of(alloc, element)?;

@@ -3,6 +3,7 @@
 ghost use Rattle.std.specs.Prelude.{◌≡◌, ◌<◌, IsOk, OnErr, OnOk, false, is_none, is_some, length, map, true};
 ghost use Rattle.courier_types.specs.Check.{shape_fault};
 ghost use Rattle.courier_types.specs.Shape.{shape_model};
+ghost use Rattle.courier_notation.specs.Failing.{Finds, Gives, IfNoMemory};
 ghost use Rattle.courier_notation.specs.ProgramModels.{declaration_view, declared_view};
 ghost use Rattle.courier_notation.specs.Written.{field_models, type_model};
 ghost use Rattle.courier_texts.specs.Named.{named_model};
@@ -11,7 +12,6 @@ ghost use Rattle.courier_programs.specs.Declarations.{declaration_meant, declara
 ghost use Rattle.courier_programs.specs.Declarations.{procedure_meant, settled, sound, whole_fields as whole_fields_of, whole_type as whole_type_of, with_addition};
 ghost use Rattle.courier_programs.specs.Meanings.{resolved_error, fields_model, meaning_model, meaning_of as meaning_in, resolved_procedure, resolved_model};
 ghost use Rattle.courier_programs.specs.Memory.{AddingWants, AddedWants, ResolvedTypeWants};
-ghost use Rattle.courier_programs.specs.Refused.{Finds, Gives, IfNoMemory};
 ghost use Rattle.courier_programs.specs.Scopes.{env, names_seen, spent, name_text};
 
 use crate::bytes::text;
@@ -20,9 +20,9 @@ use crate::name_reason::NameReason;
 use crate::program::{Fields, Meaning, Procedure, Program, RemoteError};
 use crate::refusal::{Refusal, wrong};
 use crate::scope::{Scope, meaning_of, spend, value_named};
-use crate::types::{components_of, type_of};
+use crate::types::{Maker, components_of, type_of};
 use courier_notation::limits::MOST_DEPTH;
-use courier_notation::{Constant, Declaration, Declared, Dependency, WrittenType};
+use courier_notation::{Constant, Declaration, Declared, Dependency, Group, WrittenType};
 use courier_texts::{Named, shape_of, shape_of_record};
 use courier_types::{Shape, ShapeFault};
 use std::alloc::{AllocError, Global};
@@ -58,7 +58,8 @@ fn whole_type(
     ensures exact { Gives (λ x. (named_model x.0, x.1)) result (whole_type_of (env scope.now) (type_model written.now) room) }
     ensures memory { IfNoMemory result (ResolvedTypeWants (env scope.now) (type_model written.now)) }
 {
-    let (named, left) = type_of(alloc, MOST_DEPTH, written, scope, room)?;
+    let maker = Maker { alloc, scope };
+    let (named, left) = type_of(maker, MOST_DEPTH, written, room)?;
     let shape = shape_of(alloc, &named)?;
     check(scope, &shape)?;
     Ok((named, left))
@@ -70,13 +71,14 @@ fn whole_fields(
     alloc: Global,
     scope: &Scope,
     room: usize,
-    groups: &[(Vec<u32>, WrittenType)],
+    groups: &[Group<u32>],
 ) -> Result<(Fields, usize), Refusal>
     ensures exact { Gives (λ x. (fields_model x.0, x.1)) result (whole_fields_of (env scope.now) (field_models groups.now) room) }
     ensures memory { IfNoMemory result (IsOk (spent (env scope.now) room 1) × (0 < length groups.now)) }
 {
     let left = spend(scope, room, 1)?;
-    let (components, left) = components_of(alloc, MOST_DEPTH, groups, scope, left)?;
+    let maker = Maker { alloc, scope };
+    let (components, left) = components_of(maker, MOST_DEPTH, groups, left)?;
     let shape = shape_of_record(alloc, &components)?;
     check(scope, &shape)?;
     Ok((Fields { components, shape }, left))
@@ -97,11 +99,11 @@ fn type_added(
             let size = room.saturating_sub(left);
             Ok((Added::Meaning(Meaning::Type { named, size }), left))
         }
-        Err(Refusal::Wrong { name, reason }) => {
+        Err(Refusal::Wrong { place, reason }) => {
             if reason == NameReason::Recursive {
                 return Ok((Added::Meaning(Meaning::Recursive), room));
             }
-            Err(wrong(name, reason))
+            Err(wrong(place, reason))
         }
         Err(Refusal::NoMemory) => Err(Refusal::NoMemory),
     }
@@ -153,8 +155,8 @@ fn procedure_added(
     alloc: Global,
     scope: &Scope,
     procedures: &[Procedure],
-    arguments: &[(Vec<u32>, WrittenType)],
-    results: &[(Vec<u32>, WrittenType)],
+    arguments: &[Group<u32>],
+    results: &[Group<u32>],
     number: u16,
     room: usize,
 ) -> Result<(Added, usize), Refusal>
@@ -179,7 +181,7 @@ fn error_added(
     alloc: Global,
     scope: &Scope,
     errors: &[RemoteError],
-    arguments: &[(Vec<u32>, WrittenType)],
+    arguments: &[Group<u32>],
     number: u16,
     room: usize,
 ) -> Result<(Added, usize), Refusal>

@@ -1,7 +1,8 @@
 //! Names that must differ from one another.
 
 ghost use Rattle.std.specs.Prelude.{◌≡◌, ◌<◌, IsOk, length};
-ghost use Rattle.courier_programs.specs.Refused.{Gives, IfNoMemory, steps};
+ghost use Rattle.courier_notation.specs.Failing.{Gives, IfNoMemory};
+ghost use Rattle.courier_programs.specs.Faults.{steps};
 ghost use Rattle.courier_programs.specs.Scopes.{env};
 ghost use Rattle.courier_programs.specs.Types.{has_name as has_name_in, once as once_in};
 

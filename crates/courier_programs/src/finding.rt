@@ -12,12 +12,7 @@ pub fn program_of(programs: &[Program], number: u32, version: u16) -> Option<&Pr
     ensures some { IfSome result (λ p. program_by programs.now number version ≡ Some p.now) }
     ensures none { IfNone result (program_by programs.now number version ≡ None) }
 {
-    for program in programs {
-        if program.number == number && program.version == version {
-            return Some(program);
-        }
-    }
-    None
+    programs.iter().find(|program| program.number == number && program.version == version)
 }
 
 /// The procedure with that number. `None` if none has it.
@@ -25,12 +20,9 @@ pub fn procedure_of(procedures: &[Procedure], number: u16) -> Option<&Procedure>
     ensures some { IfSome result (λ p. procedure_by (map resolved_procedure procedures.now) number ≡ Some (resolved_procedure p.now)) }
     ensures none { IfNone result (procedure_by (map resolved_procedure procedures.now) number ≡ None) }
 {
-    for procedure in procedures {
-        if procedure.number == number {
-            return Some(procedure);
-        }
-    }
-    None
+    procedures
+        .iter()
+        .find(|procedure| procedure.number == number)
 }
 
 /// The error with that number. `None` if none has it.
@@ -38,10 +30,5 @@ pub fn error_of(errors: &[RemoteError], number: u16) -> Option<&RemoteError>
     ensures some { IfSome result (λ e. error_by (map resolved_error errors.now) number ≡ Some (resolved_error e.now)) }
     ensures none { IfNone result (error_by (map resolved_error errors.now) number ≡ None) }
 {
-    for error in errors {
-        if error.number == number {
-            return Some(error);
-        }
-    }
-    None
+    errors.iter().find(|error| error.number == number)
 }

@@ -1,8 +1,9 @@
 //! Members of enumerations, and designators of choices.
 
 ghost use Rattle.std.specs.Prelude.{◌≡◌, ◌<◌, [], IsOk, length, option_map};
+ghost use Rattle.courier_notation.specs.Failing.{Finds, Gives, IfNoMemory};
 ghost use Rattle.courier_texts.specs.Named.{members_seen};
-ghost use Rattle.courier_programs.specs.Refused.{Finds, Gives, IfNoMemory, steps};
+ghost use Rattle.courier_programs.specs.Faults.{steps};
 ghost use Rattle.courier_programs.specs.Scopes.{env};
 ghost use Rattle.courier_programs.specs.Types.{agreed, chosen_word as chosen_word_of, designator_step, designator_word as designator_word_of};
 ghost use Rattle.courier_programs.specs.Types.{given_alone, given_word as given_word_of, lists_word as lists_word_in, member_step};
@@ -14,7 +15,7 @@ use crate::name_reason::NameReason;
 use crate::parts::Member;
 use crate::refusal::{Refusal, wrong};
 use crate::scope::{Scope, last_name, spend, type_named, word_of};
-use courier_notation::{Numeric, Reference};
+use courier_notation::{Designator, Numeric, Reference};
 use courier_texts::Named;
 use std::alloc::Global;
 
@@ -188,7 +189,7 @@ fn designator_word(
     scope: &Scope,
     tag: Option<&[Member]>,
     taken: &[Member],
-    designator: (u32, Option<Numeric>),
+    designator: Designator,
 ) -> Result<u16, Refusal>
     ensures { Finds (λ x. x) result (designator_word_of (env scope.now) (option_map (λ m. members_seen m.now) tag.entry) (members_seen taken.now) designator) }
 {
@@ -205,7 +206,7 @@ fn take_designator(
     tag: Option<&[Member]>,
     taken: &mut Vec<Member>,
     chosen: &mut Vec<(u32, u16)>,
-    designator: (u32, Option<Numeric>),
+    designator: Designator,
 ) -> Result<(), Refusal>
     ensures exact { Gives (λ _. (members_seen taken.new.items, chosen.new.items)) result (designator_step (env scope.now) (option_map (λ m. members_seen m.now) tag.entry) (members_seen taken.old.items, chosen.old.items) designator) }
     ensures memory { IfNoMemory result (IsOk (designator_step (env scope.now) (option_map (λ m. members_seen m.now) tag.entry) (members_seen taken.old.items, chosen.old.items) designator)) }
@@ -223,7 +224,7 @@ pub(crate) fn chosen_of(
     scope: &Scope,
     tag: Option<&[Member]>,
     taken: &mut Vec<Member>,
-    designators: &[(u32, Option<Numeric>)],
+    designators: &[Designator],
 ) -> Result<Vec<(u32, u16)>, Refusal>
     ensures exact { Gives (λ x. (members_seen taken.new.items, x.items)) result (steps (designator_step (env scope.now) (option_map (λ m. members_seen m.now) tag.entry)) (members_seen taken.old.items, []) designators.now) }
     ensures memory { IfNoMemory result (0 < length designators.now) }

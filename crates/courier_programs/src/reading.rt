@@ -72,7 +72,12 @@ fn resolve_text(
 {
     match resolve(alloc, &lexed.names, before, written) {
         Ok(program) => Ok(program),
-        Err(Refusal::Wrong { name, reason }) => Err(ProgramRefusal::Wrong {
+        Err(
+            Refusal::Wrong {
+                place: name,
+                reason,
+            },
+        ) => Err(ProgramRefusal::Wrong {
             place: place_of_name(text, lexed, name),
             reason: ProgramReason::Name(reason),
         }),

@@ -1,11 +1,12 @@
 //! Programs whose names are resolved.
 
 ghost use Rattle.std.specs.Prelude.{◌≡◌, ◌<◌, [], IfOk, IsOk, OnErr, length};
+ghost use Rattle.courier_notation.specs.Failing.{Finds, Gives, IfNoMemory};
 ghost use Rattle.courier_notation.specs.ProgramModels.{declaration_view, declaration_views, declared_view, program_view};
 ghost use Rattle.courier_programs.specs.Declarations.{declaration_step};
 ghost use Rattle.courier_programs.specs.Meanings.{resolved_model};
 ghost use Rattle.courier_programs.specs.Memory.{DeclaringWants, FirstWasRead, ResolvingWants};
-ghost use Rattle.courier_programs.specs.Refused.{Finds, Gives, IfNoMemory, steps};
+ghost use Rattle.courier_programs.specs.Faults.{steps};
 ghost use Rattle.courier_programs.specs.Resolving.{dependency_step, reported as reported_in, reports_step, resolved};
 ghost use Rattle.courier_programs.specs.Resolving.{empty_program as empty_program_of, with_dependencies as with_dependencies_of, with_reports as with_reports_of};
 ghost use Rattle.courier_programs.specs.Scopes.{env, names_seen, name_text};

@@ -1,9 +1,9 @@
 //! What names refer to.
 
 ghost use Rattle.std.specs.Prelude.{◌≡◌, IfNone, IfSome, None, Some, option_map};
+ghost use Rattle.courier_notation.specs.Failing.{Finds};
 ghost use Rattle.courier_texts.specs.Named.{named_model};
 ghost use Rattle.courier_programs.specs.Meanings.{meaning_model, meaning_of as meaning_in, meanings_seen};
-ghost use Rattle.courier_programs.specs.Refused.{Finds};
 ghost use Rattle.courier_programs.specs.Scopes.{dependency_of as dependency_in, env, is_itself as is_itself_of, last_name as last_name_of};
 ghost use Rattle.courier_programs.specs.Scopes.{look_up as look_up_of, names_seen, program_named, spent, type_named as type_named_of};
 ghost use Rattle.courier_programs.specs.Scopes.{value_named as value_named_of, word_by, word_of as word_of_numeric};

@@ -1,5 +1,5 @@
 -- What is told of an item before it is taken.
-use Rattle.std.proofs.Common.{◌≡◌, ◌∙◌, ap, sym, refl, subst, ℕ, List, [], ◌∷◌, map, Bool, true, false, Some, None, Option, Result, Ok, Err}
+use Rattle.std.proofs.Common.{◌≡◌, ◌∙◌, ap, sym, subst, ℕ, List, [], ◌∷◌, Bool, true, false, Some, None, Option, Result, Ok, Err}
 use Rattle.std.specs.Prelude.{if◌then◌else◌, IsOk, is_ok}
 use Rattle.courier_messages.specs.declared.fault.SessionFault.{SessionFault}
 use Rattle.courier_messages.specs.declared.fault.SessionFault.TheVariants.{WrongTransaction, BadReply}
@@ -7,7 +7,7 @@ use Rattle.courier_messages.specs.declared.head.Head.{Head}
 use Rattle.courier_messages.specs.declared.message.Message.{Message}
 use Rattle.courier_messages.specs.declared.message.Message.TheVariants.{Call, Reject, Return, Abort}
 use Rattle.courier_messages.specs.Conversation.{Phase}
-use Rattle.courier_messages.specs.Head.{with_words, words_in, head_in}
+use Rattle.courier_messages.specs.Head.{with_words, words_in}
 use Rattle.courier_messages.specs.Phases.{run, said, ◌then◌}
 use Rattle.courier_messages.specs.Text.{signs}
 use Rattle.xns_spp.specs.declared.item.Item.{Item}
@@ -15,19 +15,9 @@ use Rattle.courier_messages.specs.Refusal.{Foresees, Stops}
 use Rattle.courier_sessions.specs.Answering as answering
 use Rattle.courier_sessions.specs.Answering.{Answering, is_a_call, after_messages}
 use Rattle.courier_sessions.specs.Talk.{Talk, reply_fault, wrong_unless, answered_unless, with_ended_messages, after_item}
+use Rattle.courier_messages.proofs.Heads.{headed}
 use Rattle.courier_messages.proofs.Runs.{weaker}
 use Rattle.courier_sessions.proofs.Hearing.{nothing_said, one_said}
-
-whole : (m : Message) → m ≡ with_words (head_in m) (words_in m)
-whole (Call t p v q words) = refl
-whole (Reject t r words) = refl
-whole (Return t words) = refl
-whole (Abort t e words) = refl
-
--- a message with this head
-headed : (m : Message) (ms : List Message) (head : Head) → map head_in (m ∷ ms) ≡ head ∷ [] → (m ≡ with_words head (words_in m)) × (ms ≡ [])
-headed m [] head h = let e : head_in m ≡ head = cc in (whole m ∙ ap (λ (d : Head). with_words d (words_in m)) e, refl)
-headed m (n ∷ ms) head h = absurd cc
 
 -- the side that calls
 

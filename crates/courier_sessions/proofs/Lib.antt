@@ -5,4 +5,3 @@ pub mod Answered
 pub mod Agree
 pub mod Room
 pub mod Pumps
-pub mod Empties

@@ -1,6 +1,6 @@
 -- The side of a Courier conversation that is called, over words (XSIS 038112, Courier).
 use Rattle.std.specs.Prelude.{◌≡◌, ℕ, List, [], ◌∷◌, ◌++◌, length, Bool, true, false, ◌||◌, ◌==◌, nat_lt, if◌then◌else◌, Option, Some, None}
-use Rattle.std.specs.Prelude.{Result, Ok, Err}
+use Rattle.std.specs.Prelude.{Result, Ok}
 use Rattle.std.specs.Option.{is_some}
 use Rattle.xns_spp.specs.declared.item.Item.{Item}
 use Rattle.courier_messages.specs.declared.fault.SessionFault.{SessionFault}
@@ -8,6 +8,7 @@ use Rattle.courier_messages.specs.declared.message.Message.{Message}
 use Rattle.courier_messages.specs.declared.message.Message.TheVariants.{Call, Reject, Return, Abort}
 use Rattle.courier_messages.specs.Conversation.{Phase, opening}
 use Rattle.courier_messages.specs.Cutting.{cut, versions_item}
+pub use Rattle.courier_messages.specs.Head.{transaction_in}
 use Rattle.courier_messages.specs.Message.{most_words, message_words}
 use Rattle.courier_messages.specs.Phases.{run, said, ◌then◌}
 use Rattle.courier_messages.specs.Called.{called_ending}
@@ -87,12 +88,6 @@ is_a_call (Reject transaction reason words) = false
 is_a_call (Return transaction words) = false
 is_a_call (Abort transaction error words) = false
 
-abbrev pub transaction_in : Message → ℕ
-transaction_in (Call transaction program version procedure words) = transaction
-transaction_in (Reject transaction reason words) = transaction
-transaction_in (Return transaction words) = transaction
-transaction_in (Abort transaction error words) = transaction
-
 abbrev pub after_call : Answering → Message → Answering
 after_call a m = record a { call = None; asked = Some (transaction_in m) }
 
@@ -154,12 +149,10 @@ abbrev pub answer_refusal : Option ℕ → Answer → List ℕ → Option Answer
 answer_refusal None answer words = Some refusals.NoCall
 answer_refusal (Some transaction) answer words = length_refusal (answer_message answer transaction words)
 
--- what a function that gives an answer returns: why the answer may not be given, or, where it may, `Ok` or `NoMemory`
-abbrev pub AnswerAnswers : Option AnswerRefusal → Result (Unit {0}) AnswerRefusal → Type 0
-AnswerAnswers refusal (Ok u) = refusal ≡ None
-AnswerAnswers refusal (Err refusals.NoMemory) = refusal ≡ None
-AnswerAnswers refusal (Err refusals.NoCall) = refusal ≡ Some refusals.NoCall
-AnswerAnswers refusal (Err refusals.TooLong) = refusal ≡ Some refusals.TooLong
+-- the refusal that tells of want of memory
+abbrev pub is_want_of_memory : AnswerRefusal → Bool
+is_want_of_memory refusals.NoMemory = true
+is_want_of_memory _ = false
 
 abbrev pub with_answer_out : Answering → Message → Answering
 with_answer_out a m = record a { out = a.out ++ cut m; call = None; asked = None }

@@ -1,4 +1,5 @@
 pub mod Feeding
+pub mod Refusing
 pub mod Talk
 pub mod Talks
 pub mod Answering

@@ -49,13 +49,10 @@ call_refusal t c =
     else if nat_lt most_call_words (length c.words) then Some refusals.TooLong
     else None
 
--- what a function that makes a call returns: why the call may not be made, or, where it may, `Ok` or `NoMemory`
-abbrev pub CallAnswers : Option CallRefusal → Result (Unit {0}) CallRefusal → Type 0
-CallAnswers refusal (Ok u) = refusal ≡ None
-CallAnswers refusal (Err refusals.NoMemory) = refusal ≡ None
-CallAnswers refusal (Err refusals.Stopped) = refusal ≡ Some refusals.Stopped
-CallAnswers refusal (Err refusals.Busy) = refusal ≡ Some refusals.Busy
-CallAnswers refusal (Err refusals.TooLong) = refusal ≡ Some refusals.TooLong
+-- the refusal that tells of want of memory
+abbrev pub is_want_of_memory : CallRefusal → Bool
+is_want_of_memory refusals.NoMemory = true
+is_want_of_memory _ = false
 
 abbrev pub wrong_unless : Bool → Option SessionFault
 wrong_unless right = if right then None else Some WrongTransaction

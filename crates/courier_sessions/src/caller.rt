@@ -6,9 +6,11 @@ ghost use Rattle.courier_messages.specs.RawCalls.{words_call};
 ghost use Rattle.courier_messages.specs.Head.{with_words};
 ghost use Rattle.courier_sessions.specs.declared.call_refusal.CallRefusal.TheVariants as refusals;
 ghost use Rattle.courier_sessions.specs.Pumping.{caller_side};
-ghost use Rattle.courier_sessions.specs.Talk.{Talk, new_talk, called, call_refusal, CallAnswers, reply_fault, after_item};
+ghost use Rattle.courier_sessions.specs.Refusing.{IsRefusedAs};
+ghost use Rattle.courier_sessions.specs.Talk.{Talk, new_talk, called, call_refusal, is_want_of_memory, reply_fault, after_item};
 
 use crate::call_refusal::CallRefusal;
+use crate::heads::is_call;
 use crate::hearer::Hearer;
 use crate::intake::Intake;
 use crate::outgoing::put_message;
@@ -53,13 +55,10 @@ fn reply_fault(head: Head, waiting: bool, expects: u16) -> Option<SessionFault>
     ensures fault { (words : List ℕ) → result ≡ reply_fault waiting expects (with_words head words) }
     ensures memory { result ≡ Some NoMemory → ⊥ }
 {
-    let found = match head {
-        Head::Call { .. } => return Some(SessionFault::BadReply),
-        Head::Reject { transaction, .. } => transaction,
-        Head::Return { transaction } => transaction,
-        Head::Abort { transaction, .. } => transaction,
-    };
-    if waiting && found == expects {
+    if is_call(head) {
+        return Some(SessionFault::BadReply);
+    }
+    if waiting && head.transaction() == expects {
         None
     } else {
         Some(SessionFault::WrongTransaction)
@@ -113,7 +112,7 @@ impl WordCaller {
     /// Why a call of so many words can't be made now.
     fn refusal(&self, count: usize) -> Result<(), CallRefusal>
         ensures answer { (program version procedure : ℕ) (words : List ℕ) → length words ≡ count
-            → CallAnswers (call_refusal self.now (words_call program version procedure words)) result }
+            → IsRefusedAs is_want_of_memory (call_refusal self.now (words_call program version procedure words)) result }
         ensures apart { result ≡ Err refusals.NoMemory → ⊥ }
     {
         if self.failed {
@@ -140,7 +139,7 @@ impl WordCaller {
         procedure: u16,
         words: &[u16],
     ) -> Result<(), CallRefusal>
-        ensures answer { CallAnswers (call_refusal self.old (words_call program version procedure words.now)) result }
+        ensures answer { IsRefusedAs is_want_of_memory (call_refusal self.old (words_call program version procedure words.now)) result }
         ensures called { result ≡ Ok tt → self.new ≡ called self.old (words_call program version procedure words.now) }
         ensures unchanged { OnErr result (self.new ≡ self.old) }
     {

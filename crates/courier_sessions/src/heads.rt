@@ -3,7 +3,7 @@
 ghost use Rattle.std.specs.Prelude.{◌≡◌, ℕ, List, length, nat_lt};
 ghost use Rattle.courier_messages.specs.Head.{with_words};
 ghost use Rattle.courier_messages.specs.Message.{message_words, most_words};
-ghost use Rattle.courier_sessions.specs.Answering.{answer_message, is_a_call, is_reject, transaction_in};
+ghost use Rattle.courier_sessions.specs.Answering.{answer_message, is_a_call, is_reject};
 
 use crate::answer::Answer;
 use courier_messages::{Head, MOST_BYTES};
@@ -16,18 +16,6 @@ pub fn is_call(head: Head) -> bool
     ensures { (words : List ℕ) → result ≡ is_a_call (with_words head words) }
 {
     matches!(head, Head::Call { .. })
-}
-
-/// The transaction of a message with this head.
-pub fn transaction_of(head: Head) -> u16
-    ensures { (words : List ℕ) → result ≡ transaction_in (with_words head words) }
-{
-    match head {
-        Head::Call { transaction, .. }
-        | Head::Reject { transaction, .. }
-        | Head::Return { transaction }
-        | Head::Abort { transaction, .. } => transaction,
-    }
 }
 
 /// The head of an answer to the call of this transaction.

@@ -62,7 +62,7 @@ impl Intake {
     }
 
     /// Takes in one more item: the message that it ends, if it ends one. Where memory is refused, nothing is changed.
-    #[tactic(auto, using(crate::proofs::Empties::behind_last))]
+    #[tactic(auto, using(courier_messages::proofs::Empties::behind_last))]
     #[inline(always)]
     pub fn take(&mut self, alloc: Global, item: Item) -> Result<Option<PiecedMessage>, SessionFault>
         ensures takes { ComesToWith result (run self.old (signs item)) (said self.old (signs item)) self.new }

@@ -9,13 +9,14 @@ ghost use Rattle.courier_messages.specs.Cutting.{cut};
 ghost use Rattle.courier_messages.specs.Head.{with_words};
 ghost use Rattle.courier_sessions.specs.Answering.{Answering, new_answering, is_busy, after_item, transaction_in};
 ghost use Rattle.courier_sessions.specs.Answering.{after_call, why_unlisted, reject_message, after_reject, answer_message, answers_to};
-ghost use Rattle.courier_sessions.specs.Answering.{answer_refusal, AnswerAnswers, with_answer_out};
+ghost use Rattle.courier_sessions.specs.Answering.{answer_refusal, is_want_of_memory, with_answer_out};
 ghost use Rattle.courier_sessions.specs.Pumping.{server_side};
+ghost use Rattle.courier_sessions.specs.Refusing.{IsRefusedAs};
 ghost use Rattle.courier_sessions.specs.declared.unlisted.Unlisted.{Unlisted};
 
 use crate::answer::Answer;
 use crate::answer_refusal::AnswerRefusal;
-use crate::heads::{answer_head, is_call, is_reject, is_too_long, transaction_of};
+use crate::heads::{answer_head, is_call, is_reject, is_too_long};
 use crate::hearer::Hearer;
 use crate::intake::Intake;
 use crate::outgoing::put_message;
@@ -110,7 +111,7 @@ impl WordServer {
             return None;
         }
         let found = self.call.take()?;
-        self.asked = Some(transaction_of(found.head()));
+        self.asked = Some(found.head().transaction());
         Some(found)
     }
 
@@ -124,7 +125,7 @@ impl WordServer {
         let found = self.call.as_ref()?;
         let head = found.head();
         let unlisted = refusal(self.programs.as_slice(), head)?;
-        Some((transaction_of(head), unlisted))
+        Some((head.transaction(), unlisted))
     }
 
     /// Puts out the reject of the call that waits.
@@ -190,7 +191,7 @@ impl WordServer {
         let head = found.head();
         match refusal(self.programs.as_slice(), head) {
             Some(_) => None,
-            None => Some(transaction_of(head)),
+            None => Some(head.transaction()),
         }
     }
 
@@ -202,7 +203,7 @@ impl WordServer {
         answer: Answer,
         words: &[u16],
     ) -> Result<(), AnswerRefusal>
-        ensures answer { AnswerAnswers (answer_refusal asked answer words.now) result }
+        ensures answer { IsRefusedAs is_want_of_memory (answer_refusal asked answer words.now) result }
         ensures answered { (k : ℕ) → asked ≡ Some k → result ≡ Ok tt → self.new ≡ with_answer_out self.old (answer_message answer k words.now) }
         ensures unchanged { OnErr result (self.new ≡ self.old) }
     {
@@ -229,7 +230,7 @@ impl WordServer {
         answer: Answer,
         words: &[u16],
     ) -> Result<(), AnswerRefusal>
-        ensures answer { AnswerAnswers (answer_refusal self.old.asked answer words.now) result }
+        ensures answer { IsRefusedAs is_want_of_memory (answer_refusal self.old.asked answer words.now) result }
         ensures answered { (k : ℕ) → self.old.asked ≡ Some k → result ≡ Ok tt
             → self.new ≡ with_answer_out self.old (answer_message answer k words.now) }
         ensures unchanged { OnErr result (self.new ≡ self.old) }
@@ -246,7 +247,7 @@ impl WordServer {
         answer: Answer,
         words: &[u16],
     ) -> Result<(), AnswerRefusal>
-        ensures answer { AnswerAnswers (answer_refusal (answers_to self.old answer) answer words.now) result }
+        ensures answer { IsRefusedAs is_want_of_memory (answer_refusal (answers_to self.old answer) answer words.now) result }
         ensures answered { (k : ℕ) → answers_to self.old answer ≡ Some k → result ≡ Ok tt
             → self.new ≡ with_answer_out self.old (answer_message answer k words.now) }
         ensures unchanged { OnErr result (self.new ≡ self.old) }

@@ -6,6 +6,8 @@ use Rattle.std.specs.Int.Signed.{mag}
 use Rattle.std.specs.List.{flat_map}
 use Rattle.std.proofs.Math.Facts.{sfits_to_z}
 use Rattle.std.proofs.lemmas.List.{append_cancel_left}
+use Rattle.courier_types.specs.declared.predefined.Predefined.{Predefined}
+use Rattle.courier_types.specs.declared.predefined.Predefined.TheVariants.{Boolean, Cardinal, LongCardinal, Integer, LongInteger, Unspecified, Text}
 use Rattle.courier_types.specs.Value.{ValueModel}
 use Rattle.courier_types.specs.Spelling.{SpellsValue, SpellsBytes}
 use Rattle.courier_types.proofs.Fitted.{long_fits}
@@ -49,59 +51,42 @@ booleans false false x y e = (refl, append_cancel_left (codes "FALSE") x y e)
 booleans true false x y e = absurd (omega (arith, (heads 84 70 (82 ∷ 85 ∷ 69 ∷ x) (65 ∷ 76 ∷ 83 ∷ 69 ∷ y) e).0))
 booleans false true x y e = absurd (omega (arith, (heads 70 84 (65 ∷ 76 ∷ 83 ∷ 69 ∷ x) (82 ∷ 85 ∷ 69 ∷ y) e).0))
 
-pub tells_boolean : Tells NamedModel.boolean
-unfolding value_text
-tells_boolean v w a b x y s t ax ay e =
-    told ValueModel.boolean s.0 t.0 s.1 t.1 (booleans s.0 t.0 x y (known NamedModel.boolean v w _ _ x y s.1 t.1 e))
-
 pub small : (n : ℕ) → n < 2 ^ 16 → n < 2 ^ 64
 small n h = omega arith
 
 pub long : (n : ℕ) → n < 2 ^ 32 → n < 2 ^ 64
 long n h = omega arith
 
-pub tells_cardinal : Tells NamedModel.cardinal
-unfolding value_text
-tells_cardinal v w a b x y s t ax ay e =
-    told ValueModel.cardinal s.0 t.0 s.2 t.2 (numbers s.0 t.0 x y (small s.0 s.1) (small t.0 t.1) ax ay (known NamedModel.cardinal v w _ _ x y s.2 t.2 e))
-
-pub tells_unspecified : Tells NamedModel.unspecified
-unfolding value_text
-tells_unspecified v w a b x y s t ax ay e =
-    told ValueModel.unspecified s.0 t.0 s.2 t.2 (numbers s.0 t.0 x y (small s.0 s.1) (small t.0 t.1) ax ay (known NamedModel.unspecified v w _ _ x y s.2 t.2 e))
-
-pub tells_long_cardinal : Tells NamedModel.long_cardinal
-unfolding value_text
-tells_long_cardinal v w a b x y s t ax ay e =
-    let n = s.0 * 2 ^ 16 + s.1 in
-    let m = t.0 * 2 ^ 16 + t.1 in
-    told ValueModel.long_cardinal n m s.4 t.4 (numbers n m x y (long n (long_fits s.0 s.1 s.2 s.3)) (long m (long_fits t.0 t.1 t.2 t.3)) ax ay (known NamedModel.long_cardinal v w _ _ x y s.4 t.4 e))
-
-pub tells_integer : Tells NamedModel.integer
-unfolding value_text
-tells_integer v w a b x y s t ax ay e =
-    let z = cast_signed w16 s.0 in
-    let u = cast_signed w16 t.0 in
-    told ValueModel.integer z u s.2 t.2 (integers z u x y (word_small s.0 s.1) (word_small t.0 t.1) ax ay (known NamedModel.integer v w _ _ x y s.2 t.2 e))
-
-pub tells_long_integer : Tells NamedModel.long_integer
-unfolding value_text
-tells_long_integer v w a b x y s t ax ay e =
-    let n = s.0 * 2 ^ 16 + s.1 in
-    let m = t.0 * 2 ^ 16 + t.1 in
-    let z = cast_signed w32 n in
-    let u = cast_signed w32 m in
-    told ValueModel.long_integer z u s.4 t.4 (integers z u x y (long_small n (long_fits s.0 s.1 s.2 s.3)) (long_small m (long_fits t.0 t.1 t.2 t.3)) ax ay (known NamedModel.long_integer v w _ _ x y s.4 t.4 e))
-
 small_bytes : (bytes words : List ℕ) → SpellsBytes bytes words → AreSmall bytes
 small_bytes [] words s = tt
 small_bytes (b ∷ []) words s = (s.1, tt)
 small_bytes (b ∷ c ∷ bytes) words s = (s.1, (s.2, small_bytes bytes s.0 s.4))
 
-pub tells_text : Tells NamedModel.text
+-- the values of a predefined type
+pub tells_predefined : (type : Predefined) → Tells (NamedModel.predefined type)
 unfolding value_text
-tells_text v w a b x y s t ax ay e =
-    let both : quoted s.0 ++ x ≡ quoted t.0 ++ y = known NamedModel.text v w _ _ x y s.3 t.3 e in
+tells_predefined Boolean v w a b x y s t ax ay e =
+    told ValueModel.boolean s.0 t.0 s.1 t.1 (booleans s.0 t.0 x y (known (NamedModel.predefined Boolean) v w _ _ x y s.1 t.1 e))
+tells_predefined Cardinal v w a b x y s t ax ay e =
+    told ValueModel.cardinal s.0 t.0 s.2 t.2 (numbers s.0 t.0 x y (small s.0 s.1) (small t.0 t.1) ax ay (known (NamedModel.predefined Cardinal) v w _ _ x y s.2 t.2 e))
+tells_predefined LongCardinal v w a b x y s t ax ay e =
+    let n = s.0 * 2 ^ 16 + s.1 in
+    let m = t.0 * 2 ^ 16 + t.1 in
+    told ValueModel.long_cardinal n m s.4 t.4 (numbers n m x y (long n (long_fits s.0 s.1 s.2 s.3)) (long m (long_fits t.0 t.1 t.2 t.3)) ax ay (known (NamedModel.predefined LongCardinal) v w _ _ x y s.4 t.4 e))
+tells_predefined Integer v w a b x y s t ax ay e =
+    let z = cast_signed w16 s.0 in
+    let u = cast_signed w16 t.0 in
+    told ValueModel.integer z u s.2 t.2 (integers z u x y (word_small s.0 s.1) (word_small t.0 t.1) ax ay (known (NamedModel.predefined Integer) v w _ _ x y s.2 t.2 e))
+tells_predefined LongInteger v w a b x y s t ax ay e =
+    let n = s.0 * 2 ^ 16 + s.1 in
+    let m = t.0 * 2 ^ 16 + t.1 in
+    let z = cast_signed w32 n in
+    let u = cast_signed w32 m in
+    told ValueModel.long_integer z u s.4 t.4 (integers z u x y (long_small n (long_fits s.0 s.1 s.2 s.3)) (long_small m (long_fits t.0 t.1 t.2 t.3)) ax ay (known (NamedModel.predefined LongInteger) v w _ _ x y s.4 t.4 e))
+tells_predefined Unspecified v w a b x y s t ax ay e =
+    told ValueModel.unspecified s.0 t.0 s.2 t.2 (numbers s.0 t.0 x y (small s.0 s.1) (small t.0 t.1) ax ay (known (NamedModel.predefined Unspecified) v w _ _ x y s.2 t.2 e))
+tells_predefined Text v w a b x y s t ax ay e =
+    let both : quoted s.0 ++ x ≡ quoted t.0 ++ y = known (NamedModel.predefined Text) v w _ _ x y s.3 t.3 e in
     let inside = (heads 34 34 ((flat_map quoted_byte s.0 ++ 34 ∷ []) ++ x) ((flat_map quoted_byte t.0 ++ 34 ∷ []) ++ y) both).1 in
     told ValueModel.text s.0 t.0 s.3 t.3
     (strings s.0 t.0 x y (small_bytes s.0 s.1 s.5) (small_bytes t.0 t.1 t.5)

@@ -3,15 +3,17 @@ use Rattle.std.proofs.Common.{◌≡◌, ℕ, ◌+◌, ◌*◌, ◌^◌, inl, in
 use Rattle.std.specs.Prelude.{◌≢◌}
 use Rattle.std.specs.Int.{w16, w32, cast_signed}
 use Rattle.std.proofs.lemmas.List.{append_cancel_left}
+use Rattle.courier_types.specs.declared.predefined.Predefined.{Predefined}
+use Rattle.courier_types.specs.declared.predefined.Predefined.TheVariants.{Boolean, Cardinal, LongCardinal, Integer, LongInteger, Unspecified, Text}
 use Rattle.courier_types.specs.Value.{ValueModel, ValueModels, no_values, value_and}
 use Rattle.courier_types.specs.Laws.{FittingValueIsSpelled}
 use Rattle.courier_types.specs.Spelling.{SpellsFields, SpellsMember, value_spelling}
 use Rattle.courier_texts.specs.Named.{NamedModel, ComponentModels, no_components, component_and, VariantModels, no_variants, variant_and, shape_of, shapes_of, members_of}
-use Rattle.courier_texts.specs.Printing.{value_text, components_text, variant_text}
+use Rattle.courier_texts.specs.Printing.{boolean_text, value_text, components_text, variant_text}
 use Rattle.courier_texts.specs.Laws.{is_plain_name, NamesNoVariant, IsNamed, AreComponentsNamed, AreVariantsNamed, EqualTextsAreOfEqualValues}
 use Rattle.courier_types.proofs.Fitted.{long_fits}
 use Rattle.courier_texts.proofs.Apart.{IsApart, Starts, split, heads, decimal_starts, signed_starts}
-use Rattle.courier_texts.proofs.Alike.{Tells, known, told, small, long, word_small, long_small, tells_boolean, tells_cardinal, tells_unspecified, tells_long_cardinal, tells_integer, tells_long_integer, tells_text}
+use Rattle.courier_texts.proofs.Alike.{Tells, known, told, small, long, word_small, long_small, tells_predefined}
 use Rattle.courier_texts.proofs.Parts.{StartsPlain, in_brackets, plain_name, name_starts, listed_starts, tells_enumeration, tells_array, tells_sequence}
 
 -- ---- records
@@ -123,8 +125,7 @@ tells_choice parts more v w a b x y s t ax ay e =
 starts_known : (type : NamedModel) (v v' : ValueModel) (more : List ℕ) → v ≡ v' → Starts (value_text type v' ++ more) → Starts (value_text type v ++ more)
 starts_known type v v' more e h = let P : ValueModel → Type 0 = λ u. Starts (value_text type u ++ more) in subst P (sym e) h
 
-starts_boolean : (b : Bool) (more : List ℕ) → Starts (value_text NamedModel.boolean (ValueModel.boolean b) ++ more)
-unfolding value_text
+starts_boolean : (b : Bool) (more : List ℕ) → Starts (boolean_text b ++ more)
 starts_boolean true more = refl
 starts_boolean false more = refl
 
@@ -137,17 +138,21 @@ starts_choice (variant_and name e part parts) d v a more h (inr s) =
     let P : List ℕ → Type 0 = Starts in
     subst P (sym (ap (λ (l : List ℕ). l ++ more) (variant_past name e part parts d v s.0))) (starts_choice parts d v a more h.3 s.1)
 
+starts_predefined : (type : Predefined) → StartsPlain (NamedModel.predefined type)
+unfolding value_text
+starts_predefined Boolean v a more s = starts_known (NamedModel.predefined Boolean) v _ more s.1 (starts_boolean s.0 more)
+starts_predefined Cardinal v a more s = starts_known (NamedModel.predefined Cardinal) v _ more s.2 (decimal_starts s.0 more (small s.0 s.1))
+starts_predefined LongCardinal v a more s =
+    starts_known (NamedModel.predefined LongCardinal) v _ more s.4 (decimal_starts (s.0 * 2 ^ 16 + s.1) more (long (s.0 * 2 ^ 16 + s.1) (long_fits s.0 s.1 s.2 s.3)))
+starts_predefined Integer v a more s = starts_known (NamedModel.predefined Integer) v _ more s.2 (signed_starts (cast_signed w16 s.0) more (word_small s.0 s.1))
+starts_predefined LongInteger v a more s =
+    starts_known (NamedModel.predefined LongInteger) v _ more s.4 (signed_starts (cast_signed w32 (s.0 * 2 ^ 16 + s.1)) more (long_small (s.0 * 2 ^ 16 + s.1) (long_fits s.0 s.1 s.2 s.3)))
+starts_predefined Unspecified v a more s = starts_known (NamedModel.predefined Unspecified) v _ more s.2 (decimal_starts s.0 more (small s.0 s.1))
+starts_predefined Text v a more s = starts_known (NamedModel.predefined Text) v _ more s.3 refl
+
 starts : (type : NamedModel) → IsNamed type → StartsPlain type
 unfolding value_text
-starts NamedModel.boolean h v a more s = starts_known NamedModel.boolean v _ more s.1 (starts_boolean s.0 more)
-starts NamedModel.cardinal h v a more s = starts_known NamedModel.cardinal v _ more s.2 (decimal_starts s.0 more (small s.0 s.1))
-starts NamedModel.long_cardinal h v a more s =
-    starts_known NamedModel.long_cardinal v _ more s.4 (decimal_starts (s.0 * 2 ^ 16 + s.1) more (long (s.0 * 2 ^ 16 + s.1) (long_fits s.0 s.1 s.2 s.3)))
-starts NamedModel.integer h v a more s = starts_known NamedModel.integer v _ more s.2 (signed_starts (cast_signed w16 s.0) more (word_small s.0 s.1))
-starts NamedModel.long_integer h v a more s =
-    starts_known NamedModel.long_integer v _ more s.4 (signed_starts (cast_signed w32 (s.0 * 2 ^ 16 + s.1)) more (long_small (s.0 * 2 ^ 16 + s.1) (long_fits s.0 s.1 s.2 s.3)))
-starts NamedModel.unspecified h v a more s = starts_known NamedModel.unspecified v _ more s.2 (decimal_starts s.0 more (small s.0 s.1))
-starts NamedModel.text h v a more s = starts_known NamedModel.text v _ more s.3 refl
+starts (NamedModel.predefined type) h v a more s = starts_predefined type v a more s
 starts (NamedModel.enumeration members) h v a more s = starts_known (NamedModel.enumeration members) v _ more s.3 (listed_starts members s.0 more h s.2)
 starts (NamedModel.array n element) h v a more s = starts_known (NamedModel.array n element) v _ more s.1 refl
 starts (NamedModel.sequence most element) h v a more s = starts_known (NamedModel.sequence most element) v _ more s.5 refl
@@ -159,13 +164,7 @@ no_variants_told d f v w a b x y s t ax ay e = absurd s
 
 mutual
   tells : (type : NamedModel) → IsNamed type → Tells type
-  tells NamedModel.boolean h = tells_boolean
-  tells NamedModel.cardinal h = tells_cardinal
-  tells NamedModel.long_cardinal h = tells_long_cardinal
-  tells NamedModel.integer h = tells_integer
-  tells NamedModel.long_integer h = tells_long_integer
-  tells NamedModel.unspecified h = tells_unspecified
-  tells NamedModel.text h = tells_text
+  tells (NamedModel.predefined type) h = tells_predefined type
   tells (NamedModel.enumeration members) h = tells_enumeration members h
   tells (NamedModel.array n element) h = tells_array n element (tells element h) (starts element h)
   tells (NamedModel.sequence most element) h = tells_sequence most element (tells element h) (starts element h)

@@ -1,20 +1,15 @@
 -- Types with their names.
 use Rattle.std.specs.Prelude.{ℕ, ◌<◌, List, [], ◌∷◌, length, map}
 use Rattle.std.specs.Global.{Vec}
-use Rattle.courier_types.specs.Shape.{ShapeModel, ShapeModels, no_shapes, shape_and, MemberModels, no_members, member_and}
+use Rattle.courier_types.specs.declared.predefined.Predefined.{Predefined}
+use Rattle.courier_types.specs.Shape.{ShapeModel, ShapeModels, no_shapes, shape_and, MemberModels, no_members, member_and, predefined_shape}
 use Rattle.courier_texts.specs.declared.named.Named.{Named, fold-Named}
 use Rattle.courier_texts.specs.declared.named.Named.TheOpen.{Named-F}
 
 -- a type with its names, without where it lies in memory
 mutual
   pub data NamedModel : Type 0 where
-    boolean : NamedModel
-    cardinal : NamedModel
-    long_cardinal : NamedModel
-    integer : NamedModel
-    long_integer : NamedModel
-    unspecified : NamedModel
-    text : NamedModel
+    predefined : Predefined → NamedModel
     enumeration : List (List ℕ × ℕ) → NamedModel
     array : ℕ → NamedModel → NamedModel
     sequence : ℕ → NamedModel → NamedModel
@@ -46,13 +41,7 @@ variants_seen (v ∷ vs) = variant_and v.0.items v.1.0 v.1.1 (variants_seen vs)
 
 -- one level, where the types inside are seen already
 abbrev pub named_level : Named-F NamedModel → NamedModel
-named_level Named-F.Boolean = NamedModel.boolean
-named_level Named-F.Cardinal = NamedModel.cardinal
-named_level Named-F.LongCardinal = NamedModel.long_cardinal
-named_level Named-F.Integer = NamedModel.integer
-named_level Named-F.LongInteger = NamedModel.long_integer
-named_level Named-F.Unspecified = NamedModel.unspecified
-named_level Named-F.Text = NamedModel.text
+named_level (Named-F.Predefined type) = NamedModel.predefined type
 named_level (Named-F.Enumeration members) = NamedModel.enumeration (members_seen members.items)
 named_level (Named-F.Array n element) = NamedModel.array n element.value
 named_level (Named-F.Sequence most element) = NamedModel.sequence most element.value
@@ -85,13 +74,7 @@ HasParts _ = ⊥
 -- the shape of a named shape, without its names
 abbrev mutual
   pub shape_of : NamedModel → ShapeModel
-  shape_of NamedModel.boolean = ShapeModel.boolean
-  shape_of NamedModel.cardinal = ShapeModel.cardinal
-  shape_of NamedModel.long_cardinal = ShapeModel.long_cardinal
-  shape_of NamedModel.integer = ShapeModel.integer
-  shape_of NamedModel.long_integer = ShapeModel.long_integer
-  shape_of NamedModel.unspecified = ShapeModel.unspecified
-  shape_of NamedModel.text = ShapeModel.text
+  shape_of (NamedModel.predefined type) = predefined_shape type
   shape_of (NamedModel.enumeration members) = ShapeModel.enumeration (map (λ m. m.1) members)
   shape_of (NamedModel.array n element) = ShapeModel.array n (shape_of element)
   shape_of (NamedModel.sequence most element) = ShapeModel.sequence most (shape_of element)

@@ -3,6 +3,8 @@
 use Rattle.std.specs.Prelude.{ℕ, ◌+◌, ◌/◌, ◌%◌, ◌==◌, List, [], ◌∷◌, ◌++◌, Bool, true, false, nat_lt, if◌then◌else◌, codes}
 use Rattle.std.specs.List.{flat_map}
 use Rattle.std.specs.Fmt.{decimal, signed_decimal}
+use Rattle.courier_types.specs.declared.predefined.Predefined.{Predefined}
+use Rattle.courier_types.specs.declared.predefined.Predefined.TheVariants.{Boolean, Cardinal, LongCardinal, Integer, LongInteger, Unspecified, Text}
 use Rattle.courier_types.specs.Value.{ValueModel, ValueModels, no_values, value_and}
 use Rattle.courier_texts.specs.Named.{NamedModel, ComponentModels, component_and, VariantModels, no_variants, variant_and}
 
@@ -28,6 +30,17 @@ quoted_byte byte =
 abbrev pub quoted : List ℕ → List ℕ
 quoted bytes = 34 ∷ flat_map quoted_byte bytes ++ 34 ∷ []
 
+-- a value of a predefined type; another value has no text
+abbrev pub predefined_text : Predefined → ValueModel → List ℕ
+predefined_text Boolean (ValueModel.boolean b) = boolean_text b
+predefined_text Cardinal (ValueModel.cardinal n) = decimal n
+predefined_text LongCardinal (ValueModel.long_cardinal n) = decimal n
+predefined_text Integer (ValueModel.integer z) = signed_decimal z
+predefined_text LongInteger (ValueModel.long_integer z) = signed_decimal z
+predefined_text Unspecified (ValueModel.unspecified n) = decimal n
+predefined_text Text (ValueModel.text bytes) = quoted bytes
+predefined_text _ _ = []
+
 -- the name of a member; a word that is not listed has none
 abbrev pub member_text : List (List ℕ × ℕ) → ℕ → List ℕ
 member_text [] n = []
@@ -42,13 +55,7 @@ elements_text front one (value_and v vs) = front ++ one v ++ elements_text (code
 -- that do.
 unfoldable mutual
   pub value_text : NamedModel → ValueModel → List ℕ
-  value_text NamedModel.boolean (ValueModel.boolean b) = boolean_text b
-  value_text NamedModel.cardinal (ValueModel.cardinal n) = decimal n
-  value_text NamedModel.long_cardinal (ValueModel.long_cardinal n) = decimal n
-  value_text NamedModel.integer (ValueModel.integer z) = signed_decimal z
-  value_text NamedModel.long_integer (ValueModel.long_integer z) = signed_decimal z
-  value_text NamedModel.unspecified (ValueModel.unspecified n) = decimal n
-  value_text NamedModel.text (ValueModel.text bytes) = quoted bytes
+  value_text (NamedModel.predefined type) v = predefined_text type v
   value_text (NamedModel.enumeration members) (ValueModel.enumeration n) = member_text members n
   value_text (NamedModel.array n element) (ValueModel.array vs) = codes "[" ++ elements_text [] (value_text element) vs ++ codes "]"
   value_text (NamedModel.sequence most element) (ValueModel.sequence vs) = codes "[" ++ elements_text [] (value_text element) vs ++ codes "]"

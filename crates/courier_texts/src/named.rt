@@ -1,15 +1,11 @@
 //! Types with their names, complete in themselves.
 
+use courier_types::Predefined;
+
 /// A type whose names are known, in which no other type is referred to. Its shape, which has no names, tells its words.
 #[derive(Debug, Drop, PartialEq, Eq)]
 pub enum Named {
-    Boolean,
-    Cardinal,
-    LongCardinal,
-    Integer,
-    LongInteger,
-    Unspecified,
-    Text,
+    Predefined(Predefined),
     /// The names of the members, and their words.
     Enumeration(Vec<(Vec<u8>, u16)>),
     Array(u16, Box<Named>),

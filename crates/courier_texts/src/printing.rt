@@ -6,13 +6,13 @@ ghost use Rattle.std.specs.Fmt.{decimal, signed_decimal};
 ghost use Rattle.courier_types.specs.Value.{value_model, value_models};
 ghost use Rattle.courier_texts.specs.Named.{component_models, members_seen, named_model, variant_models};
 ghost use Rattle.courier_texts.specs.Appending.{Appends, most_text};
-ghost use Rattle.courier_texts.specs.Printing.{boolean_text, components_text, elements_text, escaped, hex_digit, member_text};
+ghost use Rattle.courier_texts.specs.Printing.{boolean_text, components_text, elements_text, escaped, hex_digit, member_text, predefined_text};
 ghost use Rattle.courier_texts.specs.Printing.{quoted as quoted_of, quoted_byte, value_text, variant_text};
 
 use crate::appending::append;
 use crate::named::Named;
 use crate::text_refusal::TextRefusal;
-use courier_types::Value;
+use courier_types::{Predefined, Value};
 use itoa::Buffer;
 
 /// `TRUE` or `FALSE`.
@@ -105,6 +105,29 @@ fn print_text(out: &mut Vec<u8>, bytes: &[u8]) -> Result<(), TextRefusal>
     append(out, b"\"")
 }
 
+/// A value of the predefined type; nothing of another value.
+fn print_predefined(
+    out: &mut Vec<u8>,
+    predefined: Predefined,
+    value: &Value,
+) -> Result<(), TextRefusal>
+    requires { vec_len out.old ≤ most_text }
+    ensures { Appends result (predefined_text predefined (value_model value.now)) out.old out.new }
+{
+    match (predefined, value) {
+        (Predefined::Boolean, Value::Boolean(bit)) => print_boolean(out, *bit),
+        (Predefined::Cardinal, Value::Cardinal(number)) => print_number(out, u32::from(*number)),
+        (Predefined::LongCardinal, Value::LongCardinal(number)) => print_number(out, *number),
+        (Predefined::Integer, Value::Integer(number)) => print_signed(out, i32::from(*number)),
+        (Predefined::LongInteger, Value::LongInteger(number)) => print_signed(out, *number),
+        (Predefined::Unspecified, Value::Unspecified(number)) => {
+            print_number(out, u32::from(*number))
+        }
+        (Predefined::Text, Value::Text(bytes)) => print_text(out, bytes),
+        _ => Ok(()),
+    }
+}
+
 /// The name of the member that has the word; nothing where none has it.
 fn print_member(out: &mut Vec<u8>, members: &[(Vec<u8>, u16)], word: u16) -> Result<(), TextRefusal>
     requires { vec_len out.old ≤ most_text }
@@ -118,30 +141,20 @@ fn print_member(out: &mut Vec<u8>, members: &[(Vec<u8>, u16)], word: u16) -> Res
     Ok(())
 }
 
-/// Elements with commas between.
+/// Elements in brackets, with commas between.
 #[cycle(print)]
 fn print_elements(out: &mut Vec<u8>, element: &Named, values: &[Value]) -> Result<(), TextRefusal>
     requires { vec_len out.old ≤ most_text }
-    ensures { Appends result (elements_text [] (value_text (named_model element.now)) (value_models values.now)) out.old out.new }
+    ensures { Appends result (codes "["
+        ++ elements_text [] (value_text (named_model element.now)) (value_models values.now) ++ codes "]") out.old out.new }
 {
+    append(out, b"[")?;
     let mut front: &[u8] = b"";
     for value in values {
         append(out, front)?;
         print_value(out, element, value)?;
         front = b", ";
     }
-    Ok(())
-}
-
-/// Elements in brackets.
-#[cycle(print)]
-fn print_list(out: &mut Vec<u8>, element: &Named, values: &[Value]) -> Result<(), TextRefusal>
-    requires { vec_len out.old ≤ most_text }
-    ensures { Appends result (codes "["
-        ++ elements_text [] (value_text (named_model element.now)) (value_models values.now) ++ codes "]") out.old out.new }
-{
-    append(out, b"[")?;
-    print_elements(out, element, values)?;
     append(out, b"]")
 }
 
@@ -234,18 +247,14 @@ pub fn print_value(out: &mut Vec<u8>, named: &Named, value: &Value) -> Result<()
     ensures { Appends result (value_text (named_model named.now) (value_model value.now)) out.old out.new }
 {
     match (named, value) {
-        (Named::Boolean, Value::Boolean(bit)) => print_boolean(out, *bit),
-        (Named::Cardinal, Value::Cardinal(number)) => print_number(out, u32::from(*number)),
-        (Named::LongCardinal, Value::LongCardinal(number)) => print_number(out, *number),
-        (Named::Integer, Value::Integer(number)) => print_signed(out, i32::from(*number)),
-        (Named::LongInteger, Value::LongInteger(number)) => print_signed(out, *number),
-        (Named::Unspecified, Value::Unspecified(number)) => print_number(out, u32::from(*number)),
-        (Named::Text, Value::Text(bytes)) => print_text(out, bytes),
+        (Named::Predefined(predefined), _) => print_predefined(out, *predefined, value),
         (Named::Enumeration(members), Value::Enumeration(word)) => print_member(
             out, members, *word,
         ),
-        (Named::Array(_, element), Value::Array(values)) => print_list(out, element, values),
-        (Named::Sequence(_, element), Value::Sequence(values)) => print_list(out, element, values),
+        (Named::Array(_, element), Value::Array(values)) => print_elements(out, element, values),
+        (Named::Sequence(_, element), Value::Sequence(values)) => print_elements(
+            out, element, values,
+        ),
         (Named::Record(components), Value::Fields(values)) => print_record(out, components, values),
         (Named::Choice(variants), Value::Choice(designator, value)) => print_chosen(
             out,

@@ -68,13 +68,7 @@ pub fn shape_of(alloc: Global, named: &Named) -> Result<Shape, AllocError>
     ensures memory { OnErr result (HasParts (named_model named.now)) }
 {
     match named {
-        Named::Boolean => Ok(Shape::Boolean),
-        Named::Cardinal => Ok(Shape::Cardinal),
-        Named::LongCardinal => Ok(Shape::LongCardinal),
-        Named::Integer => Ok(Shape::Integer),
-        Named::LongInteger => Ok(Shape::LongInteger),
-        Named::Unspecified => Ok(Shape::Unspecified),
-        Named::Text => Ok(Shape::Text),
+        Named::Predefined(predefined) => Ok(predefined.shape()),
         Named::Enumeration(members) => Ok(Shape::Enumeration(words_of(alloc, members)?)),
         Named::Array(count, element) => {
             let shape = shape_of(alloc, element)?;

@@ -31,6 +31,9 @@ element_has_words shape h = no_words_no_fault (wordless shape) (neither (element
 pub element_is_sound : (shape : ShapeModel) → option_or (element_fault (wordless shape)) (first_fault shape) ≡ None → first_fault shape ≡ None
 element_is_sound shape h = (neither (element_fault (wordless shape)) (first_fault shape) h).1
 
+pub elements_are_sound : (shape : ShapeModel) → option_or (element_fault (wordless shape)) (first_fault shape) ≡ None → (wordless shape ≡ false) × (first_fault shape ≡ None)
+elements_are_sound shape h = (element_has_words shape h, element_is_sound shape h)
+
 parts_from : (parts : List Shape) (i : ℕ) → faults_of_parts (shape_models parts) ≡ None → faults_of_parts (shape_models (drop i parts)) ≡ None
 parts_from parts zero h = h
 parts_from [] (suc i) h = h

@@ -2,7 +2,6 @@ use crate::outcome::{Outcome, put_count};
 use crate::player::SERVER;
 use crate::station::{LISTED, Station, both};
 use courier_messages::PiecedMessage;
-use courier_sessions::Answer;
 use std::alloc::{AllocError, Global};
 use xns_host::{Event, HostFault, Settings};
 
@@ -34,7 +33,7 @@ fn host_of(alloc: Global, host: [u8; 6]) -> Result<Station, HostFault> {
         connections: CONNECTIONS,
         ..Settings::default()
     };
-    Station::new(alloc, 1, host, settings, [3; 32])
+    Station::new(alloc, host, settings, [3; 32])
 }
 
 /// Carries the packets of one host to the other, of which some are lost.
@@ -80,7 +79,7 @@ impl Crowd {
     fn open(&mut self) -> Result<(), HostFault> {
         self.server.serve(SERVER.socket, &[LISTED])?;
         for _ in 0..CONNECTIONS {
-            self.client.connect(self.now, 0, 1_024, SERVER)?;
+            self.client.connect(self.now, 1_024, SERVER)?;
         }
         Ok(())
     }
@@ -116,9 +115,7 @@ impl Crowd {
 
     fn answer(&mut self, number: usize, message: &PiecedMessage) -> Result<(), AllocError> {
         let words = message.words(self.alloc)?;
-        let _ = self
-            .server
-            .answer(self.now, number, Answer::Return, words.as_slice());
+        let _ = self.server.answer(self.now, number, words.as_slice());
         Ok(())
     }
 

@@ -3,10 +3,9 @@ use crate::outcome::Outcome;
 use crate::parting::Parting;
 use crate::restart::Restart;
 use crate::scene::Scene;
-use crate::station::Station;
+use crate::station::{NETWORK, Station};
 use crate::words::{answer_to, words_of};
 use courier_messages::PiecedMessage;
-use courier_sessions::Answer;
 use std::alloc::{AllocError, Global};
 use std::mem::replace;
 use xns_host::{Event, HostFault, Settings};
@@ -14,7 +13,7 @@ use xns_idp::Address;
 
 /// The address at which the server is called.
 pub const SERVER: Address = Address {
-    network: 1,
+    network: NETWORK,
     host: [0, 0, 170, 0, 1, 0],
     socket: 5,
 };
@@ -55,7 +54,7 @@ fn host_of(
         ..Settings::default()
     };
     let secret = [(secret % 256) as u8; 32];
-    Station::new(alloc, 1, address_of(1, number), settings, secret)
+    Station::new(alloc, address_of(1, number), settings, secret)
 }
 
 impl Player {
@@ -80,7 +79,7 @@ impl Player {
 
     /// The client connects, and makes a call.
     pub fn begin(&mut self, now: u64) -> Result<(), HostFault> {
-        self.connection = self.host.connect(now, 0, 1_024, SERVER)?;
+        self.connection = self.host.connect(now, 1_024, SERVER)?;
         self.next(now)
     }
 
@@ -200,9 +199,7 @@ impl Player {
             return false;
         };
         let late = self.late.swap_remove(place);
-        let _ = self
-            .host
-            .answer(now, late.number, Answer::Return, late.words.as_slice());
+        let _ = self.host.answer(now, late.number, late.words.as_slice());
         true
     }
 

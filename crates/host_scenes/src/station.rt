@@ -3,6 +3,9 @@ use std::alloc::Global;
 use xns_host::{Call, Event, Host, HostFault, Outgoing, Settings};
 use xns_idp::Address;
 
+/// The network that all plays are on.
+pub const NETWORK: u32 = 1;
+
 /// The program that servers serve.
 pub const LISTED: Program = Program {
     number: 7,
@@ -10,22 +13,22 @@ pub const LISTED: Program = Program {
     highest: 2,
 };
 
-/// A host that is played. Its functions are those of the host, and promise nothing: a play shows what comes of them, and no proof of a play
-/// reads what the host promises.
+/// A host that is played. Its functions are those of the host as the plays use them, and promise nothing: a play shows what comes of them,
+/// and no proof of a play reads what the host promises.
 #[derive(Drop)]
 pub struct Station {
     host: Host,
 }
 
 impl Station {
+    /// A host of the network that all plays are on.
     pub fn new(
         alloc: Global,
-        network: u32,
         host: [u8; 6],
         settings: Settings,
         secret: [u8; 32],
     ) -> Result<Station, HostFault> {
-        let host = Host::new(alloc, network, host, settings, secret)?;
+        let host = Host::new(alloc, NETWORK, host, settings, secret)?;
         Ok(Station { host })
     }
 
@@ -33,14 +36,9 @@ impl Station {
         self.host.serve(socket, programs)
     }
 
-    pub fn connect(
-        &mut self,
-        now: u64,
-        via: u64,
-        socket: u16,
-        peer: Address,
-    ) -> Result<usize, HostFault> {
-        self.host.connect(now, via, socket, peer)
+    /// Opens a connection by the only way that there is.
+    pub fn connect(&mut self, now: u64, socket: u16, peer: Address) -> Result<usize, HostFault> {
+        self.host.connect(now, 0, socket, peer)
     }
 
     /// Calls procedure 1 of version 2 of the program.
@@ -60,14 +58,9 @@ impl Station {
         self.host.call(now, number, &call)
     }
 
-    pub fn answer(
-        &mut self,
-        now: u64,
-        number: usize,
-        answer: Answer,
-        words: &[u16],
-    ) -> Result<(), HostFault> {
-        self.host.answer(now, number, answer, words)
+    /// Answers a call by a return.
+    pub fn answer(&mut self, now: u64, number: usize, words: &[u16]) -> Result<(), HostFault> {
+        self.host.answer(now, number, Answer::Return, words)
     }
 
     pub fn close(&mut self, now: u64, number: usize) -> Result<(), HostFault> {

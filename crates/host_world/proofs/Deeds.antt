@@ -1,7 +1,7 @@
 -- What the program does to the calls and answers that a side has.
 use Rattle.std.proofs.Common.{◌≡◌, ◌∙◌, ap, refl, sym, ℕ, zero, suc, ◌+◌, Bool, true, false, List, [], ◌∷◌, ◌++◌, length, length-append, Option, Some, None, arith}
 use Rattle.std.specs.Prelude.{◌%◌, ◌||◌, if◌then◌else◌, nat_lt, slice_get}
-use Rattle.std.specs.Option.{is_some}
+use Rattle.std.specs.Option.{is_some, option_map}
 use Rattle.courier_messages.specs.RawCalls.{RawCall, call_message, transaction_of, most_call_words}
 use Rattle.courier_messages.specs.declared.message.Message.{Message}
 use Rattle.courier_sessions.specs.Answering.{Answering, answer_message, answer_refusal, transaction_in}
@@ -10,7 +10,7 @@ use Rattle.courier_sessions.specs.declared.answer.Answer.{Answer}
 use Rattle.courier_sessions.specs.declared.call_refusal.CallRefusal.{CallRefusal}
 use Rattle.courier_sessions.specs.declared.call_refusal.CallRefusal.TheVariants as uncalled
 use Rattle.xns_connection.specs.Deeds.{answered_for, handed_by, side_answered, side_called, side_taken}
-use Rattle.xns_connection.specs.Refusing.{answer_fault, call_fault, side_answer_fault, side_call_fault}
+use Rattle.xns_connection.specs.Refusing.{refused_answer, refused_call, side_answer_fault, side_call_fault}
 use Rattle.xns_connection.specs.Story.{listed_call, waiting_message}
 use Rattle.xns_connection.specs.declared.side.Side.{Side}
 use Rattle.xns_connection.specs.declared.side.Side.TheVariants.{Calls, Answers}
@@ -25,7 +25,7 @@ at_end (y ∷ xs) x (suc k) e = at_end xs x k (omega (arith, e))
 
 -- ---- a call
 
-unrefused : (o : Option CallRefusal) → call_fault o ≡ None → o ≡ None
+unrefused : (o : Option CallRefusal) → option_map refused_call o ≡ None → o ≡ None
 unrefused None e = refl
 unrefused (Some uncalled.Stopped) e = absurd (cc)
 unrefused (Some uncalled.Busy) e = absurd (cc)
@@ -71,7 +71,7 @@ makes true cs rs (Calls t) c may h =
 
 -- ---- an answer
 
-pub unanswered : (o : Option ℕ) (kind : Answer) (words : List ℕ) → answer_fault (answer_refusal o kind words) ≡ None → (k : ℕ) × (o ≡ Some k)
+pub unanswered : (o : Option ℕ) (kind : Answer) (words : List ℕ) → option_map refused_answer (answer_refusal o kind words) ≡ None → (k : ℕ) × (o ≡ Some k)
 unanswered None kind words e = absurd (cc)
 unanswered (Some k) kind words e = (k, refl)
 

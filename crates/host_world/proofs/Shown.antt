@@ -16,7 +16,7 @@ use Rattle.host_world.specs.Dialogue.{ViewMove, closing, Course}
 use Rattle.host_world.specs.Seen.{closed_since}
 use Rattle.host_world.proofs.Happens.{Continues, closed_between, closed_same}
 use Rattle.host_world.proofs.Sides.{Has}
-use Rattle.host_world.proofs.Stepping.{Changes}
+use Rattle.host_world.proofs.Stepping.{Changes, unchanged}
 
 -- ---- what is seen of a connection
 
@@ -151,18 +151,11 @@ unmoved d g h s same = record {
 -- neither the tag of a connection nor whether the program was told that it is open changes what else is shown of it
 pub shown_as : (tag : ℕ) (opened untold : Bool) (d : Dialogue) (g : Guest) → Shows d g → (untold ≡ true → IsUntold (record d { opened = opened }))
     → Shows (record d { opened = opened }) (record g { tag = tag; opening_untold = untold })
-shown_as tag opened untold d g s newly = record {
-  state = s.state;
-  stands = s.stands;
-  side = s.side;
-  ours = s.ours;
-  asked = s.asked;
-  closed = s.closed;
-  told = s.told;
-  over = s.over;
-  unheard = s.unheard;
-  newly = newly;
-}
+shown_as tag opened untold d g s newly =
+    let e : Dialogue = record d { opened = opened } in
+    let h : Guest = record g { tag = tag; opening_untold = untold } in
+    shown_so e h (nearly d e g h g.connection.conversation.side g.connection.conversation.closing.wanted s (unchanged g.connection s.state s.stands)
+    refl refl refl refl s.side s.asked (λ z. (s.over z).1) s.unheard newly) d.closed s.closed
 
 pub tagging : (tag : ℕ) (d : Dialogue) (g h : Guest) → Shows d g → GuestTagged tag g h → Alone d g h
 tagging tag d g h s is =

@@ -15,7 +15,8 @@ use Rattle.xns_spp.specs.Held.{Held, StandsFor}
 use Rattle.xns_spp.specs.Sending.{take_answer, waiting_count}
 use Rattle.xns_spp.specs.State.{State}
 use Rattle.xns_spp.specs.declared.item.Item.{Item}
-use Rattle.xns_connection.specs.Closing.{drains, end_reply_stream, end_stream}
+use Rattle.xns_spp.specs.Datastreams.{end_reply_stream, end_stream}
+use Rattle.xns_connection.specs.Closing.{drains}
 use Rattle.xns_connection.specs.Connecting.{is_closed_due, is_dead}
 use Rattle.xns_connection.specs.Deeds.{Deed, Parts, acted, acted_by, done, given_up, nothing, shut, unserved, why_left}
 use Rattle.xns_connection.specs.Giving.{Giving, GivesAs, IsGiving, MayStopAt, giving, next_unless}

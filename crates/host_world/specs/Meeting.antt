@@ -2,9 +2,9 @@
 use Rattle.std.specs.Prelude.{◌≡◌, ℕ, List, [], Option, Some, None, slice_get}
 use Rattle.courier_sessions.specs.declared.program.Program.{Program}
 use Rattle.item_world.specs.Events.{stepped, sending, taking, flushing, resending, telling}
+use Rattle.item_world.specs.Side.{of_two}
 use Rattle.item_world.specs.World.{World, sent_packets}
 use Rattle.item_world.specs.declared.side.Side.{Side}
-use Rattle.item_world.specs.declared.side.Side.TheVariants.{A, B}
 use Rattle.xns_spp.specs.State.{State}
 use Rattle.xns_connection.specs.Living.{Deeds, no_deeds}
 use Rattle.xns_connection.specs.Story.{Story, Runs, start, sends, takes, flushes, resends, tells, ProgramDoesNothing, new_story}
@@ -27,12 +27,10 @@ pub record Meeting : Type 0 where
   pub world : World
 
 abbrev pub at : Meeting → Side → Party
-at m A = m.a
-at m B = m.b
+at m side = of_two m.a m.b side
 
 abbrev pub with_party : Meeting → Side → Party → Meeting
-with_party m A p = record m { a = p }
-with_party m B p = record m { b = p }
+with_party m side p = record m { a = of_two p m.a side; b = of_two m.b p side }
 
 -- nothing has happened yet
 abbrev pub new_party : Conversation → Option (List Program) → State → Party

@@ -4,11 +4,10 @@ use Rattle.std.specs.Borrow.{Lends, MutBor, Fml}
 use Rattle.courier_messages.specs.RawCalls.{RawCall}
 use Rattle.courier_messages.specs.declared.message.Message.{Message}
 use Rattle.courier_sessions.specs.declared.program.Program.{Program}
-use Rattle.item_world.specs.Side.{other}
+use Rattle.item_world.specs.Side.{of_two, other}
 use Rattle.item_world.specs.World.{has_passed, sender_and_bytes}
 use Rattle.item_world.specs.declared.emitted.Emitted.{Emitted}
 use Rattle.item_world.specs.declared.side.Side.{Side}
-use Rattle.item_world.specs.declared.side.Side.TheVariants.{A, B}
 use Rattle.xns_spp.specs.Receiving.{is_ours}
 use Rattle.xns_connection.specs.Living.{Deeds}
 use Rattle.xns_connection.specs.contracts.connection.Connection as connection
@@ -21,12 +20,10 @@ use Rattle.host_world.specs.declared.pair.Pair.{Pair}
 use Rattle.host_world.specs.declared.station.Station.{Station}
 
 abbrev pub connection_at : Pair → Side → Connection
-connection_at p A = p.a
-connection_at p B = p.b
+connection_at p side = of_two p.a p.b side
 
 abbrev pub with_connection : Pair → Side → Connection → Pair
-with_connection p A c = record p { a = c }
-with_connection p B c = record p { b = c }
+with_connection p side c = record { a = of_two c p.a side; b = of_two p.b c side }
 
 -- the pair ends with what is left behind the reference at this side
 abbrev pub LendsConnection : MutBor Pair → Side → MutBor Connection → Fml

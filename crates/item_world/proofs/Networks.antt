@@ -10,7 +10,7 @@ use Rattle.std.specs.Prelude.{All, slice_get, slice_set, if◌then◌else◌}
 use Rattle.xns_spp.specs.State.{State}
 use Rattle.item_world.proofs.Later.{settled_later, moved_later, marked_later}
 use Rattle.item_world.proofs.Sides.{each_end, same_end, same_marked, comes_as}
-use Rattle.item_world.specs.Network.{count_of, with_count, moment_of, is_settled, AreRested, unsettled, IsNetwork, IsEnd}
+use Rattle.item_world.specs.Network.{CountsOn, count_of, moment_of, is_settled, AreRested, unsettled, IsNetwork, IsEnd}
 use Rattle.item_world.specs.Side.{other}
 use Rattle.item_world.specs.World.{World, end_at, moment, emitted, with_packets, moved, marked_delivered, receives}
 use Rattle.item_world.specs.declared.counts.Counts.{Counts}
@@ -62,23 +62,15 @@ rested_more n w x is h r =
 
 -- ---- the counts
 
-counted_same : (c : Counts) (side : Side) (n : ℕ) → count_of (with_count c side n) side ≡ n
-counted_same c A n = refl
-counted_same c B n = refl
-
-counted_other : (c : Counts) (side : Side) (n : ℕ) → count_of (with_count c side n) (other side) ≡ count_of c (other side)
-counted_other c A n = refl
-counted_other c B n = refl
-
 -- the counts are those of the ends
 abbrev AreCounts : Counts → World → Type 0
 AreCounts c w = (side : Side) → count_of c side ≡ length (end_at w side).taken
 
-counted : (c : Counts) (w : World) (side : Side) (s : State) (bs : List (List ℕ)) (n : ℕ) → n ≡ length s.taken → AreCounts c w → AreCounts (with_count c side n) (moved w side s bs)
-counted c w A s bs n is h A = is
-counted c w A s bs n is h B = h B
-counted c w B s bs n is h A = h A
-counted c w B s bs n is h B = is
+counted : (c d : Counts) (w : World) (side : Side) (s : State) (bs : List (List ℕ)) → CountsOn c d side (length s.taken) → AreCounts c w → AreCounts d (moved w side s bs)
+counted c d w A s bs on h A = on.here
+counted c d w A s bs on h B = on.there ∙ h B
+counted c d w B s bs on h A = on.there ∙ h A
+counted c d w B s bs on h B = on.here
 
 -- an end moves that takes nothing
 counted_on : (c : Counts) (w : World) (side : Side) (s : State) (bs : List (List ℕ)) → length s.taken ≡ length (end_at w side).taken → AreCounts c w → AreCounts c (moved w side s bs)
@@ -113,19 +105,17 @@ quiet n w side s h is = record {
 -- ---- a packet is delivered
 
 pub delivers_it : (n m : Network) (w : World) (side : Side) (k : ℕ) (x : Emitted) (s : State) (took : ℕ) (at : Moment) (counts : Counts) (bs : List (List ℕ)) → IsNetwork n w → slice_get w.bag k ≡ Some x → length (end_at w side).taken + took ≡ length s.taken
-    → counts ≡ with_count n.taken side (length s.taken) → at ≡ moment_of counts side
+    → CountsOn n.taken counts side (length s.taken) → at ≡ moment_of counts side
     → m.packets ≡ with_packets (slice_set w.bag k (record x { delivered = true })) side at bs → m.taken ≡ counts → m.rested ≡ n.rested → IsNetwork m (moved (marked_delivered w k x) side s bs)
-delivers_it n m w side k x s took at counts bs h is more counts_are at_is joins taken rested =
+delivers_it n m w side k x s took at counts bs h is more on at_is joins taken rested =
     let u : World = marked_delivered w k x in
     let v : World = moved u side s bs in
-    let c : Counts = with_count n.taken side (length s.taken) in
     let before : AreCounts n.taken u = λ t. h.taken t ∙ ap (λ (q : State). length q.taken) (sym (same_marked w k x t)) in
     let now : at ≡ moment s (end_at u (other side)) =
-    at_is ∙ (ap (λ (d : Counts). moment_of d side) counts_are
-    ∙ moments_are c u side s (counted_same n.taken side (length s.taken)) (counted_other n.taken side (length s.taken) ∙ before (other side))) in
+    at_is ∙ moments_are counts u side s on.here (on.there ∙ before (other side)) in
     record {
       bag = joins ∙ ap (λ (a : Moment). with_packets u.bag side a bs) now;
-      taken = subst (λ (d : Counts). AreCounts d v) (sym (taken ∙ counts_are)) (counted n.taken u side s bs (length s.taken) refl before);
+      taken = subst (λ (d : Counts). AreCounts d v) (sym taken) (counted n.taken counts u side s bs on before);
       rested = subst (λ (j : ℕ). AreRested j v) (sym rested)
           (rested_moved n.rested u side s bs (omega (arith, more, ap (λ (q : State). length q.taken) (same_marked w k x side))) (rested_marked n.rested w k x is h.rested));
     }

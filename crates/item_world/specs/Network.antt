@@ -6,17 +6,16 @@ use Rattle.item_world.specs.declared.emitted.Emitted.{Emitted}
 use Rattle.item_world.specs.declared.moment.Moment.{Moment}
 use Rattle.item_world.specs.declared.network.Network.{Network}
 use Rattle.item_world.specs.declared.side.Side.{Side}
-use Rattle.item_world.specs.declared.side.Side.TheVariants.{A, B}
-use Rattle.item_world.specs.Side.{other}
+use Rattle.item_world.specs.Side.{of_two, other}
 use Rattle.item_world.specs.World.{World, end_at, has_passed}
 
 abbrev pub count_of : Counts → Side → ℕ
-count_of c A = c.a
-count_of c B = c.b
+count_of c side = of_two c.a c.b side
 
-abbrev pub with_count : Counts → Side → ℕ → Counts
-with_count c A n = record c { a = n }
-with_count c B n = record c { b = n }
+-- an end has taken n items now, and the other one as many as before
+pub record CountsOn (c d : Counts) (side : Side) (n : ℕ) : Type 0 where
+  pub here : count_of d side ≡ n
+  pub there : count_of d (other side) ≡ count_of c (other side)
 
 -- the moment at which the end at this side sends
 abbrev pub moment_of : Counts → Side → Moment

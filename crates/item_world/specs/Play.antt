@@ -11,19 +11,17 @@ use Rattle.item_world.specs.declared.participant.Participant.{Participant}
 use Rattle.item_world.specs.declared.play.Play.{Play}
 use Rattle.item_world.specs.declared.setup.Setup.{Setup}
 use Rattle.item_world.specs.declared.side.Side.{Side}
-use Rattle.item_world.specs.declared.side.Side.TheVariants.{A, B}
 use Rattle.item_world.specs.EndLaws.{EndLaws}
 use Rattle.item_world.specs.Events.{world_after, IsEvent}
 use Rattle.item_world.specs.Network.{IsNetwork}
+use Rattle.item_world.specs.Side.{of_two}
 use Rattle.item_world.specs.World.{World, start, end_at}
 
 abbrev pub at_side : Pair → Side → Participant
-at_side p A = p.a
-at_side p B = p.b
+at_side p side = of_two p.a p.b side
 
 abbrev pub with_side : Pair → Side → Participant → Pair
-with_side p A e = record p { a = e }
-with_side p B e = record p { b = e }
+with_side p side e = record { a = of_two e p.a side; b = of_two p.b e side }
 
 -- the pair ends as it was, but at this side as the reference leaves the participant
 abbrev pub LendsSide : MutBor Pair → Side → MutBor Participant → Fml

@@ -15,14 +15,18 @@ use Rattle.item_world.specs.Landing.{landing}
 use Rattle.item_world.specs.Side.{other}
 use Rattle.item_world.specs.World.{World, end_at, ticks, flushes, sent_at, handed_at}
 
+-- an end ticks, flushes, or receives one of the packets that are sent from number n on
+abbrev pub IsWire : ℕ → SmallStep → Type 0
+IsWire n (arrival k) = n ≤ k
+IsWire n (flushing side) = Unit {0}
+IsWire n (ticking side) = Unit {0}
+IsWire n _ = ⊥
+
 -- A plain step: an end ticks, flushes, hands an item up, or receives one of the packets that are sent from number n on.
 -- No item is accepted, and no packet that was sent before is needed.
 abbrev pub IsPlainStep : ℕ → SmallStep → Type 0
-IsPlainStep n (arrival k) = n ≤ k
 IsPlainStep n (taking side) = Unit {0}
-IsPlainStep n (flushing side) = Unit {0}
-IsPlainStep n (ticking side) = Unit {0}
-IsPlainStep n _ = ⊥
+IsPlainStep n step = IsWire n step
 
 -- w goes on as v, in which each item that an end of w had accepted is handed up at the other end and acknowledged, and
 -- no other item was accepted. Neither end is full in v, unless the connection carries no more items that way.
@@ -47,13 +51,6 @@ pub record FinishesBy {X : Type 0} (IsPlain : ℕ → X → Type 0) (after : Wor
 -- plain steps, at most twelve for each item
 abbrev pub Finishes : World → Type 0
 Finishes = FinishesBy IsPlainStep all_stepped 12
-
--- an end ticks, flushes, or receives one of the packets that are sent from number n on
-abbrev pub IsWire : ℕ → SmallStep → Type 0
-IsWire n (arrival k) = n ≤ k
-IsWire n (flushing side) = Unit {0}
-IsWire n (ticking side) = Unit {0}
-IsWire n _ = ⊥
 
 -- after some ticks, flushes and arrivals an item waits at the other end, or all that this end accepted is acknowledged
 pub record Stirs (w : World) (side : Side) : Type 0 where

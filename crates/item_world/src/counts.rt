@@ -2,7 +2,7 @@
 
 ghost use Rattle.std.specs.Prelude.{◌≡◌, ◌≤◌, ◌+◌, ℕ};
 ghost use Rattle.xns_spp.specs.Numbers.{most_items};
-ghost use Rattle.item_world.specs.Network.{count_of, moment_of, with_count};
+ghost use Rattle.item_world.specs.Network.{CountsOn, count_of, moment_of};
 
 use crate::moment::Moment;
 use crate::side::Side;
@@ -37,7 +37,7 @@ impl Counts {
 
     /// Counts so many more items that an end has taken.
     pub fn add(&mut self, side: Side, more: usize)
-        ensures { (n : ℕ) → n ≤ most_items → count_of self.old side + more ≡ n → self.new ≡ with_count self.old side n }
+        ensures { (n : ℕ) → n ≤ most_items → count_of self.old side + more ≡ n → CountsOn self.old self.new side n }
     {
         let count = self.of(side).saturating_add(more as u64);
         match side {

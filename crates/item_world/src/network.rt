@@ -8,7 +8,7 @@ ghost use Rattle.xns_spp.specs.Numbers.{most_items};
 ghost use Rattle.xns_spp.specs.State.{State};
 ghost use Rattle.item_world.specs.declared.emitted.Emitted.{Emitted};
 ghost use Rattle.item_world.specs.Landing.{landing, end_reached};
-ghost use Rattle.item_world.specs.Network.{count_of, with_count, moment_of, is_settled, AreRested, unsettled, IsNetwork};
+ghost use Rattle.item_world.specs.Network.{count_of, moment_of, is_settled, AreRested, unsettled, IsNetwork};
 ghost use Rattle.item_world.specs.World.{World, end_at, with_packets, moved, marked_delivered, has_passed, sender_and_bytes};
 
 use crate::bag::Bag;

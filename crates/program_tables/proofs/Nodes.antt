@@ -43,13 +43,7 @@ choice_there old mid new name vs put rest =
 
 pub type_is_there : (name : List ℕ) (type : NamedModel) → type_nodes name type ≢ []
 unfolding type_nodes
-type_is_there name NamedModel.boolean = λ e. absurd cc
-type_is_there name NamedModel.cardinal = λ e. absurd cc
-type_is_there name NamedModel.long_cardinal = λ e. absurd cc
-type_is_there name NamedModel.integer = λ e. absurd cc
-type_is_there name NamedModel.long_integer = λ e. absurd cc
-type_is_there name NamedModel.unspecified = λ e. absurd cc
-type_is_there name NamedModel.text = λ e. absurd cc
+type_is_there name (NamedModel.predefined type) = λ e. absurd cc
 type_is_there name (NamedModel.enumeration members) = λ e. absurd cc
 type_is_there name (NamedModel.array n element) = λ e. absurd cc
 type_is_there name (NamedModel.sequence most element) = λ e. absurd cc

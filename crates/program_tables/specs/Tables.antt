@@ -37,13 +37,7 @@ member_node m = table_node kinds.Member m.1 0 m.0
 -- a type by this name, in front of its parts
 unfoldable mutual
   pub type_nodes : List ℕ → NamedModel → List NodeModel
-  type_nodes name NamedModel.boolean = table_node kinds.Boolean 0 0 name ∷ []
-  type_nodes name NamedModel.cardinal = table_node kinds.Cardinal 0 0 name ∷ []
-  type_nodes name NamedModel.long_cardinal = table_node kinds.LongCardinal 0 0 name ∷ []
-  type_nodes name NamedModel.integer = table_node kinds.Integer 0 0 name ∷ []
-  type_nodes name NamedModel.long_integer = table_node kinds.LongInteger 0 0 name ∷ []
-  type_nodes name NamedModel.unspecified = table_node kinds.Unspecified 0 0 name ∷ []
-  type_nodes name NamedModel.text = table_node kinds.Text 0 0 name ∷ []
+  type_nodes name (NamedModel.predefined type) = table_node (kinds.Predefined type) 0 0 name ∷ []
   type_nodes name (NamedModel.enumeration members) = table_node kinds.Enumeration 0 (length members) name ∷ map member_node members
   type_nodes name (NamedModel.array n element) = table_node kinds.Array n 1 name ∷ type_nodes [] element
   type_nodes name (NamedModel.sequence most element) = table_node kinds.Sequence most 1 name ∷ type_nodes [] element

@@ -1,16 +1,11 @@
 //! The nodes of tables.
 
+use courier_types::Predefined;
+
 /// What a node stands for.
 #[derive(Clone, Copy, Debug, PartialEq, Eq)]
 pub enum NodeKind {
-    Boolean,
-    Cardinal,
-    LongCardinal,
-    Integer,
-    LongInteger,
-    Unspecified,
-    /// A string.
-    Text,
+    Predefined(Predefined),
     /// An enumeration. Its parts are its members.
     Enumeration,
     /// A member of an enumeration. Its number is its word.

@@ -152,13 +152,9 @@ fn append_type(
     ensures { OnOk result (nodes_seen out.new.items ≡ nodes_seen out.old.items ++ type_nodes name.now (named_model named.now)) }
 {
     match named {
-        Named::Boolean => append_node(alloc, out, NodeKind::Boolean, 0, 0, name),
-        Named::Cardinal => append_node(alloc, out, NodeKind::Cardinal, 0, 0, name),
-        Named::LongCardinal => append_node(alloc, out, NodeKind::LongCardinal, 0, 0, name),
-        Named::Integer => append_node(alloc, out, NodeKind::Integer, 0, 0, name),
-        Named::LongInteger => append_node(alloc, out, NodeKind::LongInteger, 0, 0, name),
-        Named::Unspecified => append_node(alloc, out, NodeKind::Unspecified, 0, 0, name),
-        Named::Text => append_node(alloc, out, NodeKind::Text, 0, 0, name),
+        Named::Predefined(predefined) => {
+            append_node(alloc, out, NodeKind::Predefined(*predefined), 0, 0, name)
+        }
         Named::Enumeration(members) => {
             append_node(alloc, out, NodeKind::Enumeration, 0, members.len(), name)?;
             append_members(alloc, out, members)

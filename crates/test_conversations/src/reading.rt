@@ -6,19 +6,17 @@ use std::fmt::Write;
 
 /// The head of a message.
 fn put_head(text: &mut String, head: Head) -> Result<(), AllocError> {
+    let transaction = head.transaction();
     match head {
         Head::Call {
-            transaction,
             program,
             version,
             procedure,
+            ..
         } => write!(text, "call {transaction} {program} {version} {procedure}")?,
-        Head::Reject {
-            transaction,
-            reason,
-        } => write!(text, "reject {transaction} {reason}")?,
-        Head::Return { transaction } => write!(text, "return {transaction}")?,
-        Head::Abort { transaction, error } => write!(text, "abort {transaction} {error}")?,
+        Head::Reject { reason, .. } => write!(text, "reject {transaction} {reason}")?,
+        Head::Return { .. } => write!(text, "return {transaction}")?,
+        Head::Abort { error, .. } => write!(text, "abort {transaction} {error}")?,
     }
     Ok(())
 }

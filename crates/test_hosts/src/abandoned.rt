@@ -17,8 +17,8 @@ pub struct Abandoned {
 impl Abandoned {
     pub fn new(alloc: Global) -> Result<Abandoned, HostFault> {
         let usual = Settings::default();
-        let client = Station::new(alloc, 1, [0, 0, 170, 0, 5, 0], usual, [5; 32])?;
-        let (client, server) = both(client, Station::new(alloc, 1, SERVER.host, usual, [6; 32]))?;
+        let client = Station::new(alloc, [0, 0, 170, 0, 5, 0], usual, [5; 32])?;
+        let (client, server) = both(client, Station::new(alloc, SERVER.host, usual, [6; 32]))?;
         Ok(Abandoned {
             client,
             server,
@@ -31,7 +31,7 @@ impl Abandoned {
     /// Carries the call to the server.
     fn call(&mut self) -> Result<(), HostFault> {
         self.server.serve(SERVER.socket, &[LISTED])?;
-        self.number = self.client.connect(0, 0, 1_024, SERVER)?;
+        self.number = self.client.connect(0, 1_024, SERVER)?;
         self.client.call(0, self.number, 7, &[1, 2, 3])?;
         for _ in 0..10 {
             let Some(out) = self.client.next_packet(0)? else {

@@ -57,8 +57,8 @@ pub struct Clocked {
 impl Clocked {
     pub fn new(alloc: Global, shown: Shown) -> Result<Clocked, HostFault> {
         let usual = Settings::default();
-        let mut host = Station::new(alloc, 1, [0, 0, 170, 0, 5, 0], usual, [5; 32])?;
-        host.connect(shown.at(0, 0), 0, 1_024, SERVER)?;
+        let mut host = Station::new(alloc, [0, 0, 170, 0, 5, 0], usual, [5; 32])?;
+        host.connect(shown.at(0, 0), 1_024, SERVER)?;
         Ok(Clocked {
             host,
             shown,

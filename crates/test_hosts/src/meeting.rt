@@ -1,12 +1,12 @@
 use crate::manner::Manner;
 use courier_messages::{PiecedMessage, put_out, versions};
-use courier_sessions::Answer;
 use host_scenes::player::SERVER;
 use host_scenes::station::Station;
 use std::alloc::{AllocError, Global};
 use std::collections::VecDeque;
 use xns_host::{Event, HostFault, Settings, Why};
 use xns_idp::Address;
+use xns_spp::datastreams::{END, END_REPLY};
 use xns_spp::{Bytes, Endpoint, Item, opening};
 
 /// Where the peer is.
@@ -18,11 +18,6 @@ const PEER: Address = Address {
 
 /// How long a meeting is, in milliseconds.
 const LONGEST: u64 = 600_000;
-
-/// The datastream types of the items that close.
-const END: u8 = 254;
-
-const END_REPLY: u8 = 255;
 
 /// A call's beginning: versions 3 to 3, a call, transaction 0, program 7.
 const HALF_A_CALL: [u8; 12] = [0, 3, 0, 3, 0, 0, 0, 0, 0, 0, 0, 7];
@@ -105,13 +100,7 @@ fn read_all(peer: &mut Endpoint) -> bool {
 
 impl Meeting {
     pub fn new(alloc: Global, manner: Manner) -> Result<Meeting, HostFault> {
-        let host = Station::new(
-            alloc,
-            SERVER.network,
-            SERVER.host,
-            Settings::default(),
-            [1; 32],
-        )?;
+        let host = Station::new(alloc, SERVER.host, Settings::default(), [1; 32])?;
         Ok(Meeting {
             alloc,
             manner,
@@ -151,7 +140,7 @@ impl Meeting {
 
     /// Has the host call the peer, with more words than the peer has room for, and returns the number of the connection.
     fn call(&mut self) -> Result<usize, HostFault> {
-        let number = self.host.connect(0, 0, 1_024, PEER)?;
+        let number = self.host.connect(0, 1_024, PEER)?;
         self.host.call(0, number, 7, &[7; 5_000])?;
         Ok(number)
     }
@@ -258,10 +247,7 @@ impl Meeting {
     fn answer(&mut self, number: usize, message: &PiecedMessage) -> Result<(), anyhow::Error> {
         let words = message.words(self.alloc)?;
         self.answered = self.answered.saturating_add(1);
-        Ok(
-            self.host
-                .answer(self.now, number, Answer::Return, words.as_slice())?,
-        )
+        Ok(self.host.answer(self.now, number, words.as_slice())?)
     }
 
     /// A timeout at a peer that insists.

@@ -36,8 +36,8 @@ pub struct Stubborn {
 
 /// A host, which is asked for once more where memory is refused.
 fn host_at(alloc: Global, host: [u8; 6]) -> Result<Station, HostFault> {
-    match Station::new(alloc, 1, host, Settings::default(), [5; 32]) {
-        Err(HostFault::NoMemory) => Station::new(alloc, 1, host, Settings::default(), [5; 32]),
+    match Station::new(alloc, host, Settings::default(), [5; 32]) {
+        Err(HostFault::NoMemory) => Station::new(alloc, host, Settings::default(), [5; 32]),
         made => made,
     }
 }
@@ -52,8 +52,8 @@ fn serve(host: &mut Station) -> Result<(), HostFault> {
 
 /// Connects to the server, once more where memory is refused.
 fn connect(host: &mut Station) -> Result<usize, HostFault> {
-    match host.connect(0, 0, 1_024, SERVER) {
-        Err(HostFault::NoMemory) => host.connect(0, 0, 1_024, SERVER),
+    match host.connect(0, 1_024, SERVER) {
+        Err(HostFault::NoMemory) => host.connect(0, 1_024, SERVER),
         number => number,
     }
 }
@@ -68,8 +68,8 @@ fn call(host: &mut Station, now: u64, number: usize, program: u32) -> Result<(),
 
 /// Answers a call, once more where memory is refused.
 fn answer(host: &mut Station, now: u64, number: usize, words: &[u16]) -> Result<(), HostFault> {
-    match host.answer(now, number, Answer::Return, words) {
-        Err(HostFault::NoMemory) => host.answer(now, number, Answer::Return, words),
+    match host.answer(now, number, words) {
+        Err(HostFault::NoMemory) => host.answer(now, number, words),
         given => given,
     }
 }

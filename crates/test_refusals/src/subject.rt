@@ -1,9 +1,8 @@
 use crate::made::Made;
-use crate::mode::Mode;
 use crate::outcome::Outcome;
 use crate::sending::Sending;
 use crate::written::Written;
-use crate::{courier, sequenced, values};
+use crate::{courier, printed, sequenced, values};
 use std::alloc::{AllocError, Global};
 
 /// The function that is called.
@@ -12,7 +11,6 @@ pub enum Subject {
     Written(Written),
     Made(Made),
     Sending(Sending),
-    Mode(Mode),
     /// The worked opening is received.
     Opening,
     /// The next item is received.
@@ -41,6 +39,9 @@ pub enum Subject {
     Server,
     /// A caller is made.
     Caller,
+    Dump,
+    Calls,
+    Sim,
 }
 
 impl Subject {
@@ -50,7 +51,6 @@ impl Subject {
             Subject::Written(written) => written.outcome(alloc),
             Subject::Made(made) => made.outcome(alloc),
             Subject::Sending(sending) => sending.outcome(alloc),
-            Subject::Mode(mode) => mode.outcome(alloc),
             Subject::Opening => sequenced::opens(alloc),
             Subject::NextItem => sequenced::takes(alloc),
             Subject::EarlyItem => sequenced::keeps(alloc),
@@ -66,6 +66,9 @@ impl Subject {
             Subject::WriteMessage => courier::writes_a_message(alloc),
             Subject::Server => courier::makes_a_server(alloc),
             Subject::Caller => courier::makes_a_caller(alloc),
+            Subject::Dump => printed::dumps(alloc),
+            Subject::Calls => printed::lists_calls(alloc),
+            Subject::Sim => printed::plays(alloc),
         }
     }
 }

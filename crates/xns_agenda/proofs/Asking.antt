@@ -31,7 +31,7 @@ abbrev IsAsked : (span : ℕ) → Waiting → ℕ → Waiting → Type 0
 IsAsked span w = Goes AskAt w.heard_at span (first_wait w.measure w.pace) w
 
 asked_first : (span : ℕ) (w : Waiting) → IsAsked span w 0 (record (rested w) { due = AskAt (later w.heard_at span) })
-asked_first span w = goes_first AskAt w.heard_at span _ w _ refl refl refl refl refl
+asked_first span w = goes_first AskAt w.heard_at span _ w (record (rested w) { due = AskAt (later w.heard_at span) }) refl refl refl refl refl
 
 asked_again : (span : ℕ) (w v : Waiting) (n now : ℕ) → IsAsked span w n v → act_at v now ≡ Ask → IsAsked span w (n + 1) (after_by v Ask now)
 asked_again span w v n now before is =

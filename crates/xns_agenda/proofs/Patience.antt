@@ -54,16 +54,20 @@ given_up act other false v t now test is = absurd (cc)
 
 -- ---- from one packet to the next
 
--- n packets went out: a wait of the length `first` began once `span` had passed since `start`, and each further wait at the end of the one
--- before
-pub record Goes (at : ℕ → Due) (start span first : ℕ) (w : Waiting) (n : ℕ) (v : Waiting) : Type 0 where
-  pub pace : v.pace ≡ w.pace
-  pub measure : v.measure ≡ w.measure
-  pub misses : v.misses ≡ w.misses + n
-  pub length : v.length ≡ length_after w.pace first n
+-- what a wait is after n packets went out: a wait of the length `first` began once `span` had passed since `start`, and each further wait at
+-- the end of the one before
+pub record GoesBy (at : ℕ → Due) (start span first : ℕ) (w : Waiting) (n : ℕ) (pace_now : Pace) (measure_now : Measure) (misses_now length_now : ℕ) (due_now : Due) : Type 0 where
+  pub pace : pace_now ≡ w.pace
+  pub measure : measure_now ≡ w.measure
+  pub misses : misses_now ≡ w.misses + n
+  pub length : length_now ≡ length_after w.pace first n
   pub until : ℕ
-  pub due : v.due ≡ at until
+  pub due : due_now ≡ at until
   pub late : later start (span + waits_time w.pace first n) ≤ until
+
+-- n packets went out, of which none need be timed
+abbrev pub Goes : (at : ℕ → Due) (start span first : ℕ) → Waiting → ℕ → Waiting → Type 0
+Goes at start span first w n v = GoesBy at start span first w n v.pace v.measure v.misses v.length v.due
 
 -- the first wait
 pub goes_first : (at : ℕ → Due) (start span first : ℕ) (w v : Waiting) → v.pace ≡ w.pace → v.measure ≡ w.measure → v.misses ≡ w.misses → v.length ≡ first
@@ -116,31 +120,19 @@ abbrev Waited : (start : ℕ) → Waiting → ℕ → Waiting → Type 0
 Waited start w = Goes AgainAt start (first_wait w.measure w.pace) (next_length w.pace (first_wait w.measure w.pace)) w
 
 begun_at : (start : ℕ) (w : Waiting) (out : ℕ) → Waited start w 0 (timed w out start)
-begun_at start w out = goes_first AgainAt start _ _ w _ refl refl refl refl refl
+begun_at start w out = goes_first AgainAt start _ _ w (timed w out start) refl refl refl refl refl
 
 sent_again : (start : ℕ) (w v : Waiting) (n now : ℕ) → Waited start w n v → act_at v now ≡ Again → Waited start w (n + 1) (after_by v Again now)
 sent_again start w v n now before is =
     let more = over Again (λ e. absurd (cc)) (nat_le before.until now) v before.until now refl (ap (λ (d : Due). act_by v d now) (sym before.due) ∙ is) in
     goes_on AgainAt start _ _ w v (after_by v Again now) n now before more refl refl refl refl refl
 
--- what is timed may begin while something waits
-waits_on : (start : ℕ) (w v : Waiting) (n out now : ℕ) (b : Waited start w n v) → Waited start w n (waiting_on v (AgainAt b.until) out now)
-waits_on start w v n out now b = record {
-  pace = b.pace;
-  measure = b.measure;
-  misses = b.misses;
-  length = b.length;
-  until = b.until;
-  due = b.due;
-  late = b.late;
-}
-
 waited : {start : ℕ} {w : Waiting} {n : ℕ} {v : Waiting} → Vain start w n v → Waited start w n v
 waited {start = start} {w = w} (begins out) = begun_at start w out
 waited {start = start} {w = w} {n = n} (steps {v = v} before out wants now) =
     let b = waited before in
     let same : after_step v (Some out) wants now ≡ waiting_on v (AgainAt b.until) out now = ap (λ (d : Due). waiting_on v d out now) b.due in
-    subst (λ (u : Waiting). Waited start w n u) (sym same) (waits_on start w v n out now b)
+    subst (λ (u : Waiting). Waited start w n u) (sym same) b
 waited {start = start} {w = w} (sends {n = n} {v = v} before now is) =
     let b = sent_again start w v n now (waited before) is in
     subst (λ (a : Act). Waited start w (n + 1) (after_by v a now)) (sym is) b

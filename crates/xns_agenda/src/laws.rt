@@ -98,6 +98,7 @@ pub fn a_wait_is_not_too_short_for_ever()
 /// be counted (`counted`). After fewer packets than are borne, but not fewer than the tries, the waits have not taken the patience
 /// (`no_longer`). Where the first waits have taken the patience, the tries alone say how many (`tries_alone`). With the usual numbers,
 /// where nothing was measured, eight packets are borne, and the nine waits take 39,750 ms (`usual`).
+#[tactic(auto, using(crate::proofs::Measures::patient, crate::proofs::Measures::tried, crate::proofs::Measures::counted, crate::proofs::Measures::no_longer, crate::proofs::Measures::tries_alone))]
 pub fn a_silent_peer_is_borne()
     ensures patient { (m : Measure) (pace : Pace) → borne m pace < most_borne
         → pace.patience ≤ waits_time pace (first_wait m pace) (borne m pace + 1) }

@@ -1,5 +1,5 @@
 -- What is fetched of a host is given, or stays.
-use Rattle.std.proofs.Common.{◌≡◌, ◌≢◌, ◌<◌, ◌≤◌, ℕ, List, length, slice_get, Option, Result, Ok, Err, OnErr, ◌⊎◌, false, Some, None, inl, inr, refl, sym, ap, ◌∙◌, subst, arith}
+use Rattle.std.proofs.Common.{◌≡◌, ◌≢◌, ◌<◌, ◌≤◌, ℕ, List, length, slice_get, Option, Result, Ok, Err, false, Some, None, inl, inr, refl, sym, ap, ◌∙◌, subst, arith}
 use Rattle.std.proofs.lemmas.Bool.{cases_lt}
 use Rattle.xns_connection.specs.Deeds.{Deed}
 use Rattle.xns_host.specs.Hosting.{has_guest}
@@ -7,8 +7,8 @@ use Rattle.xns_host.specs.Refusing.{TellsRefusal}
 use Rattle.xns_host.specs.Turn.{GivesOut, TellsNext, Turn, WakesAt}
 use Rattle.xns_connection.specs.declared.conversation.Conversation.{Conversation}
 use Rattle.xns_connection.specs.declared.refusal.Refusal.{Refusal}
-use Rattle.xns_host.specs.declared.host_fault.HostFault.TheVariants.{NoConnection, NoMemory, NoRoom}
-use Rattle.xns_c.specs.Faults.{host_fault_number, host_told}
+use Rattle.xns_host.specs.declared.host_fault.HostFault.TheVariants.{NoConnection}
+use Rattle.xns_c.specs.Faults.{host_told}
 use Rattle.xns_host.specs.declared.host_fault.HostFault.{HostFault}
 use Rattle.xns_host.specs.declared.guest.Guest.{Guest}
 use Rattle.xns_host.specs.declared.event.Event.{Event}
@@ -17,7 +17,7 @@ use Rattle.xns_host.specs.declared.outgoing.Outgoing.{Outgoing}
 use Rattle.xns_c.specs.Events.{EventIsGiven}
 use Rattle.xns_c.specs.Given.{IsPut}
 use Rattle.xns_c.specs.Hosts.{DoesWithOne, FetchesEvent, FetchesPacket, GivesPacket, HostTurns, WakesHost, left_of, time_or_never}
-use Rattle.xns_c.specs.Results.{ok, no_memory, no_slot, short_buffer}
+use Rattle.xns_c.specs.Results.{ok, no_memory, short_buffer}
 use Rattle.xns_c.specs.declared.event.XnsEvent.{XnsEvent}
 use Rattle.xns_c.specs.declared.kept_host.KeptHost.{KeptHost}
 
@@ -119,28 +119,3 @@ done_with_one Deed k n host kept number result answer is told done none some = r
 -- a time that the host told, or never
 pub wakes_host : (h : Host) (at : Option ℕ) (time : ℕ) → WakesAt h at → time ≡ time_or_never at → WakesHost h time
 wakes_host h at time wakes is = record { at = at; wakes = wakes; is = is }
-
-pub unused : ok ≡ no_slot → ⊥
-unused e = omega (arith, e)
-
--- a result that says that there is no room is right: there is none
-pub no_room_by : (r : Result ℕ HostFault) (fault : HostFault) (W P : Type 0) → r ≡ Err fault → W
-    → OnErr r (W → (r ≡ Err NoRoom) ⊎ (r ≡ Err NoMemory)) → (r ≡ Err NoRoom → P) → host_fault_number fault ≡ no_slot → P
-no_room_by (Ok n) fault W P is right why room full = absurd (cc)
-no_room_by (Err e) fault W P is right why room full = elim (why right) [
-  | inl none ↦ room none
-  | inr short ↦
-      let other : fault ≡ NoMemory = cc in
-      let number : no_memory ≡ no_slot = sym (ap host_fault_number other) ∙ full in
-      absurd (omega (arith, number))
-]
-
--- the number that is told where a connection is refused though its ends are right
-pub fault_by : (r : Result ℕ HostFault) (fault : HostFault) (W : Type 0) → r ≡ Err fault → W
-    → OnErr r (W → (r ≡ Err NoRoom) ⊎ (r ≡ Err NoMemory)) → (number : ℕ) → number ≡ host_fault_number fault
-    → (number ≡ no_slot) ⊎ (number ≡ no_memory)
-fault_by (Ok n) fault W is right why number told = absurd (cc)
-fault_by (Err e) fault W is right why number told = elim (why right) [
-  | inl none ↦ let same : fault ≡ NoRoom = cc in inl (told ∙ ap host_fault_number same)
-  | inr short ↦ let same : fault ≡ NoMemory = cc in inr (told ∙ ap host_fault_number same)
-]

@@ -12,8 +12,6 @@ use Rattle.xns_c.specs.declared.packet.XnsPacket.{XnsPacket}
 use Rattle.xns_c.specs.Views.{StandsIn, packet_in}
 use Rattle.xns_c.specs.Given.{is_yes, as_byte}
 use Rattle.xns_c.specs.Structs.{address_of_struct}
-use Rattle.xns_spp.specs.declared.header.Header.{Header}
-use Rattle.xns_spp.specs.Header.{header_of, header_fault, header_fields}
 
 abbrev from_ok : {X : Type 0} {F : Type 0} → X → Result X F → X
 from_ok d (Ok x) = x
@@ -22,11 +20,6 @@ from_ok d (Err f) = d
 unless_ok : {X F : Type 0} (o : Option F) (x y : X) → unless o x ≡ Ok y → x ≡ y
 unless_ok None x y e = ap (from_ok x) e
 unless_ok (Some f) x y e = ap (from_ok x) e
-
--- the data follow the header
-pub rest_of : (b : List ℕ) (f : Header) (l : List ℕ) → header_of b ≡ Ok (f, l) → drop 12 b ≡ l
-unfolding header_of
-rest_of b f l e = ap (λ (p : Header × List ℕ). p.1) (unless_ok (header_fault b) (header_fields b, drop 12 b) (f, l) e)
 
 body_of : (b : List ℕ) (x : PacketModel × ℕ) → packet_of b ≡ Ok x → slice_range b 30 (word_at b 2) ≡ x.0.body
 unfolding packet_of packet_fields

@@ -1,8 +1,9 @@
 -- Courier's values in words, read and written at a cursor (XSIS 038112, Courier, Standard representation).
-use Rattle.std.specs.Prelude.{◌≡◌, ◌<◌, ◌≤◌, ℕ, ◌+◌, List, ◌++◌, drop, take, length, Result, Ok, Err}
+use Rattle.std.specs.Prelude.{◌≡◌, ◌≢◌, ◌<◌, ◌≤◌, ℕ, ◌+◌, List, ◌++◌, drop, take, length, Result, Ok, Err}
 use Rattle.courier_types.specs.declared.read_fault.ReadFault.{ReadFault}
 use Rattle.courier_types.specs.declared.read_fault.Reason.{Reason}
 use Rattle.courier_types.specs.declared.read_fault.Reason.TheVariants.{Truncated, NotBoolean, NotListed, OverMaximum}
+use Rattle.courier_types.specs.Spelling.{value_spelling}
 use Rattle.courier_types.specs.Value.{ValueModel}
 use Rattle.xns_c.specs.Results.{ok, short_buffer, truncated, not_boolean, over_maximum, not_listed}
 use Rattle.xns_c.specs.declared.cursor.XnsCursor.{XnsCursor}
@@ -40,3 +41,12 @@ abbrev pub WritesWords : List ℕ → XnsCursor → XnsCursor → List ℕ → L
 WritesWords words before after old new number =
     (before.place + length words ≤ length old → (number ≡ ok) × IsPutAt before.place words old new × (after ≡ further_on before (length words)))
     × (length old < before.place + length words → (number ≡ short_buffer) × (new ≡ old) × (after ≡ faulted before short_buffer))
+
+-- words are put at the cursor; after a fault that fault is returned, and nothing changes
+pub record Puts (words : List ℕ) (before after : XnsCursor) (old new : List ℕ) (number : ℕ) : Type 0 where
+  pub written : before.fault ≡ ok → WritesWords words before after old new number
+  pub stays : before.fault ≢ ok → (number ≡ before.fault) × (after ≡ before) × (new ≡ old)
+
+-- a value is written as its words
+abbrev pub WritesValue : ValueModel → XnsCursor → XnsCursor → List ℕ → List ℕ → ℕ → Type 0
+WritesValue value before after old new number = Puts (value_spelling value) before after old new number

@@ -1,10 +1,11 @@
 -- Both sides of a packet exchange (XSIS 028112, Packet Exchange Protocol). C holds whom a side asks, and under which identifier.
-use Rattle.std.specs.Prelude.{◌≡◌, ◌≢◌, ◌⊎◌, ◌<◌, ◌≤◌, ℕ, ◌+◌, List, [], length}
+use Rattle.std.specs.Prelude.{◌≡◌, ◌≢◌, ◌⊎◌, ◌<◌, ◌≤◌, ℕ, ◌+◌, List, [], drop, length}
 use Rattle.xns_idp.specs.Packet.{PacketModel, broadcast}
 use Rattle.xns_idp.specs.Reading.{long_at, made_even, word_at}
 use Rattle.xns_idp.specs.declared.address.Address.{Address}
-use Rattle.xns_small.specs.Exchange.{RequesterModel, IsResponse, asking_packet, exchange_spelling}
+use Rattle.xns_small.specs.Exchange.{RequesterModel, IsResponse, asking_packet, exchange_of, exchange_spelling}
 use Rattle.xns_c.specs.Buffers.{IsUnwritten, WritesUpTo, WritesWhereRoom}
+use Rattle.xns_c.specs.Given.{TellsFront}
 use Rattle.xns_c.specs.Results.{nothing, bad_argument, too_long}
 use Rattle.xns_c.specs.Views.{HasPacket, StandsIn}
 
@@ -20,6 +21,11 @@ exchange_size count = made_even (36 + count)
 abbrev pub WritesExchange : (id client : ℕ) → (bytes old new : List ℕ) → (had told result : ℕ) → Type 0
 WritesExchange id client bytes old new had told result =
     WritesUpTo most_exchanged bytes (exchange_spelling (record { id = id; client = client; body = bytes })) (6 + length bytes) old new had told result
+
+-- the identifier and the client type are told of the data of a packet of an exchange, 6 bytes, behind which stand its own data
+abbrev pub TellsExchange : List ℕ → (was told : ℕ × ℕ) → (result : ℕ) → Type 0
+TellsExchange body was told result =
+    TellsFront 6 (exchange_of body) (λ (t : ℕ × ℕ). record { id = t.0; client = t.1; body = drop 6 body }) body was told result
 
 -- ---- the side that asks
 

@@ -1,10 +1,10 @@
 -- What is given to C through its own memory, and taken from it.
-use Rattle.std.specs.Prelude.{◌≡◌, ◌≢◌, ◌-◌, ℕ, Bool, not, ◌==◌, if◌then◌else◌, List, ◌++◌, drop, length, Option, Some, None}
+use Rattle.std.specs.Prelude.{◌≡◌, ◌≢◌, ◌<◌, ◌≤◌, ◌-◌, ℕ, Bool, not, ◌==◌, if◌then◌else◌, List, ◌++◌, drop, length, Option, Some, None, Result, Ok}
 use Rattle.xns_spp.specs.Receiving.{receive_answer, after_receive}
 use Rattle.xns_spp.specs.State.{State}
 use Rattle.xns_spp.specs.Telling.{unacknowledged_count}
 use Rattle.xns_spp.specs.declared.item.Item.{Item}
-use Rattle.xns_c.specs.Results.{ok, nothing, no_memory, dropped_number}
+use Rattle.xns_c.specs.Results.{ok, nothing, no_memory, short, dropped_number}
 use Rattle.xns_c.specs.declared.item.XnsItem.{XnsItem}
 use Rattle.xns_c.specs.declared.received.XnsReceived.{XnsReceived}
 
@@ -23,6 +23,18 @@ IsPut items before after size = (size ≡ length items) × (after ≡ items ++ d
 abbrev pub IsPutIfThere : Option (List ℕ) → List ℕ → List ℕ → ℕ → Type 0
 IsPutIfThere None before after size = (size ≡ 0) × (after ≡ before)
 IsPutIfThere (Some bytes) before after size = IsPut bytes before after size
+
+-- what was found is told; where nothing was, a number says so, and what was told before stays
+abbrev pub IsTold : {A : Type 0} → Option A → ℕ → A → A → ℕ → Type 0
+IsTold (Some found) missing was told number = (number ≡ ok) × (told ≡ found)
+IsTold None missing was told number = (number ≡ missing) × (told ≡ was)
+
+-- what stands at the front of bytes is told, where they are so many at least; of fewer bytes nothing is
+pub record TellsFront {A F B : Type 0} (least : ℕ) (found : Result A F) (meant : B → A) (bytes : List ℕ) (was told : B) (number : ℕ) : Type 0 where
+  pub read : number ≡ ok → found ≡ Ok (meant told)
+  pub long : least ≤ length bytes → number ≡ ok
+  pub short : length bytes < least → number ≡ short
+  pub unchanged : number ≢ ok → told ≡ was
 
 -- the item is given but for its bytes
 pub record GivesItem (x : Item) (out : XnsItem) : Type 0 where

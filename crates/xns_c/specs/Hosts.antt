@@ -22,17 +22,16 @@ use Rattle.xns_host.specs.declared.outgoing.Outgoing.{Outgoing}
 use Rattle.xns_host.specs.declared.settings.Settings.{Settings}
 use Rattle.xns_c.specs.Events.{EventIsGiven, event_number, is_answer, with_tag}
 use Rattle.xns_c.specs.Faults.{host_fault_number, host_told}
-use Rattle.xns_c.specs.Given.{IsPut}
-use Rattle.xns_c.specs.Results.{ok, nothing, no_memory, short_buffer, bad_argument, busy, no_host, no_slot}
+use Rattle.xns_c.specs.Given.{IsPut, IsTold}
+use Rattle.xns_c.specs.Owned.{Changes}
+use Rattle.xns_c.specs.Results.{ok, nothing, no_memory, short_buffer, bad_argument, busy, no_connection, no_host, no_slot}
 use Rattle.xns_c.specs.Settings.{never}
 use Rattle.xns_c.specs.declared.event.XnsEvent.{XnsEvent}
 use Rattle.xns_c.specs.declared.kept_host.KeptHost.{KeptHost}
 
 -- what a function does with the host of a handle: where the handle has none, the function says so, and the handle has none still
 abbrev pub Does : Option KeptHost → Option KeptHost → ℕ → (KeptHost → KeptHost → Type 0) → Type 0
-Does None new result P = (result ≡ no_host) × (new ≡ None)
-Does (Some k) None result P = ⊥
-Does (Some k) (Some n) result P = P k n
+Does old new result P = Changes old new no_host result P
 
 -- the connection with a number, if there is one
 abbrev pub guest_at : KeptHost → ℕ → Option (Option Guest)
@@ -165,14 +164,18 @@ pub record Wakes (k : KeptHost) (time : ℕ) : Type 0 where
   pub packet : k.packet ≢ None → time ≡ 0
   pub host : k.event ≡ None → k.packet ≡ None → WakesHost k.host time
 
--- the number is written, or nothing where there is none
-abbrev pub NumberIsTold : Option ℕ → (old new result : ℕ) → Type 0
-NumberIsTold None old new result = (result ≡ nothing) × (new ≡ old)
-NumberIsTold (Some number) old new result = (result ≡ ok) × (new ≡ number)
-
 -- the first number from this one on that a connection has is told
 abbrev pub WalksOn : KeptHost → (from old new result : ℕ) → Type 0
-WalksOn k from old new result = (found : Option ℕ) × IsNumberFrom k.host.guests.items from found × NumberIsTold found old new result
+WalksOn k from old new result = (found : Option ℕ) × IsNumberFrom k.host.guests.items from found × IsTold found nothing old new result
+
+-- what C asks about the connection with a number is told, or that there is no host, or that no connection has the number. The handle keeps its
+-- host
+pub record TellsOfGuest {A B : Type 0} (old new : Option KeptHost) (number : ℕ) (about : Guest → A) (meant : B → A) (was told : B) (result : ℕ) : Type 0 where
+  pub some : (k : KeptHost) (g : Guest) → old ≡ Some k → guest_at k number ≡ Some (Some g) → (result ≡ ok) × (meant told ≡ about g)
+  pub nobody : (k : KeptHost) → old ≡ Some k → has_guest (guest_at k number) ≡ false → result ≡ no_connection
+  pub none : old ≡ None → result ≡ no_host
+  pub same : new ≡ old
+  pub unchanged : result ≢ ok → told ≡ was
 
 -- what C is told where a connection was given a number, or of the reason why none was
 abbrev pub number_told : Result ℕ HostFault → ℕ

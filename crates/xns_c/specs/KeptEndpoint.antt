@@ -2,8 +2,11 @@
 use Rattle.std.specs.Prelude.{◌≡◌, ◌≢◌, ◌<◌, ◌≤◌, ℕ, List, [], length, All, Option, Some, None}
 use Rattle.xns_idp.specs.Packet.{most_packet}
 use Rattle.xns_spp.specs.Held.{Held, StandsFor}
+use Rattle.xns_spp.specs.Packet.{most_body}
+use Rattle.xns_spp.specs.Sending.{send_answer, after_send}
 use Rattle.xns_spp.specs.State.{State}
-use Rattle.xns_c.specs.Results.{ok, no_memory, no_endpoint}
+use Rattle.xns_spp.specs.declared.item.Item.{Item}
+use Rattle.xns_c.specs.Results.{ok, no_memory, too_long, send_number}
 
 -- the end, and the packets that wait to be fetched
 pub record KeptEndpoint : Type 0 where
@@ -26,12 +29,18 @@ pub record TellsOfEndpoint {A : Type 0} (old new : Option KeptEndpoint) (about :
   pub none : old ≡ None → told ≡ otherwise
   pub same : new ≡ old
 
--- packets are made, none longer than packets may be, and take the place of those that wait; where memory is refused for them, or there is no
--- endpoint, nothing changes
-pub record Makes (old new : Option KeptEndpoint) (packets : State → List (List ℕ)) (after : State → State) (number : ℕ) : Type 0 where
-  pub stands : (s : State) → KeepsEndpoint old s → number ≡ ok → KeepsEndpoint new (after s)
-  pub made : (s : State) → KeepsEndpoint old s → number ≡ ok → waiting_packets new ≡ packets s
-  pub short : (s : State) → KeepsEndpoint old s → number ≡ ok → All (λ p. length p ≤ most_packet) (waiting_packets new)
-  pub memory : (s : State) → KeepsEndpoint old s → number ≢ ok → (number ≡ no_memory) × (0 < length (packets s))
-  pub none : old ≡ None → number ≡ no_endpoint
-  pub unchanged : number ≢ ok → new ≡ old
+-- the item is accepted, or a number says why not; where it is too long, or memory is refused for its bytes, nothing changes
+pub record Accepts (k n : KeptEndpoint) (x : Item) (number : ℕ) : Type 0 where
+  pub told : (s : State) → StandsFor k.endpoint s → number ≢ no_memory → number ≡ send_number (send_answer s x)
+  pub stands : (s : State) → StandsFor k.endpoint s → number ≢ no_memory → StandsFor n.endpoint (after_send s x)
+  pub packets : n.packets ≡ k.packets
+  pub long : most_body < length x.body → (number ≡ too_long) × (n ≡ k)
+  pub memory : number ≡ no_memory → (0 < length x.body) × (n ≡ k)
+
+-- packets are made, none longer than packets may be, and take the place of those that wait; where memory is refused for them nothing changes
+pub record Makes (packets : State → List (List ℕ)) (after : State → State) (number : ℕ) (k n : KeptEndpoint) : Type 0 where
+  pub stands : (s : State) → StandsFor k.endpoint s → number ≡ ok → StandsFor n.endpoint (after s)
+  pub made : (s : State) → StandsFor k.endpoint s → number ≡ ok → n.packets ≡ packets s
+  pub short : (s : State) → StandsFor k.endpoint s → number ≡ ok → All (λ p. length p ≤ most_packet) n.packets
+  pub memory : (s : State) → StandsFor k.endpoint s → number ≢ ok → (number ≡ no_memory) × (0 < length (packets s))
+  pub unchanged : number ≢ ok → n ≡ k

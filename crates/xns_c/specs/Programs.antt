@@ -11,7 +11,7 @@ use Rattle.courier_programs.specs.Meanings.{ResolvedError, ResolvedProcedure, Re
 use Rattle.courier_programs.specs.Texts.{TextFault, position_behind, text_meant}
 use Rattle.courier_programs.specs.declared.program.Program.{Program}
 use Rattle.program_tables.specs.Tables.{NodeModel, program_nodes}
-use Rattle.xns_c.specs.Given.{IsPut}
+use Rattle.xns_c.specs.Given.{IsPut, IsTold}
 use Rattle.xns_c.specs.Reasons.{kind_number, program_reason_number}
 use Rattle.xns_c.specs.Results.{ok, nothing, short_buffer, too_long, truncated, not_boolean, over_maximum, not_listed, left_over, wrong_text}
 use Rattle.xns_c.specs.declared.kept_programs.KeptPrograms.{KeptPrograms}
@@ -98,13 +98,7 @@ error_number found = option_map (λ e. e.number) found
 
 -- the number and the version of a program that was found are told, or that there is none
 abbrev pub TellsProgram : Option Program → ℕ × ℕ → ℕ × ℕ → ℕ → Type 0
-TellsProgram (Some p) was told result = (result ≡ ok) × (told ≡ (p.number, p.version))
-TellsProgram None was told result = (result ≡ nothing) × (told ≡ was)
-
--- a number that was found is told, or that there is none
-abbrev pub TellsNumber : Option ℕ → ℕ → ℕ → ℕ → Type 0
-TellsNumber (Some n) was told result = (result ≡ ok) × (told ≡ n)
-TellsNumber None was told result = (result ≡ nothing) × (told ≡ was)
+TellsProgram found was told result = IsTold (option_map (λ p. (p.number, p.version)) found) nothing was told result
 
 -- bytes are given to the front of a buffer: a buffer without room for all of the bytes has none put, and their number is told
 abbrev pub BytesAreGiven : List ℕ → List ℕ → List ℕ → ℕ → ℕ → Type 0
@@ -147,8 +141,8 @@ nodes_given at (n ∷ ns) =
 abbrev pub names_given : List NodeModel → List ℕ
 names_given ns = flat_map (λ n. n.name ++ 0 ∷ []) ns
 
--- a program's nodes and names are given: where one of the buffers has no room for all of its own, nothing is put, and the numbers of nodes
--- and bytes are told
+-- a program's nodes and names are given. Where a buffer has no room for all of its own, nothing is put, and how many nodes and bytes there are
+-- is told
 abbrev pub TableIsGiven : List NodeModel → List XnsNode → List XnsNode → List ℕ → List ℕ → ℕ × ℕ → ℕ → Type 0
 TableIsGiven ns nodes after names names_after sizes result =
     (length (nodes_given 0 ns) ≤ length nodes → length (names_given ns) ≤ length names →

@@ -1,5 +1,6 @@
 -- What is wrong with a text in Courier's notation, and what a node of a table stands for, by number.
 use Rattle.std.specs.Prelude.{ℕ}
+use Rattle.courier_types.specs.declared.predefined.Predefined.TheVariants as predefined
 use Rattle.courier_notation.specs.declared.reason.Reason.{Reason}
 use Rattle.courier_notation.specs.declared.reason.Reason.TheVariants as reasons
 use Rattle.courier_programs.specs.declared.name_reason.NameReason.{NameReason}
@@ -68,13 +69,13 @@ program_reason_number (wrong.Name reason) = name_number reason
 
 -- what a node stands for
 abbrev pub kind_number : NodeKind → ℕ
-kind_number kinds.Boolean = 1
-kind_number kinds.Cardinal = 2
-kind_number kinds.LongCardinal = 3
-kind_number kinds.Integer = 4
-kind_number kinds.LongInteger = 5
-kind_number kinds.Unspecified = 6
-kind_number kinds.Text = 7
+kind_number (kinds.Predefined predefined.Boolean) = 1
+kind_number (kinds.Predefined predefined.Cardinal) = 2
+kind_number (kinds.Predefined predefined.LongCardinal) = 3
+kind_number (kinds.Predefined predefined.Integer) = 4
+kind_number (kinds.Predefined predefined.LongInteger) = 5
+kind_number (kinds.Predefined predefined.Unspecified) = 6
+kind_number (kinds.Predefined predefined.Text) = 7
 kind_number kinds.Enumeration = 8
 kind_number kinds.Member = 9
 kind_number kinds.Array = 10

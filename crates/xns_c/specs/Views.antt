@@ -2,10 +2,8 @@
 use Rattle.std.specs.Prelude.{◌≡◌, ◌≤◌, ℕ, ◌+◌, List, drop, length, slice_range, Ok}
 use Rattle.xns_idp.specs.Packet.{PacketModel}
 use Rattle.xns_idp.specs.Reading.{packet_of}
-use Rattle.xns_spp.specs.declared.header.Header.{Header}
 use Rattle.xns_c.specs.Given.{is_yes}
 use Rattle.xns_c.specs.Structs.{address_of_struct}
-use Rattle.xns_c.specs.declared.header.XnsHeader.{XnsHeader}
 use Rattle.xns_c.specs.declared.packet.XnsPacket.{XnsPacket}
 
 -- the packet with this body
@@ -39,14 +37,3 @@ pub record StandsIn (IsSuch : PacketModel → Type 0) (before : ℕ) (bytes : Li
   pub at : place ≡ 30 + before
   pub within : place + size ≤ length bytes
   pub body : slice_range bytes place (place + size) ≡ drop before packet.body
-
-abbrev pub header_of_struct : XnsHeader → Header
-header_of_struct h = record {
-  control = h.control;
-  stream = h.stream;
-  source_id = h.source_id;
-  target_id = h.target_id;
-  sequence = h.sequence;
-  acknowledge = h.acknowledge;
-  allocation = h.allocation;
-}

@@ -3,16 +3,14 @@
 ghost use Rattle.std.specs.Prelude.{◌≡◌, ◌≢◌, ◌⊎◌, ◌<◌, ◌≤◌, ℕ, List, [], ◌∷◌, length, IfSome, Some, None};
 ghost use Rattle.xns_spp.specs.Ends.{most_pending};
 ghost use Rattle.xns_spp.specs.Held.{StandsFor};
-ghost use Rattle.xns_spp.specs.Packet.{most_body};
-ghost use Rattle.xns_spp.specs.Sending.{send_answer, after_send, flush_answer};
-ghost use Rattle.xns_spp.specs.Sending.{after_flush, tick_answer, after_tick};
+ghost use Rattle.xns_spp.specs.Sending.{flush_answer, after_flush, tick_answer, after_tick};
 ghost use Rattle.xns_spp.specs.State.{State, initiator_state, responder_state};
 ghost use Rattle.xns_c.specs.Endpoints.{HandsUpToBuffer, TakesPacket};
 ghost use Rattle.xns_c.specs.Given.{IsPut, IsPutIfThere};
 ghost use Rattle.xns_c.specs.Handle.{kept_endpoint_of};
-ghost use Rattle.xns_c.specs.KeptEndpoint.{KeepsEndpoint, Makes, waiting_packets};
-ghost use Rattle.xns_c.specs.Results.{ok, nothing, no_memory, no_endpoint, short_buffer, bad_argument, too_long, send_number};
-ghost use Rattle.xns_c.specs.Results.{dropped_number};
+ghost use Rattle.xns_c.specs.KeptEndpoint.{Accepts, KeepsEndpoint, Makes, waiting_packets};
+ghost use Rattle.xns_c.specs.Owned.{Changes};
+ghost use Rattle.xns_c.specs.Results.{ok, nothing, no_memory, no_endpoint, short_buffer, bad_argument, dropped_number};
 ghost use Rattle.xns_c.specs.Structs.{address_of_struct, item_given};
 
 use crate::address::XnsAddress;
@@ -22,7 +20,6 @@ use crate::front::put_front;
 use crate::handle::XnsEndpoint;
 use crate::handling::Handle;
 use crate::item::XnsItem;
-use crate::laws::packets_have_their_sizes;
 use crate::received::XnsReceived;
 use crate::results::{
     BAD_ARGUMENT, NO_ENDPOINT, NO_MEMORY, NOTHING, OK, SHORT_BUFFER, dropped_number,
@@ -150,22 +147,12 @@ pub extern "C" fn xns_endpoint_send(
     last: u8,
     body: &[u8],
 ) -> u32
-    ensures number { (s : State) → KeepsEndpoint (kept_endpoint_of handle.old) s → result ≢ no_memory
-        → result ≡ send_number (send_answer s (item_given stream attention last body.now)) }
-    ensures stands { (s : State) → KeepsEndpoint (kept_endpoint_of handle.old) s → result ≢ no_memory
-        → KeepsEndpoint (kept_endpoint_of handle.new) (after_send s (item_given stream attention last body.now)) }
-    ensures packets { waiting_packets (kept_endpoint_of handle.new) ≡ waiting_packets (kept_endpoint_of handle.old) }
-    ensures none { kept_endpoint_of handle.old ≡ None → (result ≡ no_endpoint) × (kept_endpoint_of handle.new ≡ None) }
-    ensures long { kept_endpoint_of handle.old ≢ None → most_body < length body.now → (result ≡ too_long)
-        × (kept_endpoint_of handle.new ≡ kept_endpoint_of handle.old) }
-    ensures memory { result ≡ no_memory → (0 < length body.now) × (kept_endpoint_of handle.new ≡ kept_endpoint_of handle.old) }
+    ensures { Changes (kept_endpoint_of handle.old) (kept_endpoint_of handle.new) no_endpoint result
+        (λ k n. Accepts k n (item_given stream attention last body.now) result) }
 {
-    let Some(mut connection) = handle.take(alloc) else {
-        return NO_ENDPOINT;
-    };
-    let result = connection.send(alloc, stream, attention, last, body);
-    handle.put(connection);
-    result
+    handle.change(alloc, NO_ENDPOINT, |connection| {
+        connection.send(alloc, stream, attention, last, body)
+    })
 }
 
 /// Hands up the next item, its bytes to the front of the buffer.
@@ -262,35 +249,17 @@ pub extern "C" fn xns_endpoint_receive(
 /// `NO_ENDPOINT`, or `NO_MEMORY` where memory is refused: all is then as it was.
 #[unsafe(no_mangle)]
 pub extern "C" fn xns_endpoint_flush(alloc: Global, handle: &mut XnsEndpoint) -> u32
-    ensures { Makes (kept_endpoint_of handle.old) (kept_endpoint_of handle.new) flush_answer after_flush result }
+    ensures { Changes (kept_endpoint_of handle.old) (kept_endpoint_of handle.new) no_endpoint result (Makes flush_answer after_flush result) }
 {
-    let Some(mut connection) = handle.take(alloc) else {
-        return NO_ENDPOINT;
-    };
-    packets_have_their_sizes();
-    let result = match connection.flush(alloc) {
-        Ok(()) => OK,
-        Err(_) => NO_MEMORY,
-    };
-    handle.put(connection);
-    result
+    handle.change(alloc, NO_ENDPOINT, |connection| connection.flush(alloc))
 }
 
 /// Makes the packets that are to go out when time has passed; else as `xns_endpoint_flush`.
 #[unsafe(no_mangle)]
 pub extern "C" fn xns_endpoint_tick(alloc: Global, handle: &mut XnsEndpoint) -> u32
-    ensures { Makes (kept_endpoint_of handle.old) (kept_endpoint_of handle.new) tick_answer after_tick result }
+    ensures { Changes (kept_endpoint_of handle.old) (kept_endpoint_of handle.new) no_endpoint result (Makes tick_answer after_tick result) }
 {
-    let Some(mut connection) = handle.take(alloc) else {
-        return NO_ENDPOINT;
-    };
-    packets_have_their_sizes();
-    let result = match connection.tick(alloc) {
-        Ok(()) => OK,
-        Err(_) => NO_MEMORY,
-    };
-    handle.put(connection);
-    result
+    handle.change(alloc, NO_ENDPOINT, |connection| connection.tick(alloc))
 }
 
 /// Puts the next packet that `xns_endpoint_flush` or `xns_endpoint_tick` made to the front of the buffer. Each is given once.

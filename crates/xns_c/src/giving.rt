@@ -7,7 +7,7 @@ ghost use Rattle.call_texts.specs.declared.unread.Unshown.TheVariants.{NoMemory}
 ghost use Rattle.courier_programs.specs.Meanings.{resolved_model};
 ghost use Rattle.program_tables.specs.Tables.{nodes_seen, program_nodes};
 ghost use Rattle.xns_c.specs.Given.{IsPut};
-ghost use Rattle.xns_c.specs.Programs.{BytesAreGiven, GivesBytes, GivesText, TableIsGiven, TellsNumber, TellsProgram, names_given, nodes_given};
+ghost use Rattle.xns_c.specs.Programs.{BytesAreGiven, GivesBytes, GivesText, TableIsGiven, TellsProgram, names_given, nodes_given};
 ghost use Rattle.xns_c.specs.Programs.{program_called as program_called_of, unread_number};
 ghost use Rattle.xns_c.specs.Results.{ok, no_memory, short_buffer};
 
@@ -19,6 +19,7 @@ use crate::results::{
     LEFT_OVER, NO_MEMORY, NOT_BOOLEAN, NOT_LISTED, NOTHING, OK, OVER_MAXIMUM, SHORT_BUFFER,
     TOO_LONG, TRUNCATED,
 };
+use crate::told::tell_both;
 use call_texts::{UnreadReason, Unshown};
 use courier_programs::Program;
 use program_tables::{Node, table_of};
@@ -28,27 +29,8 @@ use std::alloc::{AllocError, Global};
 pub fn tell_program(programs: &[Program], name: &[u8], number: &mut u32, version: &mut u16) -> u32
     ensures { TellsProgram (program_called_of programs.now name.now) (number.old, version.old) (number.new, version.new) result }
 {
-    match program_called(programs, name) {
-        Some(found) => {
-            *number = found.number;
-            *version = found.version;
-            OK
-        }
-        None => NOTHING,
-    }
-}
-
-/// Tells a number, if there is one.
-pub fn tell_number(found: Option<u16>, number: &mut u16) -> u32
-    ensures { TellsNumber found number.old number.new result }
-{
-    match found {
-        Some(found) => {
-            *number = found;
-            OK
-        }
-        None => NOTHING,
-    }
+    let found = program_called(programs, name).map(|found| (found.number, found.version));
+    tell_both(found, NOTHING, number, version)
 }
 
 /// Puts bytes to the front of a buffer.
@@ -152,12 +134,10 @@ fn give_table(
     OK
 }
 
-/// Gives the table of a program, and tells its number and version.
+/// Gives the table of a program.
 pub fn give_program(
     alloc: Global,
     program: &Program,
-    number: &mut u32,
-    version: &mut u16,
     nodes: &mut [XnsNode],
     count: &mut usize,
     names: &mut [u8],
@@ -165,8 +145,6 @@ pub fn give_program(
 ) -> u32
     ensures given { result ≢ no_memory → TableIsGiven (program_nodes (resolved_model program.now)) nodes.old nodes.new names.old names.new
         (count.new, length.new) result }
-    ensures told { result ≡ ok → (number.new ≡ program.now.number) × (version.new ≡ program.now.version) }
-    ensures untold { result ≢ ok → (number.new ≡ number.old) × (version.new ≡ version.old) }
     ensures wants { result ≡ no_memory → program_nodes (resolved_model program.now) ≢ [] }
     ensures memory { result ≡ no_memory → (nodes.new ≡ nodes.old) × (names.new ≡ names.old) × (count.new ≡ count.old) × (length.new ≡ length.old) }
 {
@@ -176,10 +154,5 @@ pub fn give_program(
     let Ok((out, text)) = nodes_out(alloc, &table) else {
         return NO_MEMORY;
     };
-    let result = give_table(&out, &text, nodes, count, names, length);
-    if result == OK {
-        *number = program.number;
-        *version = program.version;
-    }
-    result
+    give_table(&out, &text, nodes, count, names, length)
 }

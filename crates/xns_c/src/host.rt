@@ -148,9 +148,15 @@ pub extern "C" fn xns_host_connect(
     let Some(mut kept) = handle.take(alloc) else {
         return NO_HOST;
     };
-    let result = kept.connect(now, via, socket, peer.address(), number);
+    let made = kept.host.connect(now, via, socket, peer.address());
     handle.put(kept);
-    result
+    match made {
+        Ok(made) => {
+            *number = made;
+            OK
+        }
+        Err(fault) => host_fault_number(fault),
+    }
 }
 
 /// Puts out a call on a connection of our own, whose words are copied.

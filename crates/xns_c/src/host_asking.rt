@@ -1,12 +1,10 @@
 //! What a host that C holds is asked, which leaves it as it is.
 
-ghost use Rattle.std.specs.Prelude.{◌≡◌, ◌≢◌, false, count_by, Some, None};
+ghost use Rattle.std.specs.Prelude.{◌≡◌, count_by, Some, None};
 ghost use Rattle.std.specs.Option.{is_some};
-ghost use Rattle.xns_host.specs.Hosting.{has_guest};
-ghost use Rattle.xns_host.specs.declared.guest.Guest.{Guest};
 ghost use Rattle.xns_c.specs.Handle.{kept_of};
-ghost use Rattle.xns_c.specs.Hosts.{WalksOn, Wakes, guest_at};
-ghost use Rattle.xns_c.specs.Results.{ok, no_host, no_connection};
+ghost use Rattle.xns_c.specs.Hosts.{TellsOfGuest, WalksOn, Wakes};
+ghost use Rattle.xns_c.specs.Results.{no_host};
 ghost use Rattle.xns_c.specs.Settings.{never};
 ghost use Rattle.xns_c.specs.Structs.{address_of_struct};
 ghost use Rattle.xns_c.specs.declared.kept_host.KeptHost.{KeptHost};
@@ -15,7 +13,8 @@ use crate::address::XnsAddress;
 use crate::handling::Handle;
 use crate::host_handle::XnsHost;
 use crate::kept_host::NEVER;
-use crate::results::{NO_CONNECTION, NO_HOST, NOTHING, OK};
+use crate::results::{NO_CONNECTION, NO_HOST, NOTHING};
+use crate::told::tell;
 use std::alloc::Global;
 
 /// When the host wants to be asked at the latest, for events and then for packets: 0 at once, 2^64 - 1 never. Never where there is no host.
@@ -57,13 +56,7 @@ pub extern "C" fn xns_host_number_from(
     };
     let found = kept.host.number_from(from);
     handle.put(kept);
-    match found {
-        Some(found) => {
-            *number = found;
-            OK
-        }
-        None => NOTHING,
-    }
+    tell(found, NOTHING, number)
 }
 
 /// Whom the connection with this number was opened to, or who opened it.
@@ -76,25 +69,15 @@ pub extern "C" fn xns_host_peer(
     number: usize,
     peer: &mut XnsAddress,
 ) -> u32
-    ensures some { (k : KeptHost) (g : Guest) → kept_of handle.old ≡ Some k → guest_at k number ≡ Some (Some g)
-        → (result ≡ ok) × (address_of_struct peer.new ≡ g.peer) }
-    ensures nobody { (k : KeptHost) → kept_of handle.old ≡ Some k → has_guest (guest_at k number) ≡ false → result ≡ no_connection }
-    ensures none { kept_of handle.old ≡ None → result ≡ no_host }
-    ensures same { kept_of handle.new ≡ kept_of handle.old }
-    ensures unchanged { result ≢ ok → peer.new ≡ peer.old }
+    ensures { TellsOfGuest (kept_of handle.old) (kept_of handle.new) number (λ g. g.peer) address_of_struct peer.old peer.new result }
 {
     let Some(kept) = handle.take(alloc) else {
         return NO_HOST;
     };
     let found = kept.host.peer(number);
     handle.put(kept);
-    match found {
-        Some(found) => {
-            *peer = XnsAddress::of(&found);
-            OK
-        }
-        None => NO_CONNECTION,
-    }
+    let found = found.map(|found| XnsAddress::of(&found));
+    tell(found, NO_CONNECTION, peer)
 }
 
 /// The tag of the connection with this number.
@@ -107,23 +90,12 @@ pub extern "C" fn xns_host_tag(
     number: usize,
     tag: &mut u64,
 ) -> u32
-    ensures some { (k : KeptHost) (g : Guest) → kept_of handle.old ≡ Some k → guest_at k number ≡ Some (Some g)
-        → (result ≡ ok) × (tag.new ≡ g.tag) }
-    ensures nobody { (k : KeptHost) → kept_of handle.old ≡ Some k → has_guest (guest_at k number) ≡ false → result ≡ no_connection }
-    ensures none { kept_of handle.old ≡ None → result ≡ no_host }
-    ensures same { kept_of handle.new ≡ kept_of handle.old }
-    ensures unchanged { result ≢ ok → tag.new ≡ tag.old }
+    ensures { TellsOfGuest (kept_of handle.old) (kept_of handle.new) number (λ g. g.tag) (λ t. t) tag.old tag.new result }
 {
     let Some(kept) = handle.take(alloc) else {
         return NO_HOST;
     };
     let found = kept.host.tag(number);
     handle.put(kept);
-    match found {
-        Some(found) => {
-            *tag = found;
-            OK
-        }
-        None => NO_CONNECTION,
-    }
+    tell(found, NO_CONNECTION, tag)
 }

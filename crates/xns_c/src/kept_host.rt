@@ -1,6 +1,6 @@
 //! A host that C holds.
 
-ghost use Rattle.std.specs.Prelude.{◌≡◌, ◌≢◌, IfOk, OnErr, Some, None, Ok, Err, length};
+ghost use Rattle.std.specs.Prelude.{◌≡◌, IfOk, OnErr, Some, None, Ok, Err, length};
 ghost use Rattle.xns_connection.specs.Calls.{raw_of_call};
 ghost use Rattle.xns_host.specs.Settings.{wrong_setting};
 ghost use Rattle.xns_host.specs.Standing.{IsNewHost};
@@ -10,13 +10,12 @@ ghost use Rattle.xns_host.specs.declared.host_fault.HostFault.TheVariants.{NoMem
 ghost use Rattle.xns_host.specs.declared.outgoing.Outgoing.{Outgoing};
 ghost use Rattle.xns_host.specs.declared.setting.Setting.{Setting};
 ghost use Rattle.xns_c.specs.Heads.{answer_of_kind};
-ghost use Rattle.xns_c.specs.Hosts.{AbandonsOne, HostCalls, AnswersCall, Closes, Connects, HostMoves, HostServes, Receives, Wakes, FetchesEvent, FetchesPacket};
+ghost use Rattle.xns_c.specs.Hosts.{AbandonsOne, HostCalls, AnswersCall, Closes, HostMoves, HostServes, Receives, Wakes, FetchesEvent, FetchesPacket};
 ghost use Rattle.xns_c.specs.Hosts.{TagsOne, keeps_answer, kept_after, kept_closing, kept_tagging};
-ghost use Rattle.xns_c.specs.Results.{ok};
 
 use crate::address::XnsAddress;
 use crate::event::XnsEvent;
-use crate::faults::{host_fault_number, host_told};
+use crate::faults::host_told;
 use crate::front::put_front;
 use crate::heads::answer_of_kind;
 use crate::results::{BAD_ARGUMENT, BUSY, NO_MEMORY, NOTHING, OK, SHORT_BUFFER};
@@ -24,7 +23,6 @@ use crate::telling_events::{give_event, is_answer, number_of, set_tag};
 use courier_sessions::Program;
 use std::alloc::Global;
 use xns_host::{Call, Event, Host, HostFault, Outgoing, Settings};
-use xns_idp::Address;
 
 /// Never: a time that does not come.
 pub const NEVER: u64 = u64::MAX;
@@ -73,27 +71,6 @@ impl KeptHost {
         ensures { HostServes self.old self.new socket programs.now result }
     {
         host_told(self.host.serve(socket, programs))
-    }
-
-    /// Opens a connection, and tells its number.
-    pub fn connect(
-        &mut self,
-        now: u64,
-        via: u64,
-        socket: u16,
-        peer: Address,
-        number: &mut usize,
-    ) -> u32
-        ensures connects { Connects self.old self.new now socket peer via number.new result }
-        ensures untold { result ≢ ok → number.new ≡ number.old }
-    {
-        match self.host.connect(now, via, socket, peer) {
-            Ok(found) => {
-                *number = found;
-                OK
-            }
-            Err(fault) => host_fault_number(fault),
-        }
     }
 
     /// Whether an answer on the connection with this number is kept.

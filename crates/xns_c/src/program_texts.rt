@@ -9,7 +9,7 @@ use crate::giving::{give_program, give_text};
 use crate::handling::Handle;
 use crate::node::XnsNode;
 use crate::programs_handle::XnsPrograms;
-use crate::results::NOTHING;
+use crate::results::{NOTHING, OK};
 use call_texts::{abort_text, call_text, return_text};
 use std::alloc::Global;
 
@@ -131,7 +131,13 @@ pub extern "C" fn xns_programs_table(
         return NOTHING;
     };
     let result = match kept.programs.get(index) {
-        Some(program) => give_program(alloc, program, number, version, nodes, count, names, length),
+        Some(program) => {
+            let result = give_program(alloc, program, nodes, count, names, length);
+            if result == OK {
+                (*number, *version) = (program.number, program.version);
+            }
+            result
+        }
         None => NOTHING,
     };
     handle.put(kept);

@@ -3,20 +3,22 @@
 ghost use Rattle.std.specs.Prelude.{◌≡◌, ◌≢◌, [], None};
 ghost use Rattle.courier_programs.specs.Scopes.{program_by};
 ghost use Rattle.courier_programs.specs.Texts.{text_meant};
-ghost use Rattle.xns_c.specs.Programs.{GivesBytes, ReadingWants, ReadsText, TellsNumber, TellsProgram, error_called_in, error_name, error_number};
+ghost use Rattle.xns_c.specs.Given.{IsTold};
+ghost use Rattle.xns_c.specs.Programs.{GivesBytes, ReadingWants, ReadsText, TellsProgram, error_called_in, error_name, error_number};
 ghost use Rattle.xns_c.specs.Programs.{error_numbered_in, kept_programs_of, procedure_called_in, procedure_name, procedure_number};
 ghost use Rattle.xns_c.specs.Programs.{procedure_numbered_in, program_called, given_program_name, programs_of};
-ghost use Rattle.xns_c.specs.Results.{no_memory};
+ghost use Rattle.xns_c.specs.Results.{nothing, no_memory};
 
 use crate::finding::{
     find_error, find_procedure, name_of_error, name_of_procedure, name_of_program,
 };
-use crate::giving::{give_name, tell_number, tell_program};
+use crate::giving::{give_name, tell_program};
 use crate::handling::Handle;
 use crate::kept_programs::KeptPrograms;
 use crate::notation_fault::XnsNotationFault;
 use crate::programs_handle::XnsPrograms;
 use crate::results::{NO_MEMORY, NOTHING, OK};
+use crate::told::tell;
 use std::alloc::Global;
 
 /// Reads the first text of a handle.
@@ -111,14 +113,14 @@ pub extern "C" fn xns_programs_find_procedure(
     name: &[u8],
     number: &mut u16,
 ) -> u32
-    ensures told { TellsNumber (procedure_number (procedure_called_in name.now (program_by (programs_of handle.old) program version)))
+    ensures told { IsTold (procedure_number (procedure_called_in name.now (program_by (programs_of handle.old) program version))) nothing
         number.old number.new result }
     ensures same { programs_of handle.new ≡ programs_of handle.old }
 {
     let found = handle.ask(alloc, None, |kept| {
         find_procedure(&kept.programs, program, version, name)
     });
-    tell_number(found, number)
+    tell(found, NOTHING, number)
 }
 
 /// Tells the number of the error of this name in a program.
@@ -133,14 +135,14 @@ pub extern "C" fn xns_programs_find_error(
     name: &[u8],
     number: &mut u16,
 ) -> u32
-    ensures told { TellsNumber (error_number (error_called_in name.now (program_by (programs_of handle.old) program version)))
+    ensures told { IsTold (error_number (error_called_in name.now (program_by (programs_of handle.old) program version))) nothing
         number.old number.new result }
     ensures same { programs_of handle.new ≡ programs_of handle.old }
 {
     let found = handle.ask(alloc, None, |kept| {
         find_error(&kept.programs, program, version, name)
     });
-    tell_number(found, number)
+    tell(found, NOTHING, number)
 }
 
 /// Puts the name of a program to the front of a buffer.

@@ -5,6 +5,7 @@ ghost use Rattle.xns_c.specs.Reasons.{kind_number, name_number, notation_number,
 
 use courier_notation::Reason;
 use courier_programs::{NameReason, ProgramReason};
+use courier_types::Predefined;
 use program_tables::NodeKind;
 
 /// What is wrong with tokens, or how they follow one another.
@@ -85,13 +86,13 @@ pub fn kind_number(kind: NodeKind) -> u32
     ensures { result ≡ kind_number kind }
 {
     match kind {
-        NodeKind::Boolean => 1,
-        NodeKind::Cardinal => 2,
-        NodeKind::LongCardinal => 3,
-        NodeKind::Integer => 4,
-        NodeKind::LongInteger => 5,
-        NodeKind::Unspecified => 6,
-        NodeKind::Text => 7,
+        NodeKind::Predefined(Predefined::Boolean) => 1,
+        NodeKind::Predefined(Predefined::Cardinal) => 2,
+        NodeKind::Predefined(Predefined::LongCardinal) => 3,
+        NodeKind::Predefined(Predefined::Integer) => 4,
+        NodeKind::Predefined(Predefined::LongInteger) => 5,
+        NodeKind::Predefined(Predefined::Unspecified) => 6,
+        NodeKind::Predefined(Predefined::Text) => 7,
         NodeKind::Enumeration => 8,
         NodeKind::Member => 9,
         NodeKind::Array => 10,

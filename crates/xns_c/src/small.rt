@@ -1,18 +1,15 @@
 //! Echo, Error and Packet Exchange.
 
-ghost use Rattle.std.specs.Prelude.{◌≡◌, ◌≢◌, ◌<◌, ◌≤◌, drop, length, Ok};
-ghost use Rattle.xns_small.specs.ErrorReport.{error_of};
-ghost use Rattle.xns_small.specs.Exchange.{exchange_of};
-ghost use Rattle.xns_c.specs.Complaints.{WritesComplaint};
+ghost use Rattle.xns_c.specs.Complaints.{TellsError, WritesComplaint};
 ghost use Rattle.xns_c.specs.Echo.{WritesEchoReply};
-ghost use Rattle.xns_c.specs.Exchange.{WritesExchange};
-ghost use Rattle.xns_c.specs.Results.{ok, short};
+ghost use Rattle.xns_c.specs.Exchange.{TellsExchange, WritesExchange};
 ghost use Rattle.xns_c.specs.Structs.{address_of_struct};
 
 use crate::address::XnsAddress;
 use crate::front::put_front;
-use crate::results::{NO_MEMORY, NOTHING, OK, SHORT, SHORT_BUFFER, TOO_LONG};
+use crate::results::{NO_MEMORY, NOTHING, SHORT, SHORT_BUFFER, TOO_LONG};
 use crate::sending::{BEFORE_EXCHANGED, MOST_EXCHANGED};
+use crate::told::tell_both;
 use std::alloc::Global;
 use xns_idp::decode;
 use xns_small::{Exchange, answer_echo, complain, read_error, read_exchange, write_exchange};
@@ -68,20 +65,10 @@ pub extern "C" fn xns_complain(
 #[tactic(auto, unfolding(xns_small::specs::ErrorReport::error_of))]
 #[unsafe(no_mangle)]
 pub extern "C" fn xns_error_read(body: &[u8], number: &mut u16, parameter: &mut u16) -> u32
-    ensures read { result ≡ ok → error_of body.now ≡ Ok
-        (record { number = number.new; parameter = parameter.new; quoted = drop 4 body.now }) }
-    ensures long { 4 ≤ length body.now → result ≡ ok }
-    ensures short { length body.now < 4 → result ≡ short }
-    ensures unchanged { result ≢ ok → (number.new ≡ number.old) × (parameter.new ≡ parameter.old) }
+    ensures { TellsError body.now (number.old, parameter.old) (number.new, parameter.new) result }
 {
-    match read_error(body) {
-        Ok(report) => {
-            *number = report.number;
-            *parameter = report.parameter;
-            OK
-        }
-        Err(_) => SHORT,
-    }
+    let told = read_error(body).map(|report| (report.number, report.parameter));
+    tell_both(told.ok(), SHORT, number, parameter)
 }
 
 /// Reads the data of a Packet Exchange packet; its own data follow from byte 6 on. `SHORT` for fewer than 6 bytes
@@ -89,19 +76,10 @@ pub extern "C" fn xns_error_read(body: &[u8], number: &mut u16, parameter: &mut 
 #[tactic(auto, unfolding(xns_small::specs::Exchange::exchange_of))]
 #[unsafe(no_mangle)]
 pub extern "C" fn xns_exchange_read(body: &[u8], id: &mut u32, client: &mut u16) -> u32
-    ensures read { result ≡ ok → exchange_of body.now ≡ Ok (record { id = id.new; client = client.new; body = drop 6 body.now }) }
-    ensures long { 6 ≤ length body.now → result ≡ ok }
-    ensures short { length body.now < 6 → result ≡ short }
-    ensures unchanged { result ≢ ok → (id.new ≡ id.old) × (client.new ≡ client.old) }
+    ensures { TellsExchange body.now (id.old, client.old) (id.new, client.new) result }
 {
-    match read_exchange(body) {
-        Ok(exchange) => {
-            *id = exchange.id;
-            *client = exchange.client;
-            OK
-        }
-        Err(_) => SHORT,
-    }
+    let told = read_exchange(body).map(|exchange| (exchange.id, exchange.client));
+    tell_both(told.ok(), SHORT, id, client)
 }
 
 /// Puts the data of a Packet Exchange packet to the front of the buffer.

@@ -5,7 +5,7 @@
 ghost use Rattle.std.specs.Prelude.{◌≡◌, ◌≢◌, ◌<◌, ◌≤◌, ◌+◌, ◌^◌, [], ◌∷◌, length};
 ghost use Rattle.courier_types.specs.Spelling.{bytes_spelling, value_spelling};
 ghost use Rattle.courier_types.specs.Value.{ValueModel};
-ghost use Rattle.xns_c.specs.Cursor.{faulted, WritesWords};
+ghost use Rattle.xns_c.specs.Cursor.{faulted, Puts, WritesValue, WritesWords};
 ghost use Rattle.xns_c.specs.Given.{is_yes};
 ghost use Rattle.xns_c.specs.Results.{ok, over_maximum, too_long};
 
@@ -17,8 +17,7 @@ const MOST_TEXT: usize = 65_535;
 
 /// Puts these words at the place of the cursor, which is behind them then.
 fn put(words: &[u16], buffer: &mut [u16], cursor: &mut XnsCursor) -> u32
-    ensures written { cursor.old.fault ≡ ok → WritesWords words.now cursor.old cursor.new buffer.old buffer.new result }
-    ensures stays { cursor.old.fault ≢ ok → (result ≡ cursor.old.fault) × (cursor.new ≡ cursor.old) × (buffer.new ≡ buffer.old) }
+    ensures { Puts words.now cursor.old cursor.new buffer.old buffer.new result }
 {
     if cursor.fault != OK {
         return cursor.fault;
@@ -55,9 +54,7 @@ fn fill_text(bytes: &[u8], words: &mut [u16])
 /// Writes a cardinal, one word.
 #[unsafe(no_mangle)]
 pub extern "C" fn xns_write_cardinal(buffer: &mut [u16], cursor: &mut XnsCursor, value: u16) -> u32
-    ensures written { cursor.old.fault ≡ ok → WritesWords
-        (value_spelling (ValueModel.cardinal value)) cursor.old cursor.new buffer.old buffer.new result }
-    ensures stays { cursor.old.fault ≢ ok → (result ≡ cursor.old.fault) × (cursor.new ≡ cursor.old) × (buffer.new ≡ buffer.old) }
+    ensures { WritesValue (ValueModel.cardinal value) cursor.old cursor.new buffer.old buffer.new result }
 {
     put(&[value], buffer, cursor)
 }
@@ -69,9 +66,7 @@ pub extern "C" fn xns_write_long_cardinal(
     cursor: &mut XnsCursor,
     value: u32,
 ) -> u32
-    ensures written { cursor.old.fault ≡ ok → WritesWords
-        (value_spelling (ValueModel.long_cardinal value)) cursor.old cursor.new buffer.old buffer.new result }
-    ensures stays { cursor.old.fault ≢ ok → (result ≡ cursor.old.fault) × (cursor.new ≡ cursor.old) × (buffer.new ≡ buffer.old) }
+    ensures { WritesValue (ValueModel.long_cardinal value) cursor.old cursor.new buffer.old buffer.new result }
 {
     put(
         &[(value / 65536) as u16, (value % 65536) as u16],
@@ -83,9 +78,7 @@ pub extern "C" fn xns_write_long_cardinal(
 /// Writes an integer, one word.
 #[unsafe(no_mangle)]
 pub extern "C" fn xns_write_integer(buffer: &mut [u16], cursor: &mut XnsCursor, value: i16) -> u32
-    ensures written { cursor.old.fault ≡ ok → WritesWords
-        (value_spelling (ValueModel.integer value)) cursor.old cursor.new buffer.old buffer.new result }
-    ensures stays { cursor.old.fault ≢ ok → (result ≡ cursor.old.fault) × (cursor.new ≡ cursor.old) × (buffer.new ≡ buffer.old) }
+    ensures { WritesValue (ValueModel.integer value) cursor.old cursor.new buffer.old buffer.new result }
 {
     put(&[value.cast_unsigned()], buffer, cursor)
 }
@@ -97,9 +90,7 @@ pub extern "C" fn xns_write_long_integer(
     cursor: &mut XnsCursor,
     value: i32,
 ) -> u32
-    ensures written { cursor.old.fault ≡ ok → WritesWords
-        (value_spelling (ValueModel.long_integer value)) cursor.old cursor.new buffer.old buffer.new result }
-    ensures stays { cursor.old.fault ≢ ok → (result ≡ cursor.old.fault) × (cursor.new ≡ cursor.old) × (buffer.new ≡ buffer.old) }
+    ensures { WritesValue (ValueModel.long_integer value) cursor.old cursor.new buffer.old buffer.new result }
 {
     xns_write_long_cardinal(buffer, cursor, value.cast_unsigned())
 }
@@ -107,9 +98,7 @@ pub extern "C" fn xns_write_long_integer(
 /// Writes a boolean, one word. `value` is 0 for no.
 #[unsafe(no_mangle)]
 pub extern "C" fn xns_write_boolean(buffer: &mut [u16], cursor: &mut XnsCursor, value: u8) -> u32
-    ensures written { cursor.old.fault ≡ ok → WritesWords
-        (value_spelling (ValueModel.boolean (is_yes value))) cursor.old cursor.new buffer.old buffer.new result }
-    ensures stays { cursor.old.fault ≢ ok → (result ≡ cursor.old.fault) × (cursor.new ≡ cursor.old) × (buffer.new ≡ buffer.old) }
+    ensures { WritesValue (ValueModel.boolean (is_yes value)) cursor.old cursor.new buffer.old buffer.new result }
 {
     put(&[u16::from(value != 0)], buffer, cursor)
 }

@@ -21,10 +21,10 @@ use Rattle.xns_calls.specs.Unanswered.{UnansweredCalls}
 use Rattle.xns_calls.specs.declared.waiting.Waiting.{Waiting}
 use Rattle.xns_calls.specs.AtEnd.{both_ended, end_turn, ended_of, ended_times, first_in, one_ended, own_ended, read_behind}
 use Rattle.xns_calls.specs.declared.first_kept.FirstKept.{FirstKept}
-use Rattle.xns_calls.specs.Exchange.{Scene, advance_other, advance_own, advance_track, advanced, after_content, after_data, after_new, after_number, after_packet, begin_track, begun, carried, new_number, no_side, of_other, other_reached, own_reached, reached, scene, seen_from_other, take_in_track, told_of}
+use Rattle.xns_calls.specs.Exchange.{Scene, advance_other, advance_own, advanced, after_content, after_data, after_new, after_number, after_packet, begin_track, begun, carried, new_number, no_side, in_flow, in_track, of_other, other_reached, own_reached, reached, scene, seen_from_other, told_of}
 use Rattle.xns_calls.specs.Numbers.{most_early}
 use Rattle.xns_calls.specs.Reading.{Told, after_heard, brought, brought_over, first_read, first_read_over, item_read, item_taken, passed, past, read_next, said_item}
-use Rattle.xns_calls.specs.Read.{handled, kept_item_count, one_read, own_read, read_in_track, read_of, read_times, settled}
+use Rattle.xns_calls.specs.Read.{handled, kept_item_count, one_read, own_read, read_of, read_times, settled}
 use Rattle.xns_calls.specs.Turns.{next_turn}
 use Rattle.xns_calls.proofs.Packets.{read_none}
 use Rattle.xns_calls.specs.Speech.{heard_of}
@@ -110,12 +110,17 @@ taken_asked h n item t e = brought_asked h (n - most_early) t e
 left_none : (side : Side) (call : Option Waiting) → side ≡ no_side → call ≡ None → record side { call = call } ≡ no_side
 left_none side call none e = ap (λ (s : Side). record s { call = call }) none ∙ ap (λ o. record { track = None; call = o }) e
 
+-- what is read of one flow, where no call of the flow behind waits
+flow_none : (reads : Told → Told) (s : Scene) → ((t : Told) → t.calls.asked ≡ None → (reads t).calls.asked ≡ None) → s.other ≡ no_side → (in_flow reads s).other ≡ no_side
+unfolding in_flow
+flow_none reads s asked none = by_track s.own.track
+  where
+    by_track : (o : Option Track) → (in_track reads o s).other ≡ no_side
+    by_track None = none
+    by_track (Some track) = left_none s.other (reads (told_of track s)).calls.asked none (asked (told_of track s) (ap (λ (x : Side). x.call) none))
+
 advanced_none : (h : Heading) (n : ℕ) (s : Scene) → s.other ≡ no_side → (advanced h n s).other ≡ no_side
-unfolding advanced
-advanced_none h n s none = elim s.own.track as (λ o. (advance_track h n o s).other ≡ no_side) [
-  | None ↦ none
-  | Some track ↦ left_none s.other (brought h n (told_of track s)).calls.asked none (brought_asked h n (told_of track s) (ap (λ (x : Side). x.call) none))
-]
+advanced_none h n s none = flow_none (brought h n) s (brought_asked h n) none
 
 reached_none : (h : Heading) (number : Option ℕ) (s : Scene) → s.other ≡ no_side → (other_reached h number s).other ≡ no_side
 unfolding other_reached
@@ -135,10 +140,7 @@ begun_none h packet f s none = elim s.own.track as (λ o. (begin_track h packet 
 
 new_none : (h : Heading) (n : ℕ) (item : Carried) (s : Scene) → s.other ≡ no_side → (after_new h n item s).other ≡ no_side
 unfolding after_new
-new_none h n item s none = elim s.own.track as (λ o. (take_in_track h n item o s).other ≡ no_side) [
-  | None ↦ none
-  | Some track ↦ left_none s.other (item_taken h n item (told_of track s)).calls.asked none (taken_asked h n item (told_of track s) (ap (λ (x : Side). x.call) none))
-]
+new_none h n item s none = flow_none (item_taken h n item) s (taken_asked h n item) none
 
 number_none : (h : Heading) (o : Option ℕ) (item : Carried) (s : Scene) → s.other ≡ no_side → (after_number h o item s).other ≡ no_side
 number_none h None item s none = none
@@ -165,12 +167,7 @@ packet_none h due packet f content s none =
 
 -- a flow that has not begun does not begin either where items are read
 read_other_none : (h : Heading) (s : Scene) → s.other ≡ no_side → (own_read h s).other ≡ no_side
-unfolding own_read
-read_other_none h s none = by_track s.own.track
-  where
-    by_track : (o : Option Track) → (read_in_track h o s).other ≡ no_side
-    by_track None = none
-    by_track (Some track) = left_none s.other (first_read h (told_of track s)).calls.asked none (first_asked h (told_of track s) (ap (λ (x : Side). x.call) none))
+read_other_none h s none = flow_none (first_read h) s (first_asked h) none
 
 read_own_none : (h : Heading) (s : Scene) → s.own ≡ no_side → (own_read h s).own ≡ no_side
 read_own_none h s none = ap (λ (x : Scene). x.own) (read_none h s (ap (λ (x : Side). x.track) none)) ∙ none

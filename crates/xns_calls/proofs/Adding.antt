@@ -9,7 +9,7 @@ use Rattle.xns_spp.specs.declared.header.Header.{Header}
 use Rattle.xns_spp.specs.declared.item.Item.{Item}
 use Rattle.xns_calls.specs.declared.carried.Carried.{Carried}
 use Rattle.xns_calls.specs.Events.{acknowledged_event, after_events, brought_if, captured_event}
-use Rattle.xns_calls.specs.Exchange.{Scene, advance_other, advance_own, advance_track, advanced, after_content, after_data, after_new, after_number, after_packet, begin_track, begun, carried, is_repeat, new_number, of_other, other_reached, own_reached, reached, seen_from_other, take_in_track, told_of, up_to}
+use Rattle.xns_calls.specs.Exchange.{Scene, advance_other, advance_own, advanced, after_content, after_data, after_new, after_number, after_packet, begin_track, begun, carried, in_flow, in_track, is_repeat, new_number, of_other, other_reached, own_reached, reached, seen_from_other, told_of, up_to}
 use Rattle.xns_calls.specs.Input.{FlowSaid, begins, lacks, message, refuses, flow_said_text, said_texts}
 use Rattle.xns_calls.specs.Numbers.{most_early}
 use Rattle.xns_calls.specs.Reading.{Told, after_heard, brought, brought_over, first_read, first_read_over, item_read, item_taken, passed, past, read_next, said_item}
@@ -95,13 +95,17 @@ first_adds h t = first_over_adds h t.track.early t
 
 -- ---- a connection
 
-track_adds : (h : Heading) (n : ℕ) (o : Option Track) (s : Scene) → Adds h s.text (advance_track h n o s).text
-track_adds h n None s = adds_none h s.text
-track_adds h n (Some track) s = brought_adds h n (told_of track s)
+-- what is read of one flow adds no more where both are seen
+pub flow_adds : (h : Heading) (reads : Told → Told) (s : Scene) → ((t : Told) → Adds h t.text (reads t).text) → Adds h s.text (in_flow reads s).text
+unfolding in_flow
+flow_adds h reads s adds = by_track s.own.track
+  where
+    by_track : (o : Option Track) → Adds h s.text (in_track reads o s).text
+    by_track None = adds_none h s.text
+    by_track (Some track) = adds (told_of track s)
 
 advanced_adds : (h : Heading) (n : ℕ) (s : Scene) → Adds h s.text (advanced h n s).text
-unfolding advanced
-advanced_adds h n s = track_adds h n s.own.track s
+advanced_adds h n s = flow_adds h (brought h n) s (brought_adds h n)
 
 other_adds : (h : Heading) (o : Option ℕ) (s : Scene) → Adds (of_other h) s.text (advance_other h o s).text
 other_adds h None s = adds_none (of_other h) s.text
@@ -120,14 +124,10 @@ begun_adds : (h : Heading) (packet : PacketModel) (f : Header) (s : Scene) → A
 unfolding begun
 begun_adds h packet f s = begin_adds h packet f s.own.track s
 
-in_track_adds : (h : Heading) (n : ℕ) (item : Carried) (o : Option Track) (s : Scene) → Adds h s.text (take_in_track h n item o s).text
-in_track_adds h n item None s = adds_none h s.text
-in_track_adds h n item (Some track) s = taken_adds h n item (told_of track s)
-
 pub number_adds : (h : Heading) (o : Option ℕ) (item : Carried) (s : Scene) → Adds h s.text (after_number h o item s).text
 unfolding after_new
 number_adds h None item s = adds_none h s.text
-number_adds h (Some n) item s = in_track_adds h n item s.own.track s
+number_adds h (Some n) item s = flow_adds h (item_taken h n item) s (taken_adds h n item)
 
 data_adds : (h : Heading) (a : Option ℕ) (packet : PacketModel) (f : Header) (content : List ℕ) (s : Scene) → Adds h s.text (after_data h a packet f content s).text
 unfolding after_data

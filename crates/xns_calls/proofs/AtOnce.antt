@@ -7,12 +7,13 @@ use Rattle.std.proofs.lemmas.Bool.Decides.{nat_tests}
 use Rattle.std.proofs.lemmas.Bool.{and_parts, eqb-true, le-ltb, not-true}
 use Rattle.xns_idp.specs.Packet.{PacketModel}
 use Rattle.xns_spp.specs.Header.{is_system}
+use Rattle.xns_spp.specs.Item.{item_with}
 use Rattle.xns_spp.specs.declared.header.Header.{Header}
-use Rattle.xns_calls.specs.Exchange.{Scene, advance_other, after_content, after_data, after_packet, after_told, begin_track, begun, brings_new, carried, is_repeat, other_reached, own_reached, reached, scene, take_number, told_of, unless_repeat, up_to, wants_memory}
+use Rattle.xns_calls.specs.Exchange.{Scene, advance_other, after_content, after_data, after_packet, after_told, begin_track, begun, brings_new, carried, in_flow, in_track, is_repeat, next_read, other_reached, own_reached, reached, scene, take_number, told_of, unless_repeat, up_to, wants_memory}
 use Rattle.xns_calls.specs.Events.{after_events, captured_event}
 use Rattle.xns_calls.specs.Numbers.{most_early, near}
 use Rattle.xns_calls.specs.Queue.{kept, last_kept_number}
-use Rattle.xns_calls.specs.Read.{alone_number, begins_first, comes_next, handled, is_alone, keeps_none, kept_item_count, own_read, read_of, read_once, read_once_in, read_times, settled}
+use Rattle.xns_calls.specs.Read.{alone_number, begins_first, comes_next, handled, is_alone, keeps_none, kept_item_count, read_of, read_once, read_times, settled}
 use Rattle.xns_calls.specs.Reading.{Told, brought, first_read, item_read, item_taken, passed, read_next, with_kept_item}
 use Rattle.xns_calls.specs.Turns.{first_kept, first_line, waits_for_none, next_turn, readable, readable_first}
 use Rattle.xns_calls.specs.declared.carried.Carried.{Carried}
@@ -72,7 +73,7 @@ first_once h e t at none =
 
 settled_once : (h : Heading) (given : Given) (s : Scene) (track : Track) (e : Early) → track.next ≡ e.number → track.early ≡ [] → keeps_none s.other.track ≡ true → waits_for_none s.other.track given.other e.item.acknowledged ≡ true
     → settled h given (after_told (with_early (e ∷ []) (told_of track s)) s) ≡ after_told (read_next h (e.number + 1) e.item.item (told_of track s)) s
-unfolding settled own_read
+unfolding settled in_flow
 settled_once h given s track e at none quiet free =
     let t = told_of track s in
     let x = after_told (with_early (e ∷ []) t) s in
@@ -86,11 +87,11 @@ settled_once h given s track e at none quiet free =
 
 pub once : (h : Heading) (due : Due) (packet : PacketModel) (f : Header) (content : List ℕ) (number : ℕ) (s : Scene) → comes_next due f s.own.track s.other.track ≡ Some number
     → handled h due packet f content s ≡ read_once h number f content s
-unfolding read_once after_packet
+unfolding next_read in_flow after_packet
 once h due packet f content number s comes = by_track s.own.track refl comes
   where
     Goal : Option Track → Type 0
-    Goal o = settled h due.given (own_reached h due.own (after_content h due.acknowledged packet f content (other_reached h due.other s))) ≡ read_once_in h number f content o s
+    Goal o = settled h due.given (own_reached h due.own (after_content h due.acknowledged packet f content (other_reached h due.other s))) ≡ in_track (read_next h (number + 1) (item_with f content)) o s
 
     at_once : (track : Track) → s.own.track ≡ Some track → near track.next f.sequence ≡ Some number → is_alone due f number track s.other.track ≡ true → Goal (Some track)
     at_once track is near_is e =

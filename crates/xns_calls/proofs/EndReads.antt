@@ -27,7 +27,7 @@ use Rattle.xns_calls.proofs.Ordered.{IsOrdered}
 use Rattle.xns_calls.proofs.Kept.{earliest_number}
 use Rattle.xns_calls.proofs.LastKept.{AreAcks, AreBelow, acks_append, brought_if_below, first_upto, upto_below, upto_twice}
 use Rattle.xns_calls.proofs.LessAtEnd.{both_left, other_left, own_left}
-use Rattle.xns_calls.proofs.Onwards.{Rests, Says, TurnsRest, other_turn_rests, own_turn_rests, rests_on, rests_so, says_on}
+use Rattle.xns_calls.proofs.Onwards.{Leads, Rests, Says, TurnsRest, leads_nowhere, leads_on, other_turn_rests, own_turn_rests, rests_on, rests_so, says_on}
 use Rattle.xns_calls.proofs.Packets.{own_event, own_other, reached_own}
 use Rattle.xns_calls.proofs.Parts.{acknowledged_new, added, far_text, flow_append, flow_at, other_text, own_text}
 use Rattle.xns_calls.proofs.Steps.{early_of}
@@ -66,44 +66,24 @@ reach_back n m false a s = ap seen_from_other (reach_is (heading_at n m true) a 
 
 -- ---- for a flow that has begun, which is the scene's own
 
+-- events that acknowledge what the flow keeps lead to the scene
 pub record Ends (n : Origin) (m : ℕ) (b : Bool) (s s' : Scene) (t : Told) : Type 0 where
   pub events : List Event
-  pub at : AreAt (heading_at n m b) events
   pub acks : (bound : ℕ) → AreBelow bound (early_of t) → AreAcks bound events × AreBelow bound (early_of (after_events events t))
-  pub track : s'.own.track ≡ Some (after_events events t).track
-  pub is : after_events events t ≡ told_of (after_events events t).track s'
-  pub parts : List Part
-  pub text : s'.text ≡ s.text ++ parts_text parts
-  pub own : texts_in (flow_at m b) parts ≡ flow_text events t
+  pub leads : Leads n m b s s' t events
 
 stays : (n : Origin) (m : ℕ) (b : Bool) (s : Scene) (t : Told) → s.own.track ≡ Some t.track → t ≡ told_of t.track s → Ends n m b s s t
-stays n m b s t track is = record {
-  events = [];
-  at = tt;
-  acks = λ bound below. (tt, below);
-  track = track;
-  is = is;
-  parts = [];
-  text = sym (append-nil s.text);
-  own = refl;
-}
+stays n m b s t track is = record { events = []; acks = λ bound below. (tt, below); leads = leads_nowhere n m b s t track is }
 
 ends_on : (n : Origin) (m : ℕ) (b : Bool) (s s' s'' : Scene) (t : Told) → (w : Ends n m b s s' t) → Ends n m b s' s'' (after_events w.events t) → Ends n m b s s'' t
-ends_on n m b s s' s'' t w v =
-    let P = flow_at m b in
-    let same = after_append w.events v.events t in record {
-      events = w.events ++ v.events;
-      at = both_at (heading_at n m b) w.events v.events w.at v.at;
-      acks = λ bound below. (
-        acks_append bound w.events v.events (w.acks bound below).0 (v.acks bound (w.acks bound below).1).0,
-        subst (λ (x : Told). AreBelow bound (early_of x)) (sym same) (v.acks bound (w.acks bound below).1).1,
-      );
-      track = v.track ∙ ap (λ (x : Told). Some x.track) (sym same);
-      is = same ∙ v.is ∙ ap (λ (x : Told). told_of x.track s'') (sym same);
-      parts = w.parts ++ v.parts;
-      text = v.text ∙ ap (λ z. z ++ parts_text v.parts) w.text ∙ append_assoc s.text (parts_text w.parts) (parts_text v.parts) ∙ ap (λ z. s.text ++ z) (sym (flat_map-append part_text w.parts v.parts));
-      own = flat_map-append (text_in P) w.parts v.parts ∙ ap (λ z. z ++ texts_in P v.parts) w.own ∙ ap (λ z. flow_text w.events t ++ z) v.own ∙ sym (flow_append w.events v.events t);
-    }
+ends_on n m b s s' s'' t w v = record {
+  events = w.events ++ v.events;
+  acks = λ bound below. (
+    acks_append bound w.events v.events (w.acks bound below).0 (v.acks bound (w.acks bound below).1).0,
+    subst (λ (x : Told). AreBelow bound (early_of x)) (sym (after_append w.events v.events t)) (v.acks bound (w.acks bound below).1).1,
+  );
+  leads = leads_on n m b s s' s'' t w.events v.events w.leads v.leads;
+}
 
 moved_event : (h : Heading) (o : Option ℕ) (s : Scene) (track : Track) → s.own.track ≡ Some track → up_to (last_kept_number track.early) o ≡ o
     → advance_own h o s ≡ after_told (after_events (acknowledged_event h o) (told_of track s)) s
@@ -126,14 +106,16 @@ moves n m b o s t track is upto =
     let said = moved_said n m b o s in
     let after : advance_own h o s ≡ after_told u s = moved_event h o s t.track track upto ∙ ap (λ (x : Told). after_told (after_events events x) s) (sym is) in record {
       events = events;
-      at = ack_at h o;
       acks = λ bound below. moved_acks bound h o t upto below;
-      track = ap (λ (x : Scene). x.own.track) after;
-      is = sym (ap (λ (x : Scene). told_of u.track x) after);
-      parts = told n (flow_at m b) said ∷ [];
-      text = one_text n m b o s;
-      own = append-nil (text_in (flow_at m b) (told n (flow_at m b) said)) ∙ own_text n m b said ∙ sym (said_new n m b o s) ∙ ap (λ (x : Scene). drop (length s.text) x.text) after
-          ∙ ap (λ (x : Told). drop (length x.text) u.text) (sym is) ∙ sym (acknowledged_new h o t);
+      leads = record {
+        at = ack_at h o;
+        track = ap (λ (x : Scene). x.own.track) after;
+        is = sym (ap (λ (x : Scene). told_of u.track x) after);
+        parts = told n (flow_at m b) said ∷ [];
+        text = one_text n m b o s;
+        own = append-nil (text_in (flow_at m b) (told n (flow_at m b) said)) ∙ own_text n m b said ∙ sym (said_new n m b o s) ∙ ap (λ (x : Scene). drop (length s.text) x.text) after
+            ∙ ap (λ (x : Told). drop (length x.text) u.text) (sym is) ∙ sym (acknowledged_new h o t);
+      };
     }
 
 -- the flow behind is brought to a number
@@ -143,13 +125,15 @@ others n m b o s t track =
     let x = seen_from_other s in
     let y = advance_own (heading_at n m (not b)) o x in record {
       events = meanwhile (record { own = y.other.call; asked = y.own.call }) y.text y.is_refused ∷ [];
-      at = tt;
       acks = λ bound below. (tt, below);
-      track = own_other (heading_at n m (not b)) o x ∙ track;
-      is = refl;
-      parts = told n (flow_at m (not b)) (moved_said n m (not b) o x) ∷ [];
-      text = one_text n m (not b) o x;
-      own = ap (λ z. z ++ []) (other_text n m b (moved_said n m (not b) o x));
+      leads = record {
+        at = tt;
+        track = own_other (heading_at n m (not b)) o x ∙ track;
+        is = refl;
+        parts = told n (flow_at m (not b)) (moved_said n m (not b) o x) ∷ [];
+        text = one_text n m (not b) o x;
+        own = ap (λ z. z ++ []) (other_text n m b (moved_said n m (not b) o x));
+      };
     }
 
 -- the flow reads its first item, once the flow behind is brought to what has to be read before
@@ -170,12 +154,12 @@ own_reads n m b s t track is ordered = subst (λ o. Ends n m b s (read_behind h 
         let s' = other_reached h a s in
         let w : Ends n m b s s' t = subst (λ x. Ends n m b s x t) (sym (reach_is h a s)) (others n m b (reached s.other.track a) s t track) in
         let u = after_events w.events t in
-        let some : Some u.track ≡ Some t.track = sym w.track ∙ reached_own h a s ∙ track in
+        let some : Some u.track ≡ Some t.track = sym w.leads.track ∙ reached_own h a s ∙ track in
         let same : u.track ≡ t.track = (cc) in
         let upto : up_to (last_kept_number t.track.early) (Some (first.number + 1)) ≡ Some (first.number + 1) =
         ap (λ k. up_to (last_kept_number t.track.early) (Some (k + 1))) number ∙ first_upto t e rest at ordered ∙ ap (λ k. Some (k + 1)) (sym number) in
         ends_on n m b s s' (advance_own h (Some (first.number + 1)) s') t w
-        (moves n m b (Some (first.number + 1)) s' u w.track w.is (ap (λ (x : Track). up_to (last_kept_number x.early) (Some (first.number + 1))) same ∙ upto))
+        (moves n m b (Some (first.number + 1)) s' u w.leads.track w.leads.is (ap (λ (x : Track). up_to (last_kept_number x.early) (Some (first.number + 1))) same ∙ upto))
 
 -- the flow behind reads its first item
 behind_reads : (n : Origin) (m : ℕ) (b : Bool) (s : Scene) (t : Told) → s.own.track ≡ Some t.track → t ≡ told_of t.track s
@@ -198,7 +182,7 @@ behind_reads n m b s t track is = by_first (first_in s.other.track)
         subst (λ o. up_to (last_kept_number t.track.early) (reached o a) ≡ reached o a) (sym track) (upto_twice (last_kept_number t.track.early) a) in
         let w : Ends n m b s y t = subst (λ z. Ends n m b s z t) (sym (reach_back n m b a s)) (moves n m b (reached s.own.track a) s t track is upto) in
         ends_on n m b s y (seen_from_other (advance_own h (Some (first.number + 1)) (other_reached h a x))) t w
-        (others n m b (Some (first.number + 1)) y (after_events w.events t) w.track)
+        (others n m b (Some (first.number + 1)) y (after_events w.events t) w.leads.track)
 
 own_turn : (n : Origin) (m : ℕ) (b : Bool) (o : Option Bool) (s : Scene) (t : Told) → s.own.track ≡ Some t.track → t ≡ told_of t.track s → IsOrdered t → Ends n m b s (ended_of (heading_at n m b) o s) t
 own_turn n m b None s t track is ordered = stays n m b s t track is
@@ -218,7 +202,7 @@ own_times n m b (suc count) s t track is ordered =
     let h = heading_at n m b in
     let s' = one_ended h s in
     let w = own_turn n m b (end_turn s.own.track s.other.track) s t track is ordered in
-    ends_on n m b s s' (ended_times count h s') t w (own_times n m b count s' (after_events w.events t) w.track w.is (events_ordered w.events t ordered))
+    ends_on n m b s s' (ended_times count h s') t w (own_times n m b count s' (after_events w.events t) w.leads.track w.leads.is (events_ordered w.events t ordered))
 
 other_times : (n : Origin) (m : ℕ) (q : Bool) (count : ℕ) (s : Scene) (t : Told) → s.other.track ≡ Some t.track → t ≡ told_of t.track (seen_from_other s) → IsOrdered t
     → Ends n m (not q) (seen_from_other s) (seen_from_other (ended_times count (heading_at n m q) s)) t
@@ -228,7 +212,7 @@ other_times n m q (suc count) s t track is ordered =
     let s' = one_ended h s in
     let w = other_turn n m q (end_turn s.own.track s.other.track) s t track is ordered in
     ends_on n m (not q) (seen_from_other s) (seen_from_other s') (seen_from_other (ended_times count h s')) t w
-    (other_times n m q count s' (after_events w.events t) w.track w.is (events_ordered w.events t ordered))
+    (other_times n m q count s' (after_events w.events t) w.leads.track w.leads.is (events_ordered w.events t ordered))
 
 pub own_ends : (n : Origin) (m : ℕ) (b : Bool) (s : Scene) (t : Told) → s.own.track ≡ Some t.track → t ≡ told_of t.track s → IsOrdered t → Ends n m b s (both_ended (heading_at n m b) s) t
 unfolding both_ended

@@ -92,25 +92,26 @@ near_end : (n : Origin) (i : ℕ) (b : Bool) (c : Connection) (k : Known) (t : T
     → EndStep n c.number i b k (ended_there n i (Some c) k) t
 near_end n i b c k t there ordered track is =
     let w = flow_ends n b c k t track is ordered in
+    let l = w.leads in
     let u = after_events w.events t in
     let c' = with_scene false (ended_scene n c k) c in
     let same : scene_in b c' (ended_there n i (Some c) k) ≡ seen_by b (ended_scene n c k) = scene_seen b c' (ended_there n i (Some c) k) in
-    let empty : u.track.early ≡ [] = flow_left n b c k u.track w.track in record {
+    let empty : u.track.early ≡ [] = flow_left n b c k u.track l.track in record {
       events = w.events;
-      at = w.at;
+      at = l.at;
       stands = inl (record {
         place = i;
         connection = c';
         there = get_same k.connections i c c' there;
         number = refl;
-        track = ap (λ (x : Scene). x.own.track) same ∙ w.track;
-        is = w.is ∙ ap (λ (x : Scene). told_of u.track x) (sym same);
+        track = ap (λ (x : Scene). x.own.track) same ∙ l.track;
+        is = l.is ∙ ap (λ (x : Scene). told_of u.track x) (sym same);
         ordered = events_ordered w.events t ordered;
       });
       acks = λ bound below. (w.acks bound below).0;
-      parts = w.parts;
-      text = w.text;
-      own = w.own;
+      parts = l.parts;
+      text = l.text;
+      own = l.own;
       done = λ d e number. empty;
       keeps = λ e. empty;
     }

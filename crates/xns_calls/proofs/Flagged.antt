@@ -12,9 +12,9 @@ use Rattle.xns_dump.specs.Laws.{IsLoud, SaysNoRefusal, JoinedTextsSayRefused, On
 use Rattle.xns_calls.specs.Numbers.{most_early}
 use Rattle.xns_calls.specs.AtEnd.{both_ended, end_turn, ended_of, ended_times, first_in, one_ended, own_ended, read_behind}
 use Rattle.xns_calls.specs.declared.first_kept.FirstKept.{FirstKept}
-use Rattle.xns_calls.specs.Exchange.{Scene, advance_other, advance_own, advance_track, advanced, after_content, after_data, after_new, after_number, after_packet, begin_track, begun, carried, new_number, of_other, other_reached, own_reached, reached, seen_from_other, take_in_track, told_of}
-use Rattle.xns_calls.specs.Reading.{Told, after_heard, brought, brought_over, first_read, first_read_over, item_read, passed, past, read_next, said_item}
-use Rattle.xns_calls.specs.Read.{kept_item_count, one_read, own_read, read_in_track, read_of, read_times, settled}
+use Rattle.xns_calls.specs.Exchange.{Scene, advance_other, advance_own, advanced, after_content, after_data, after_new, after_number, after_packet, begin_track, begun, carried, new_number, in_flow, in_track, of_other, other_reached, own_reached, reached, seen_from_other, told_of}
+use Rattle.xns_calls.specs.Reading.{Told, after_heard, brought, brought_over, first_read, first_read_over, item_read, item_taken, passed, past, read_next, said_item}
+use Rattle.xns_calls.specs.Read.{kept_item_count, one_read, own_read, read_of, read_times, settled}
 use Rattle.xns_calls.specs.Turns.{next_turn}
 use Rattle.xns_calls.specs.Speech.{heard_of}
 use Rattle.xns_calls.specs.Telling.{heard_text, is_fault}
@@ -143,13 +143,17 @@ module _ (joined : JoinedTextsSayRefused) (only : OnlyRefusalsSayRefused) where
 
   -- ---- a connection
 
-  track_says : (b : Bool) (h : Heading) (plain : IsPlain h) (n : ℕ) (o : Option Track) (s : Scene) → SaysScene b s → SaysScene b (advance_track h n o s)
-  track_says b h plain n None s k = k
-  track_says b h plain n (Some track) s k = brought_says b h plain n (told_of track s) k
+  -- what is read of one flow says no less where both are seen
+  flow_says : (b : Bool) (reads : Told → Told) (s : Scene) → ((t : Told) → SaysTold b t → SaysTold b (reads t)) → SaysScene b s → SaysScene b (in_flow reads s)
+  unfolding in_flow
+  flow_says b reads s says k = by_track s.own.track
+    where
+      by_track : (o : Option Track) → SaysScene b (in_track reads o s)
+      by_track None = k
+      by_track (Some track) = says (told_of track s) k
 
   advanced_says : (b : Bool) (h : Heading) (plain : IsPlain h) (n : ℕ) (s : Scene) → SaysScene b s → SaysScene b (advanced h n s)
-  unfolding advanced
-  advanced_says b h plain n s k = track_says b h plain n s.own.track s k
+  advanced_says b h plain n s k = flow_says b (brought h n) s (brought_says b h plain n) k
 
   other_says : (b : Bool) (h : Heading) (plain : IsPlain h) (o : Option ℕ) (s : Scene) → SaysScene b s → SaysScene b (advance_other h o s)
   other_says b h plain None s k = k
@@ -175,14 +179,9 @@ module _ (joined : JoinedTextsSayRefused) (only : OnlyRefusalsSayRefused) where
   unfolding begun
   begun_says b h p f s k = begin_says b h p f s.own.track s k
 
-  taken_says : (b : Bool) (h : Heading) (plain : IsPlain h) (n : ℕ) (item : Carried) (o : Option Track) (s : Scene) → SaysScene b s → SaysScene b (take_in_track h n item o s)
-  taken_says b h plain n item None s k = k
-  taken_says b h plain n item (Some track) s k =
-      brought_says b h plain (n - most_early) (told_of track s) k
-
   new_says : (b : Bool) (h : Heading) (plain : IsPlain h) (n : ℕ) (item : Carried) (s : Scene) → SaysScene b s → SaysScene b (after_new h n item s)
   unfolding after_new
-  new_says b h plain n item s k = taken_says b h plain n item s.own.track s k
+  new_says b h plain n item s k = flow_says b (item_taken h n item) s (brought_says b h plain (n - most_early)) k
 
   number_says : (b : Bool) (h : Heading) (plain : IsPlain h) (o : Option ℕ) (item : Carried) (s : Scene) → SaysScene b s → SaysScene b (after_number h o item s)
   number_says b h plain None item s k = k
@@ -204,13 +203,8 @@ module _ (joined : JoinedTextsSayRefused) (only : OnlyRefusalsSayRefused) where
       let v = after_content h due.acknowledged p f content u in
       own_reached_says b h plain due.own v (content_says b h plain due.acknowledged p f content u (reached_says b h plain due.other s k))
 
-  read_in_says : (b : Bool) (h : Heading) (plain : IsPlain h) (o : Option Track) (s : Scene) → SaysScene b s → SaysScene b (read_in_track h o s)
-  read_in_says b h plain None s k = k
-  read_in_says b h plain (Some track) s k = first_says b h plain (told_of track s) k
-
   own_read_says : (b : Bool) (h : Heading) (plain : IsPlain h) (s : Scene) → SaysScene b s → SaysScene b (own_read h s)
-  unfolding own_read
-  own_read_says b h plain s k = read_in_says b h plain s.own.track s k
+  own_read_says b h plain s k = flow_says b (first_read h) s (first_says b h plain) k
 
   turn_says : (b : Bool) (h : Heading) (plain : IsPlain h) (o : Option Bool) (s : Scene) → SaysScene b s → SaysScene b (read_of h o s)
   turn_says b h plain None s k = k

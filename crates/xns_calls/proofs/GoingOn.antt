@@ -115,7 +115,7 @@ own_runs n m b due packet f content s track at =
     let ran = own_settled n m b due.given (after_told u (other_reached h due.other s)) u refl refl in record {
       later = ran.events;
       are = ran.are;
-      is = ap (λ (x : Scene). (settled h due.given x).own.track) (packet_events h due packet f content s track at) ∙ ran.track;
+      is = ap (λ (x : Scene). (settled h due.given x).own.track) (packet_events h due packet f content s track at) ∙ ran.leads.track;
     }
 
 own_begun : (n : Origin) (m : ℕ) (b : Bool) (due : Due) (packet : PacketModel) (f : Header) (content : List ℕ) (s : Scene) (track : Track) → s.own.track ≡ Some track → AreFrom track.next track.early
@@ -186,7 +186,7 @@ new_runs n m b due packet f content s none e =
     let ran = own_settled n m b due.given (after_told v (after_told u (begin_scene h due packet f s))) v refl refl in record {
       later = ran.events;
       are = ran.are;
-      is = ap (λ (x : Scene). (settled h due.given x).own.track) (data_packet h due packet f content s none e) ∙ ran.track;
+      is = ap (λ (x : Scene). (settled h due.given x).own.track) (data_packet h due packet f content s none e) ∙ ran.leads.track;
     }
 
 own_new : (n : Origin) (m : ℕ) (b : Bool) (due : Due) (packet : PacketModel) (f : Header) (content : List ℕ) (s : Scene) → s.own.track ≡ None
@@ -223,7 +223,7 @@ behind_runs n m q due packet f content s track at =
     let new = after_packet h due packet f content s in
     let v = behind_told h due packet f content s track in
     let is : new.other.track ≡ Some v.track = packet_other h due packet f content s ∙ ap (λ (x : Scene). x.other.track) (reached_event h due.other s track at) in
-    let ran = other_settled n m q due.given new v is refl in record { later = ran.events; are = ran.are; is = ran.track }
+    let ran = other_settled n m q due.given new v is refl in record { later = ran.events; are = ran.are; is = ran.leads.track }
 
 behind_begun : (n : Origin) (m : ℕ) (q : Bool) (due : Due) (packet : PacketModel) (f : Header) (content : List ℕ) (s : Scene) (track : Track) → s.other.track ≡ Some track → AreFrom track.next track.early
     → GoesOn (Some track) (handled (heading_at n m q) due packet f content s).other.track

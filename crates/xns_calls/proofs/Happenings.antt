@@ -189,14 +189,15 @@ settled_by : (n : Origin) (i : ℕ) (b q : Bool) (c : Connection) (k : Known) (t
     → Stepped n c.number b k (settled_there n i q (Some c) k) t []
 settled_by n i b q c k t there ordered w =
     let c' = with_scene q (settled (heading_at n c.number q) (given_in q c) (scene_in q c k)) c in
-    let k' = settled_there n i q (Some c) k in record {
+    let k' = settled_there n i q (Some c) k in
+    let l = w.leads in record {
       events = w.events;
       are = fits [] (plain w.events) w.are;
-      at = w.at;
-      stands = inl (record { place = i; connection = c'; there = get_same k.connections i c c' there; number = same_number q _ c; track = w.track; is = w.is; ordered = events_ordered w.events t ordered });
-      parts = w.parts;
-      text = sym (scene_text b c' k') ∙ w.text ∙ ap (λ z. z ++ parts_text w.parts) (scene_text b c k);
-      own = w.own;
+      at = l.at;
+      stands = inl (record { place = i; connection = c'; there = get_same k.connections i c c' there; number = same_number q _ c; track = l.track; is = l.is; ordered = events_ordered w.events t ordered });
+      parts = l.parts;
+      text = sym (scene_text b c' k') ∙ l.text ∙ ap (λ z. z ++ parts_text l.parts) (scene_text b c k);
+      own = l.own;
     }
 
 -- what is then read of the connection of the packet

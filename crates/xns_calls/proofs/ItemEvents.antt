@@ -5,7 +5,7 @@ use Rattle.xns_calls.specs.declared.carried.Carried.{Carried}
 use Rattle.xns_calls.specs.declared.heading.Heading.{Heading}
 use Rattle.xns_calls.specs.declared.track.Track.{Track}
 use Rattle.xns_calls.specs.Events.{after_event, captured}
-use Rattle.xns_calls.specs.Exchange.{Scene, after_new, after_number, after_told, is_repeat, new_number, take_number, told_of, unless_repeat}
+use Rattle.xns_calls.specs.Exchange.{Scene, after_new, after_number, after_told, in_flow, is_repeat, new_number, take_number, told_of, unless_repeat}
 use Rattle.xns_calls.specs.Numbers.{most_early, near}
 use Rattle.xns_calls.specs.Reading.{brought}
 use Rattle.xns_calls.proofs.Known.{with_item}
@@ -14,7 +14,7 @@ use Rattle.xns_calls.proofs.Known.{with_item}
 
 at_side : (h : Heading) (p : Bool) (number : ℕ) (item : Carried) (track : Track) (s : Scene) → s.own.track ≡ Some track
     → after_number h (cond p None (Some number)) item s ≡ after_told (cond p (told_of track s) (with_item number item (brought h (number - most_early) (told_of track s)))) s
-unfolding after_new
+unfolding after_new in_flow
 at_side h p number item track s e = subst (At p) (sym e) (both p)
   where
     with_track : Option Track → Scene

@@ -3,7 +3,7 @@ use Rattle.std.proofs.Common.{◌≡◌, ◌∙◌, ap, sym, refl, subst, arith,
 use Rattle.std.specs.Prelude.{nat_lt, option_map}
 use Rattle.std.proofs.lemmas.Bool.{cond_both, lt-ltb}
 use Rattle.xns_calls.specs.AtEnd.{both_ended, earliest, end_line, end_turn, ended_of, ended_times, first_at_end, first_in, one_ended, own_ended, read_behind}
-use Rattle.xns_calls.specs.Exchange.{Scene, advance_other, advance_track, advanced, of_other, other_reached, reached, seen_from_other, told_of}
+use Rattle.xns_calls.specs.Exchange.{Scene, advance_other, advanced, in_flow, in_track, of_other, other_reached, reached, seen_from_other, told_of}
 use Rattle.xns_calls.specs.Read.{kept_item_count}
 use Rattle.xns_calls.specs.Reading.{Told, brought, brought_over, item_read, passed}
 use Rattle.xns_calls.specs.Turns.{first_line}
@@ -13,7 +13,7 @@ use Rattle.xns_calls.specs.declared.heading.Heading.{Heading}
 use Rattle.xns_calls.specs.declared.track.Track.{Track}
 use Rattle.xns_calls.proofs.Kept.{earliest_number}
 use Rattle.xns_calls.proofs.LessKept.{count}
-use Rattle.xns_calls.proofs.Packets.{advanced_other, reached_own}
+use Rattle.xns_calls.proofs.Packets.{flow_other, reached_own}
 use Rattle.xns_calls.proofs.Steps.{early_of, passed_early, read_early, with_early}
 
 -- ---- a flow that is brought to a number keeps no more
@@ -41,17 +41,17 @@ first_less h e rest t at =
     subst (λ (x : Told). length (early_of x) ≤ length rest) (sym read) (over_less h n rest u (read_early h e (with_early rest t)))
 
 advanced_less : (h : Heading) (n : ℕ) (s : Scene) → kept_item_count (advanced h n s).own.track ≤ kept_item_count s.own.track
-unfolding advanced
+unfolding in_flow
 advanced_less h n s = by_track s.own.track refl
   where
-    by_track : (o : Option Track) → s.own.track ≡ o → kept_item_count (advance_track h n o s).own.track ≤ kept_item_count o
+    by_track : (o : Option Track) → s.own.track ≡ o → kept_item_count (in_track (brought h n) o s).own.track ≤ kept_item_count o
     by_track None at = let none : kept_item_count s.own.track ≡ 0 = ap kept_item_count at in omega (arith, none)
     by_track (Some track) at = brought_less h n (told_of track s)
 
 first_advanced : (h : Heading) (e : Early) (rest : List Early) (track : Track) (s : Scene) → s.own.track ≡ Some track → track.early ≡ e ∷ rest → kept_item_count (advanced h (e.number + 1) s).own.track ≤ length rest
-unfolding advanced
+unfolding in_flow
 first_advanced h e rest track s at first =
-    subst (λ o. kept_item_count (advance_track h (e.number + 1) o s).own.track ≤ length rest) (sym at) (first_less h e rest (told_of track s) first)
+    subst (λ o. kept_item_count (in_track (brought h (e.number + 1)) o s).own.track ≤ length rest) (sym at) (first_less h e rest (told_of track s) first)
 
 reached_less : (h : Heading) (number : Option ℕ) (s : Scene) → kept_item_count (other_reached h number s).other.track ≤ kept_item_count s.other.track
 unfolding other_reached
@@ -77,7 +77,7 @@ own_less h s line is = by_track s.own.track refl is
         let same : first.number ≡ early.number = earliest_number start (early ∷ rest) in
         let own : kept_item_count (advanced h (early.number + 1) known).own.track ≤ length rest =
         first_advanced h early rest track known (reached_own h first.acknowledged s ∙ at) e in
-        let still : kept_item_count (advanced h (early.number + 1) known).other.track ≡ kept_item_count known.other.track = ap kept_item_count (advanced_other h (early.number + 1) known) in
+        let still : kept_item_count (advanced h (early.number + 1) known).other.track ≡ kept_item_count known.other.track = ap kept_item_count (flow_other (brought h (early.number + 1)) known) in
         let other : kept_item_count known.other.track ≤ kept_item_count s.other.track = reached_less h first.acknowledged s in
         let mine : kept_item_count s.own.track ≡ suc (length rest) = ap kept_item_count at ∙ ap length e in
         subst (λ n. count (advanced h (n + 1) known) < count s) (sym same) (omega (arith, own, still, other, mine))

@@ -2,8 +2,8 @@
 use Rattle.std.proofs.Common.{◌≡◌, ◌∙◌, ap, sym, refl, arith, ℕ, zero, suc, ◌+◌, ◌<◌, ◌≤◌, Bool, true, false, cond, List, [], ◌∷◌, length, Option, Some, None}
 use Rattle.std.specs.Prelude.{nat_lt, not, ◌&&◌}
 use Rattle.std.proofs.lemmas.Bool.{ltb-false}
-use Rattle.xns_calls.specs.Exchange.{Scene, of_other, seen_from_other, told_of}
-use Rattle.xns_calls.specs.Read.{kept_item_count, one_read, own_read, read_in_track, read_of, read_times, settled}
+use Rattle.xns_calls.specs.Exchange.{Scene, in_flow, in_track, of_other, seen_from_other, told_of}
+use Rattle.xns_calls.specs.Read.{kept_item_count, one_read, own_read, read_of, read_times, settled}
 use Rattle.xns_calls.specs.Reading.{Told, first_read}
 use Rattle.xns_calls.specs.Turns.{first_kept, first_line, waits_for_none, next_turn, readable, readable_first}
 use Rattle.xns_calls.specs.declared.early.Early.{Early}
@@ -22,7 +22,7 @@ first_due next behind given e rest line is = by_test (nat_lt next e.number) refl
     by_test true test is = (cc)
     by_test false test is = ltb-false next e.number test
 
-less_in : (h : Heading) (given : ℕ) (o : Option Track) (line : ℕ) (s : Scene) → readable o s.other.track given ≡ Some line → kept_item_count o ≡ suc (kept_item_count (read_in_track h o s).own.track)
+less_in : (h : Heading) (given : ℕ) (o : Option Track) (line : ℕ) (s : Scene) → readable o s.other.track given ≡ Some line → kept_item_count o ≡ suc (kept_item_count (in_track (first_read h) o s).own.track)
 less_in h given None line s is = (cc)
 less_in h given (Some track) line s is = by_early track.early refl is
   where
@@ -37,7 +37,7 @@ less_in h given (Some track) line s is = by_early track.early refl is
         ap length at ∙ ap (λ es. suc (length es)) (sym left)
 
 less : (h : Heading) (given line : ℕ) (s : Scene) → readable s.own.track s.other.track given ≡ Some line → kept_item_count s.own.track ≡ suc (kept_item_count (own_read h s).own.track)
-unfolding own_read
+unfolding in_flow
 less h given line s is = less_in h given s.own.track line s is
 
 abbrev pub count : Scene → ℕ

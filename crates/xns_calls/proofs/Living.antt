@@ -5,6 +5,7 @@ use Rattle.std.proofs.lemmas.Bool.{eqb-false, eqb-true}
 use Rattle.std.proofs.Math.Bool.{and-false}
 use Rattle.std.proofs.lemmas.Option.{slice_get_within}
 use Rattle.xns_idp.specs.Packet.{PacketModel}
+use Rattle.xns_spp.specs.Datastreams.{end_reply_stream}
 use Rattle.xns_spp.specs.declared.header.Header.{Header}
 use Rattle.xns_dump.specs.Flows.{flow_of}
 use Rattle.xns_dump.specs.declared.flows.flow.Flow.{Flow}
@@ -39,24 +40,24 @@ end_replies Open = refl
 end_replies End = refl
 end_replies EndReply = refl
 
-other_item : (stream : ℕ) → (stream ≡ 255 → ⊥) → (stream == 255) ≡ false
-other_item stream other = by_test (stream == 255) refl
+other_item : (stream : ℕ) → (stream ≡ end_reply_stream → ⊥) → (stream == end_reply_stream) ≡ false
+other_item stream other = by_test (stream == end_reply_stream) refl
   where
-    by_test : (p : Bool) → (stream == 255) ≡ p → p ≡ false
-    by_test true e = absurd (other (eqb-true stream 255 e))
+    by_test : (p : Bool) → (stream == end_reply_stream) ≡ p → p ≡ false
+    by_test true e = absurd (other (eqb-true stream end_reply_stream e))
     by_test false e = refl
 
-closed_replies : (stream : ℕ) (closing : Closing) → (stream ≡ 255 → ⊥) → has_replied (closed_with stream closing) ≡ has_replied closing
+closed_replies : (stream : ℕ) (closing : Closing) → (stream ≡ end_reply_stream → ⊥) → has_replied (closed_with stream closing) ≡ has_replied closing
 closed_replies stream closing other = ap (λ p. has_replied (cond p EndReply (with_end_said closing))) (other_item stream other) ∙ end_replies closing
 
-closing_replies : (q : Bool) (f : Header) (c : Connection) → (f.stream ≡ 255 → ⊥) → has_replied (closing_with q f c) ≡ has_replied (closing_in q c)
+closing_replies : (q : Bool) (f : Header) (c : Connection) → (f.stream ≡ end_reply_stream → ⊥) → has_replied (closing_with q f c) ≡ has_replied (closing_in q c)
 closing_replies q f c other = by_item (closes f.stream && brings_new_item q f c)
   where
     by_item : (p : Bool) → has_replied (cond p (closed_with f.stream (closing_in q c)) (closing_in q c)) ≡ has_replied (closing_in q c)
     by_item true = closed_replies f.stream (closing_in q c) other
     by_item false = refl
 
-answered_same : (q : Bool) (f : Header) (c : Connection) (s : Scene) → (f.stream ≡ 255 → ⊥) → is_answered (with_scene q s (noted_beside q f c)) ≡ is_answered c
+answered_same : (q : Bool) (f : Header) (c : Connection) (s : Scene) → (f.stream ≡ end_reply_stream → ⊥) → is_answered (with_scene q s (noted_beside q f c)) ≡ is_answered c
 answered_same true f c s other = ap (λ p. has_replied c.first_closing || p) (closing_replies true f c other)
 answered_same false f c s other = ap (λ p. p || has_replied c.second_closing) (closing_replies false f c other)
 
@@ -74,7 +75,7 @@ never_anew f c e =
 
 -- ---- a packet
 
-own_stays : (n : Origin) (i number : ℕ) (flow : Flow) (packet : PacketModel) (f : Header) (content : List ℕ) (k : Known) → (f.stream ≡ 255 → ⊥) → Stays i number k
+own_stays : (n : Origin) (i number : ℕ) (flow : Flow) (packet : PacketModel) (f : Header) (content : List ℕ) (k : Known) → (f.stream ≡ end_reply_stream → ⊥) → Stays i number k
     → Stays i number (after_at n i flow packet f content (renewed n i flow f k))
 unfolding Stays renewed after_at
 own_stays n i number flow packet f content k other (c, there, is, quiet) =
@@ -99,7 +100,7 @@ unfolding Stays
 other_stays n i number packet f content k other (c, there, is, quiet) =
     (c, others_same n packet f content k i (slice_get_within k.connections i c there) other ∙ there, is, quiet)
 
-packet_stays : (n : Origin) (i number : ℕ) (packet : PacketModel) (f : Header) (content : List ℕ) (k : Known) → (place_of (flow_of packet f) k.connections ≡ Some i → f.stream ≡ 255 → ⊥) → Stays i number k
+packet_stays : (n : Origin) (i number : ℕ) (packet : PacketModel) (f : Header) (content : List ℕ) (k : Known) → (place_of (flow_of packet f) k.connections ≡ Some i → f.stream ≡ end_reply_stream → ⊥) → Stays i number k
     → Stays i number (after_sequenced n packet f content k)
 packet_stays n i number packet f content k quiet stays = by_place (place_of (flow_of packet f) k.connections) refl
   where

@@ -6,16 +6,15 @@ use Rattle.xns_calls.specs.Capture.{heading_at}
 use Rattle.xns_calls.specs.Events.{Event, after_events, meanwhile, read}
 use Rattle.xns_calls.specs.Exchange.{Scene, after_told, of_other, seen_from_other, told_of}
 use Rattle.xns_calls.specs.Input.{Part, FlowSaid, part_text, parts_text, said_texts, text_in, texts_in, told}
-use Rattle.xns_calls.specs.Read.{kept_item_count, one_read, own_read, read_in_track, read_of, read_times, settled}
+use Rattle.xns_calls.specs.Read.{kept_item_count, one_read, own_read, read_of, read_times, settled}
 use Rattle.xns_calls.specs.Reading.{Told, first_read}
 use Rattle.xns_calls.specs.Turns.{next_turn}
 use Rattle.xns_calls.specs.Whole.{flow_text}
 use Rattle.xns_calls.specs.declared.given.Given.{Given}
 use Rattle.xns_calls.specs.declared.heading.Heading.{Heading}
 use Rattle.xns_calls.specs.declared.origin.Origin.{Origin}
-use Rattle.xns_calls.specs.declared.track.Track.{Track}
 use Rattle.xns_calls.proofs.Whole.{after_append}
-use Rattle.xns_calls.proofs.Adding.{Adds, first_adds}
+use Rattle.xns_calls.proofs.Adding.{Adds, first_adds, flow_adds}
 use Rattle.xns_calls.proofs.Packets.{read_event, read_none, read_other}
 use Rattle.xns_calls.proofs.AtLines.{AreAt, both_at}
 use Rattle.xns_calls.proofs.Parts.{added, far_text, flow_append, flow_at, other_text, own_text, plain, plain_one}
@@ -23,12 +22,7 @@ use Rattle.xns_calls.proofs.Parts.{added, far_text, flow_append, flow_at, other_
 -- ---- what one flow reads
 
 read_adds : (h : Heading) (s : Scene) → Adds h s.text (own_read h s).text
-unfolding own_read
-read_adds h s = by_track s.own.track
-  where
-    by_track : (o : Option Track) → Adds h s.text (read_in_track h o s).text
-    by_track None = record { said = []; is = sym (append-nil s.text) }
-    by_track (Some track) = first_adds h (told_of track s)
+read_adds h s = flow_adds h (first_read h) s (first_adds h)
 
 pub read_said : Origin → ℕ → Bool → Scene → List FlowSaid
 read_said n m b s = (read_adds (heading_at n m b) s).said
@@ -45,9 +39,8 @@ said_new n m b s = let h = heading_at n m b in added h s.text (own_read h s).tex
 
 -- ---- for a flow that has begun, which is the scene's own
 
-pub record Ran (n : Origin) (m : ℕ) (b : Bool) (s s' : Scene) (t : Told) : Type 0 where
-  pub events : List Event
-  pub are : plain events ≡ []
+-- the events lead from a scene of the flow to another: what is printed between are parts, of which its own are what the events print
+pub record Leads (n : Origin) (m : ℕ) (b : Bool) (s s' : Scene) (t : Told) (events : List Event) : Type 0 where
   pub at : AreAt (heading_at n m b) events
   pub track : s'.own.track ≡ Some (after_events events t).track
   pub is : after_events events t ≡ told_of (after_events events t).track s'
@@ -55,8 +48,30 @@ pub record Ran (n : Origin) (m : ℕ) (b : Bool) (s s' : Scene) (t : Told) : Typ
   pub text : s'.text ≡ s.text ++ parts_text parts
   pub own : texts_in (flow_at m b) parts ≡ flow_text events t
 
+pub leads_nowhere : (n : Origin) (m : ℕ) (b : Bool) (s : Scene) (t : Told) → s.own.track ≡ Some t.track → t ≡ told_of t.track s → Leads n m b s s t []
+leads_nowhere n m b s t track is = record { at = tt; track = track; is = is; parts = []; text = sym (append-nil s.text); own = refl }
+
+pub leads_on : (n : Origin) (m : ℕ) (b : Bool) (s s' s'' : Scene) (t : Told) (es fs : List Event) → Leads n m b s s' t es → Leads n m b s' s'' (after_events es t) fs
+    → Leads n m b s s'' t (es ++ fs)
+leads_on n m b s s' s'' t es fs w v =
+    let P = flow_at m b in
+    let same = after_append es fs t in record {
+      at = both_at (heading_at n m b) es fs w.at v.at;
+      track = v.track ∙ ap (λ (x : Told). Some x.track) (sym same);
+      is = same ∙ v.is ∙ ap (λ (x : Told). told_of x.track s'') (sym same);
+      parts = w.parts ++ v.parts;
+      text = v.text ∙ ap (λ z. z ++ parts_text v.parts) w.text ∙ append_assoc s.text (parts_text w.parts) (parts_text v.parts) ∙ ap (λ z. s.text ++ z) (sym (flat_map-append part_text w.parts v.parts));
+      own = flat_map-append (text_in P) w.parts v.parts ∙ ap (λ z. z ++ texts_in P v.parts) w.own ∙ ap (λ z. flow_text es t ++ z) v.own ∙ sym (flow_append es fs t);
+    }
+
+-- events that bring no item lead to the scene
+pub record Ran (n : Origin) (m : ℕ) (b : Bool) (s s' : Scene) (t : Told) : Type 0 where
+  pub events : List Event
+  pub are : plain events ≡ []
+  pub leads : Leads n m b s s' t events
+
 stays : (n : Origin) (m : ℕ) (b : Bool) (s : Scene) (t : Told) → s.own.track ≡ Some t.track → t ≡ told_of t.track s → Ran n m b s s t
-stays n m b s t track is = record { events = []; are = refl; at = tt; track = track; is = is; parts = []; text = sym (append-nil s.text); own = refl }
+stays n m b s t track is = record { events = []; are = refl; leads = leads_nowhere n m b s t track is }
 
 -- the flow reads its first item
 reads : (n : Origin) (m : ℕ) (b : Bool) (s : Scene) (t : Told) → s.own.track ≡ Some t.track → t ≡ told_of t.track s → Ran n m b s (own_read (heading_at n m b) s) t
@@ -66,13 +81,15 @@ reads n m b s t track is =
     let after : own_read h s ≡ after_told u s = read_event h s t.track track ∙ ap (λ (x : Told). after_told (first_read h x) s) (sym is) in record {
       events = read h ∷ [];
       are = refl;
-      at = (refl, tt);
-      track = ap (λ (x : Scene). x.own.track) after;
-      is = sym (ap (λ (x : Scene). told_of u.track x) after);
-      parts = told n (flow_at m b) (read_said n m b s) ∷ [];
-      text = one_text n m b s;
-      own = ap (λ z. z ++ []) (own_text n m b (read_said n m b s) ∙ sym (said_new n m b s) ∙ ap (λ (x : Scene). drop (length s.text) x.text) after
-          ∙ ap (λ (x : Told). drop (length x.text) u.text) (sym is));
+      leads = record {
+        at = (refl, tt);
+        track = ap (λ (x : Scene). x.own.track) after;
+        is = sym (ap (λ (x : Scene). told_of u.track x) after);
+        parts = told n (flow_at m b) (read_said n m b s) ∷ [];
+        text = one_text n m b s;
+        own = ap (λ z. z ++ []) (own_text n m b (read_said n m b s) ∙ sym (said_new n m b s) ∙ ap (λ (x : Scene). drop (length s.text) x.text) after
+            ∙ ap (λ (x : Told). drop (length x.text) u.text) (sym is));
+      };
     }
 
 -- the flow behind reads
@@ -83,27 +100,22 @@ waits n m b s t track is =
     let y = own_read (heading_at n m (not b)) x in record {
       events = meanwhile (record { own = y.other.call; asked = y.own.call }) y.text y.is_refused ∷ [];
       are = refl;
-      at = tt;
-      track = read_other (heading_at n m (not b)) x ∙ track;
-      is = refl;
-      parts = told n (flow_at m (not b)) (read_said n m (not b) x) ∷ [];
-      text = one_text n m (not b) x;
-      own = ap (λ z. z ++ []) (other_text n m b (read_said n m (not b) x));
+      leads = record {
+        at = tt;
+        track = read_other (heading_at n m (not b)) x ∙ track;
+        is = refl;
+        parts = told n (flow_at m (not b)) (read_said n m (not b) x) ∷ [];
+        text = one_text n m (not b) x;
+        own = ap (λ z. z ++ []) (other_text n m b (read_said n m (not b) x));
+      };
     }
 
 ran_on : (n : Origin) (m : ℕ) (b : Bool) (s s' s'' : Scene) (t : Told) → (w : Ran n m b s s' t) → Ran n m b s' s'' (after_events w.events t) → Ran n m b s s'' t
-ran_on n m b s s' s'' t w v =
-    let P = flow_at m b in
-    let same = after_append w.events v.events t in record {
-      events = w.events ++ v.events;
-      are = flat_map-append plain_one w.events v.events ∙ ap (λ z. z ++ plain v.events) w.are ∙ v.are;
-      at = both_at (heading_at n m b) w.events v.events w.at v.at;
-      track = v.track ∙ ap (λ (x : Told). Some x.track) (sym same);
-      is = same ∙ v.is ∙ ap (λ (x : Told). told_of x.track s'') (sym same);
-      parts = w.parts ++ v.parts;
-      text = v.text ∙ ap (λ z. z ++ parts_text v.parts) w.text ∙ append_assoc s.text (parts_text w.parts) (parts_text v.parts) ∙ ap (λ z. s.text ++ z) (sym (flat_map-append part_text w.parts v.parts));
-      own = flat_map-append (text_in P) w.parts v.parts ∙ ap (λ z. z ++ texts_in P v.parts) w.own ∙ ap (λ z. flow_text w.events t ++ z) v.own ∙ sym (flow_append w.events v.events t);
-    }
+ran_on n m b s s' s'' t w v = record {
+  events = w.events ++ v.events;
+  are = flat_map-append plain_one w.events v.events ∙ ap (λ z. z ++ plain v.events) w.are ∙ v.are;
+  leads = leads_on n m b s s' s'' t w.events v.events w.leads v.leads;
+}
 
 own_turn : (n : Origin) (m : ℕ) (b : Bool) (o : Option Bool) (s : Scene) (t : Told) → s.own.track ≡ Some t.track → t ≡ told_of t.track s → Ran n m b s (read_of (heading_at n m b) o s) t
 own_turn n m b None s t track is = stays n m b s t track is
@@ -123,7 +135,7 @@ own_times n m b (suc count) given s t track is =
     let h = heading_at n m b in
     let s' = one_read h given s in
     let w = own_turn n m b (next_turn given s.own.track s.other.track) s t track is in
-    ran_on n m b s s' (read_times count h given s') t w (own_times n m b count given s' (after_events w.events t) w.track w.is)
+    ran_on n m b s s' (read_times count h given s') t w (own_times n m b count given s' (after_events w.events t) w.leads.track w.leads.is)
 
 other_times : (n : Origin) (m : ℕ) (q : Bool) (count : ℕ) (given : Given) (s : Scene) (t : Told) → s.other.track ≡ Some t.track → t ≡ told_of t.track (seen_from_other s)
     → Ran n m (not q) (seen_from_other s) (seen_from_other (read_times count (heading_at n m q) given s)) t
@@ -132,7 +144,7 @@ other_times n m q (suc count) given s t track is =
     let h = heading_at n m q in
     let s' = one_read h given s in
     let w = other_turn n m q (next_turn given s.own.track s.other.track) s t track is in
-    ran_on n m (not q) (seen_from_other s) (seen_from_other s') (seen_from_other (read_times count h given s')) t w (other_times n m q count given s' (after_events w.events t) w.track w.is)
+    ran_on n m (not q) (seen_from_other s) (seen_from_other s') (seen_from_other (read_times count h given s')) t w (other_times n m q count given s' (after_events w.events t) w.leads.track w.leads.is)
 
 pub own_settled : (n : Origin) (m : ℕ) (b : Bool) (given : Given) (s : Scene) (t : Told) → s.own.track ≡ Some t.track → t ≡ told_of t.track s → Ran n m b s (settled (heading_at n m b) given s) t
 unfolding settled

@@ -12,11 +12,11 @@ use Rattle.xns_calls.specs.declared.due.Due.{Due}
 use Rattle.xns_calls.specs.declared.heading.Heading.{Heading}
 use Rattle.xns_calls.specs.declared.track.Track.{Track}
 use Rattle.xns_calls.specs.Events.{acknowledged_event, after_events, brought_if, captured_event, own_events}
-use Rattle.xns_calls.specs.Exchange.{Scene, advance_other, advance_own, advance_track, advanced, after_content, after_data, after_new, after_number, after_packet, after_told, begin_track, begun, carried, new_number, of_other, other_reached, own_reached, reached, seen_from_other, take_in_track, take_number, told_of, unless_repeat, up_to}
+use Rattle.xns_calls.specs.Exchange.{Scene, advance_other, advance_own, after_content, after_data, after_new, after_number, after_packet, after_told, begin_track, begun, carried, in_flow, in_track, new_number, of_other, other_reached, own_reached, reached, seen_from_other, take_number, told_of, unless_repeat, up_to}
 use Rattle.xns_calls.specs.Numbers.{near}
 use Rattle.xns_calls.specs.Queue.{last_kept_number}
-use Rattle.xns_calls.specs.Read.{own_read, read_in_track}
-use Rattle.xns_calls.specs.Reading.{first_read}
+use Rattle.xns_calls.specs.Read.{own_read}
+use Rattle.xns_calls.specs.Reading.{Told, brought, first_read, item_taken}
 use Rattle.xns_calls.proofs.Whole.{after_append}
 use Rattle.xns_calls.proofs.ItemEvents.{item_event}
 
@@ -24,28 +24,29 @@ use Rattle.xns_calls.proofs.ItemEvents.{item_event}
 pub put_back : (s : Scene) (track : Track) → s.own.track ≡ Some track → after_told (told_of track s) s ≡ s
 put_back s track e = ap (λ (o : Option Track). record s { own = record s.own { track = o } }) (sym e)
 
+-- what is read of a flow that has begun
+flow_begun : (reads : Told → Told) (s : Scene) (track : Track) → s.own.track ≡ Some track → in_flow reads s ≡ after_told (reads (told_of track s)) s
+unfolding in_flow
+flow_begun reads s track e = ap (λ o. in_track reads o s) e
+
 -- ---- what the flow behind keeps of a packet
 
-track_other : (h : Heading) (n : ℕ) (o : Option Track) (s : Scene) → (advance_track h n o s).other.track ≡ s.other.track
-track_other h n None s = refl
-track_other h n (Some track) s = refl
-
-pub advanced_other : (h : Heading) (n : ℕ) (s : Scene) → (advanced h n s).other.track ≡ s.other.track
-unfolding advanced
-advanced_other h n s = track_other h n s.own.track s
+pub flow_other : (reads : Told → Told) (s : Scene) → (in_flow reads s).other.track ≡ s.other.track
+unfolding in_flow
+flow_other reads s = by_track s.own.track
+  where
+    by_track : (o : Option Track) → (in_track reads o s).other.track ≡ s.other.track
+    by_track None = refl
+    by_track (Some track) = refl
 
 pub own_other : (h : Heading) (o : Option ℕ) (s : Scene) → (advance_own h o s).other.track ≡ s.other.track
 own_other h None s = refl
-own_other h (Some n) s = advanced_other h n s
-
-taken_other : (h : Heading) (n : ℕ) (item : Carried) (o : Option Track) (s : Scene) → (take_in_track h n item o s).other.track ≡ s.other.track
-taken_other h n item None s = refl
-taken_other h n item (Some track) s = refl
+own_other h (Some n) s = flow_other (brought h n) s
 
 number_other : (h : Heading) (o : Option ℕ) (item : Carried) (s : Scene) → (after_number h o item s).other.track ≡ s.other.track
 unfolding after_new
 number_other h None item s = refl
-number_other h (Some n) item s = taken_other h n item s.own.track s
+number_other h (Some n) item s = flow_other (item_taken h n item) s
 
 begin_other : (h : Heading) (packet : PacketModel) (f : Header) (o : Option Track) (s : Scene) → (begin_track h packet f o s).other.track ≡ s.other.track
 begin_other h packet f None s = refl
@@ -78,9 +79,8 @@ packet_other h due packet f content s =
 
 advance_event : (h : Heading) (o : Option ℕ) (s : Scene) (track : Track) → s.other.track ≡ Some track
     → advance_other h o s ≡ seen_from_other (after_told (brought_if (of_other h) o (told_of track (seen_from_other s))) (seen_from_other s))
-unfolding advanced
 advance_event h None s track e = ap seen_from_other (sym (put_back (seen_from_other s) track e))
-advance_event h (Some n) s track e = ap (λ o. seen_from_other (advance_track (of_other h) n o (seen_from_other s))) e
+advance_event h (Some n) s track e = ap seen_from_other (flow_begun (brought (of_other h) n) (seen_from_other s) track e)
 
 pub up_to_none : (l : Option ℕ) → up_to l None ≡ None
 up_to_none None = refl
@@ -98,9 +98,8 @@ reached_event h number s track e = ap (λ o. advance_other h (reached o number) 
     of_number (Some n) = advance_event h (up_to (last_kept_number track.early) (Some n)) s track e
 
 pub own_event : (h : Heading) (o : Option ℕ) (s : Scene) (track : Track) → s.own.track ≡ Some track → advance_own h o s ≡ after_told (brought_if h o (told_of track s)) s
-unfolding advanced
 own_event h None s track e = sym (put_back s track e)
-own_event h (Some n) s track e = ap (λ o. advance_track h n o s) e
+own_event h (Some n) s track e = flow_begun (brought h n) s track e
 
 pub own_reached_event : (h : Heading) (number : Option ℕ) (s : Scene) (track : Track) → s.own.track ≡ Some track
     → own_reached h number s ≡ after_told (after_events (acknowledged_event h number) (told_of track s)) s
@@ -128,7 +127,7 @@ none_other h s = ap (λ o. advance_other h o s) (none_reached s.other.track)
 
 other_own : (h : Heading) (o : Option ℕ) (s : Scene) → (advance_other h o s).own.track ≡ s.own.track
 other_own h None s = refl
-other_own h (Some n) s = advanced_other (of_other h) n (seen_from_other s)
+other_own h (Some n) s = flow_other (brought (of_other h) n) (seen_from_other s)
 
 pub reached_own : (h : Heading) (number : Option ℕ) (s : Scene) → (other_reached h number s).own.track ≡ s.own.track
 unfolding other_reached
@@ -178,20 +177,14 @@ packet_events h due packet f content s track e =
 
 -- the first item of a flow is read: that is an event of the flow
 pub read_event : (h : Heading) (s : Scene) (track : Track) → s.own.track ≡ Some track → own_read h s ≡ after_told (first_read h (told_of track s)) s
-unfolding own_read
-read_event h s track e = ap (λ o. read_in_track h o s) e
+read_event h s track e = flow_begun (first_read h) s track e
 
 pub read_other : (h : Heading) (s : Scene) → (own_read h s).other.track ≡ s.other.track
-unfolding own_read
-read_other h s = by_track s.own.track
-  where
-    by_track : (o : Option Track) → (read_in_track h o s).other.track ≡ s.other.track
-    by_track None = refl
-    by_track (Some track) = refl
+read_other h s = flow_other (first_read h) s
 
 pub read_none : (h : Heading) (s : Scene) → s.own.track ≡ None → own_read h s ≡ s
-unfolding own_read
-read_none h s e = ap (λ o. read_in_track h o s) e
+unfolding in_flow
+read_none h s e = ap (λ o. in_track (first_read h) o s) e
 
 -- ---- the numbers of items
 

@@ -68,16 +68,17 @@ pub forget_near : (n : Origin) (i : ℕ) (b : Bool) (flow : Flow) (c : Connectio
     → Stepped n c.number b k (forgotten n i flow c k) t (acknowledged_event (heading_at n c.number b) (behind_last (side_in b c).track))
 forget_near n i b flow c k t numbered there ordered track is =
     let w = flow_ends n b c k t track is ordered in
+    let l = w.leads in
     let o = behind_last (Some t.track) in
     subst (λ o. Stepped n c.number b k (forgotten n i flow c k) t (acknowledged_event (heading_at n c.number b) (behind_last o))) (sym track ∙ side_track b c k)
     (record {
       events = w.events;
       are = acks_fit (heading_at n c.number b) o w.events (w.acks (bound_of o) (all_below t ordered)).0;
-      at = w.at;
-      stands = inr (gone_now k i flow n c (after_events w.events t) numbered there (flow_left n b c k (after_events w.events t).track w.track));
-      parts = w.parts;
-      text = w.text;
-      own = w.own;
+      at = l.at;
+      stands = inr (gone_now k i flow n c (after_events w.events t) numbered there (flow_left n b c k (after_events w.events t).track l.track));
+      parts = l.parts;
+      text = l.text;
+      own = l.own;
     })
 
 pub forget_step : (n : Origin) (m i : ℕ) (b : Bool) (flow : Flow) (c : Connection) (k : Known) (t : Told) → IsNumbered k.connections k.count → slice_get k.connections i ≡ Some c → IsOn m b k t

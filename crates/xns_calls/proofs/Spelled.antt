@@ -40,29 +40,24 @@ module _ (programs : Programs) where
   unfolding after_line
   taken_silent n line k e = digits_silent n (decode_of (digits_of line)) (record k { text = [] }) e
 
-  known_same : (n : ℕ) (k : Known) (lines : List (List ℕ)) (packets : List NumberedPacket) → SpellFrom IsPassedOver n lines packets
-      → known_behind programs Hidden k packets ≡ known_from programs n k lines
-  known_same n k [] [] h = refl
-  known_same n k [] (packet ∷ packets) h = absurd h
-  known_same n k (line ∷ lines) [] h = absurd h
-  known_same n k (line ∷ lines) (packet ∷ packets) (inl h) =
-      ap (λ known. known_behind programs Hidden known packets) (taken_same n line packet k h.0.0 h.0.1)
-      ∙ known_same (n + 1) (line_taken programs n line k) lines packets h.1
-  known_same n k (line ∷ lines) (packet ∷ packets) (inr h) =
-      known_same (n + 1) (record k { text = [] }) lines (packet ∷ packets) h.1
-      ∙ ap (λ known. known_from programs (n + 1) known lines) (sym (taken_silent n line k h.0))
-
-  text_same : (n : ℕ) (k : Known) (lines : List (List ℕ)) (packets : List NumberedPacket) → SpellFrom IsPassedOver n lines packets
-      → text_behind programs Hidden k packets ≡ text_from programs n k lines
-  text_same n k [] [] h = refl
-  text_same n k [] (packet ∷ packets) h = absurd h
-  text_same n k (line ∷ lines) [] h = absurd h
-  text_same n k (line ∷ lines) (packet ∷ packets) (inl h) =
-      ap (λ (known : Known). known.text ++ text_behind programs Hidden known packets) (taken_same n line packet k h.0.0 h.0.1)
-      ∙ ap (λ rest. (line_taken programs n line k).text ++ rest) (text_same (n + 1) (line_taken programs n line k) lines packets h.1)
-  text_same n k (line ∷ lines) (packet ∷ packets) (inr h) =
-      text_same (n + 1) (record k { text = [] }) lines (packet ∷ packets) h.1
-      ∙ ap (λ (known : Known). known.text ++ text_from programs (n + 1) known lines) (sym (taken_silent n line k h.0))
+  -- behind lines and the packets that they spell the same is known, and their text is the same
+  same_behind : (n : ℕ) (k : Known) (lines : List (List ℕ)) (packets : List NumberedPacket) → SpellFrom IsPassedOver n lines packets
+      → (known_behind programs Hidden k packets ≡ known_from programs n k lines) × (text_behind programs Hidden k packets ≡ text_from programs n k lines)
+  same_behind n k [] [] h = (refl, refl)
+  same_behind n k [] (packet ∷ packets) h = absurd h
+  same_behind n k (line ∷ lines) [] h = absurd h
+  same_behind n k (line ∷ lines) (packet ∷ packets) (inl h) =
+      let taken = taken_same n line packet k h.0.0 h.0.1 in
+      let rest = same_behind (n + 1) (line_taken programs n line k) lines packets h.1 in (
+        ap (λ known. known_behind programs Hidden known packets) taken ∙ rest.0,
+        ap (λ (known : Known). known.text ++ text_behind programs Hidden known packets) taken ∙ ap (λ text. (line_taken programs n line k).text ++ text) rest.1,
+      )
+  same_behind n k (line ∷ lines) (packet ∷ packets) (inr h) =
+      let silent = sym (taken_silent n line k h.0) in
+      let rest = same_behind (n + 1) (record k { text = [] }) lines (packet ∷ packets) h.1 in (
+        rest.0 ∙ ap (λ known. known_from programs (n + 1) known lines) silent,
+        rest.1 ∙ ap (λ (known : Known). known.text ++ text_from programs (n + 1) known lines) silent,
+      )
 
   -- the last packet has the number of the last line
   last_same : (n : ℕ) (lines : List (List ℕ)) (packets : List NumberedPacket) → SpellFrom IsPassedOver (n + 1) lines packets
@@ -79,7 +74,7 @@ module _ (programs : Programs) where
 
   module _ (lines : List (List ℕ)) (packets : List NumberedPacket) (h : SpellFrom IsPassedOver 1 lines packets) where
     known_all : packets_known programs Hidden packets ≡ known_of programs lines
-    known_all = known_same 1 nothing_known lines packets h
+    known_all = (same_behind 1 nothing_known lines packets h).0
 
     last_all : last_frame programs Hidden packets ≡ line_origin programs (length lines)
     last_all = last_same 0 lines packets h ∙ ap (line_origin programs) (let e : 0 + length lines ≡ length lines = omega arith in e)
@@ -90,7 +85,7 @@ module _ (programs : Programs) where
         ap₂ (λ n (k : Known). after_end n part (record k { text = [] })) last_all (known_end part)
 
     text_end : (part : ℕ) → packets_text_with_end programs Hidden packets part ≡ text_with_end programs lines part
-    text_end zero = text_same 1 nothing_known lines packets h
+    text_end zero = (same_behind 1 nothing_known lines packets h).1
     text_end (suc part) = ap₂ (λ text (k : Known). text ++ k.text) (text_end part) (known_end (suc part))
 
     ends : packet_end_count programs Hidden packets ≡ end_count programs lines

@@ -8,24 +8,44 @@ use Rattle.xns_spp.specs.declared.header.Header.{Header}
 use Rattle.xns_spp.specs.Ends.{most_pending}
 use Rattle.xns_spp.specs.Header.{is_system}
 use Rattle.xns_spp.specs.Item.{item_with}
+use Rattle.xns_spp.specs.declared.item.Item.{Item}
 use Rattle.courier_messages.specs.Conversation.{opening}
 use Rattle.xns_lines.specs.declared.page.Page.{Page}
 use Rattle.xns_calls.specs.declared.both_flows.BothFlows.{BothFlows}
 use Rattle.xns_calls.specs.declared.carried.Carried.{Carried}
 use Rattle.xns_calls.specs.declared.due.Due.{Due}
+use Rattle.xns_calls.specs.declared.early.Early.{Early}
 use Rattle.xns_calls.specs.declared.heading.Heading.{Heading}
 use Rattle.xns_calls.specs.declared.side.Side.{Side}
 use Rattle.xns_calls.specs.declared.speech.Speech.TheVariants.{Hearing, Waiting}
 use Rattle.xns_calls.specs.declared.track.Track.{Track}
 use Rattle.xns_calls.specs.Numbers.{near}
 use Rattle.xns_calls.specs.Queue.{last_kept_number}
-use Rattle.xns_calls.specs.Reading.{Told, brought, item_taken}
+use Rattle.xns_calls.specs.Reading.{Told, brought, item_taken, read_next}
 use Rattle.xns_calls.specs.Texts.{flow_line}
 use Rattle.xns_calls.specs.Turns.{next_turn}
 
 -- a flow that has not begun
 abbrev pub no_side : Side
 no_side = record { track = None; call = None }
+
+-- the items that a flow keeps
+abbrev pub items_of : Option Track → List Early
+items_of None = []
+items_of (Some track) = track.early
+
+-- the number of a flow's next item
+abbrev pub next_of : Option Track → ℕ
+next_of None = 0
+next_of (Some track) = track.next
+
+abbrev pub keeping : List Early → Option Track → Option Track
+keeping items None = None
+keeping items (Some track) = Some (record track { early = items })
+
+-- the flow, if it has begun, with these items kept
+abbrev pub with_items : List Early → Side → Side
+with_items items side = record side { track = keeping items side.track }
 
 -- a flow and the one behind it, the text of the input's line, and whether something was refused
 pub record Scene : Type 0 where
@@ -72,13 +92,21 @@ after_told t s = record {
   is_refused = t.is_refused;
 }
 
-abbrev pub advance_track : Heading → ℕ → Option Track → Scene → Scene
-advance_track heading number None s = s
-advance_track heading number (Some track) s = after_told (brought heading number (told_of track s)) s
+abbrev pub in_track : (Told → Told) → Option Track → Scene → Scene
+in_track reads None s = s
+in_track reads (Some track) s = after_told (reads (told_of track s)) s
+
+-- what reads one flow is done to the scene's own, if it has begun
+unfoldable pub in_flow : (Told → Told) → Scene → Scene
+in_flow reads s = in_track reads s.own.track s
 
 -- the flow is brought to the number, if it has begun
-unfoldable pub advanced : Heading → ℕ → Scene → Scene
-advanced heading number s = advance_track heading number s.own.track s
+abbrev pub advanced : Heading → ℕ → Scene → Scene
+advanced heading number = in_flow (brought heading number)
+
+-- an item is read, if the flow has begun, and the next one has this number then
+unfoldable pub next_read : Heading → ℕ → Item → Scene → Scene
+next_read heading next item = in_flow (read_next heading next item)
 
 -- the lesser of what is acknowledged and the number behind the last item that is kept; none where one of them isn't there
 abbrev pub up_to : Option ℕ → Option ℕ → Option ℕ
@@ -147,13 +175,9 @@ abbrev pub new_number : Option Track → ℕ → Option ℕ
 new_number None field = None
 new_number (Some track) field = unless_repeat track (near track.next field)
 
-abbrev pub take_in_track : Heading → ℕ → Carried → Option Track → Scene → Scene
-take_in_track heading number item None s = s
-take_in_track heading number item (Some track) s = after_told (item_taken heading number item (told_of track s)) s
-
 -- a new item is taken, if the flow has begun
 unfoldable pub after_new : Heading → ℕ → Carried → Scene → Scene
-after_new heading number item s = take_in_track heading number item s.own.track s
+after_new heading number item = in_flow (item_taken heading number item)
 
 abbrev pub after_number : Heading → Option ℕ → Carried → Scene → Scene
 after_number heading None item s = s

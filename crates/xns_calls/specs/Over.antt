@@ -1,6 +1,7 @@
 -- Where a connection is over.
 use Rattle.std.specs.Prelude.{ℕ, ◌==◌, ◌||◌, ◌&&◌, not, Bool, true, false, if◌then◌else◌}
 use Rattle.std.specs.Option.{is_some}
+use Rattle.xns_spp.specs.Datastreams.{end_reply_stream, end_stream}
 use Rattle.xns_spp.specs.Header.{is_system}
 use Rattle.xns_spp.specs.declared.header.Header.{Header}
 use Rattle.xns_calls.specs.declared.closing.Closing.{Closing}
@@ -9,9 +10,9 @@ use Rattle.xns_calls.specs.declared.connection.Connection.{Connection}
 use Rattle.xns_calls.specs.declared.side.Side.{Side}
 use Rattle.xns_calls.specs.Exchange.{brings_new}
 
--- items of datastream 254 (End) and 255 (EndReply) close a connection (XSIS 028112, Sequenced Packet Protocol)
+-- items of the datastreams of End and EndReply close a connection (XSIS 028112, Sequenced Packet Protocol)
 abbrev pub closes : ℕ → Bool
-closes stream = stream == 254 || stream == 255
+closes stream = stream == end_stream || stream == end_reply_stream
 
 abbrev pub with_end_said : Closing → Closing
 with_end_said Open = End
@@ -20,7 +21,7 @@ with_end_said EndReply = EndReply
 
 -- with what a flow has closed its connection, once one more such item has come
 abbrev pub closed_with : ℕ → Closing → Closing
-closed_with stream closing = if stream == 255 then EndReply else with_end_said closing
+closed_with stream closing = if stream == end_reply_stream then EndReply else with_end_said closing
 
 abbrev pub has_closed : Closing → Bool
 has_closed Open = false

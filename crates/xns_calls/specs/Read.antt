@@ -5,22 +5,18 @@ use Rattle.xns_idp.specs.Packet.{PacketModel}
 use Rattle.xns_spp.specs.Header.{is_system}
 use Rattle.xns_spp.specs.Item.{item_with}
 use Rattle.xns_spp.specs.declared.header.Header.{Header}
-use Rattle.xns_calls.specs.Exchange.{Scene, after_packet, after_told, of_other, seen_from_other, told_of}
+use Rattle.xns_calls.specs.Exchange.{Scene, after_packet, in_flow, next_read, of_other, seen_from_other}
 use Rattle.xns_calls.specs.Numbers.{near}
-use Rattle.xns_calls.specs.Reading.{first_read, read_next}
+use Rattle.xns_calls.specs.Reading.{first_read}
 use Rattle.xns_calls.specs.Turns.{waits_for_none, next_turn}
 use Rattle.xns_calls.specs.declared.due.Due.{Due}
 use Rattle.xns_calls.specs.declared.given.Given.{Given}
 use Rattle.xns_calls.specs.declared.heading.Heading.{Heading}
 use Rattle.xns_calls.specs.declared.track.Track.{Track}
 
-abbrev pub read_in_track : Heading → Option Track → Scene → Scene
-read_in_track heading None s = s
-read_in_track heading (Some track) s = after_told (first_read heading (told_of track s)) s
-
 -- the first item that a flow keeps is read, if it comes next
-unfoldable pub own_read : Heading → Scene → Scene
-own_read heading s = read_in_track heading s.own.track s
+abbrev pub own_read : Heading → Scene → Scene
+own_read heading = in_flow (first_read heading)
 
 -- the flow whose turn it is does something: the scene's own, or the one behind it (true)
 abbrev pub in_turn : (Heading → Scene → Scene) → Heading → Option Bool → Scene → Scene
@@ -81,10 +77,6 @@ comes_next due f (Some own) other = alone_number due f (near own.next f.sequence
 abbrev pub begins_first : Header → Option Track → Option Track → Bool
 begins_first f own other = (not (is_system f) && not (is_some own)) && keeps_none other
 
-abbrev pub read_once_in : Heading → ℕ → Header → List ℕ → Option Track → Scene → Scene
-read_once_in heading number f content None s = s
-read_once_in heading number f content (Some track) s = after_told (read_next heading (number + 1) (item_with f content) (told_of track s)) s
-
 -- an item that comes next and finds nothing kept is read
-unfoldable pub read_once : Heading → ℕ → Header → List ℕ → Scene → Scene
-read_once heading number f content s = read_once_in heading number f content s.own.track s
+abbrev pub read_once : Heading → ℕ → Header → List ℕ → Scene → Scene
+read_once heading number f content = next_read heading (number + 1) (item_with f content)

@@ -1,10 +1,13 @@
 //! Both flows of a connection, as one of them is read.
-ghost use Rattle.std.specs.Prelude.{◌≡◌};
-ghost use Rattle.xns_calls.specs.Exchange.{turned};
+ghost use Rattle.std.specs.Prelude.{◌≡◌, OnOk};
+ghost use Rattle.xns_calls.specs.Exchange.{Continues, Scene, scene_of, turned};
+ghost use Rattle.xns_calls.specs.Read.{in_turn};
+ghost use Rattle.xns_calls.specs.declared.heading.Heading.{Heading};
 
 use crate::heading::Heading;
 use crate::scratch::Scratch;
 use crate::side::Side;
+use std::alloc::AllocError;
 use std::mem::swap;
 use xns_lines::Page;
 
@@ -48,5 +51,27 @@ impl BothFlows<'_> {
     {
         self.heading.is_behind = !self.heading.is_behind;
         swap(&mut self.own, &mut self.other);
+    }
+
+    /// Has something done to the flow, or to the other one, from which both are seen meanwhile.
+    pub fn in_turn<F: Fn(&mut BothFlows<'_>) -> Result<(), AllocError>>(
+        &mut self,
+        is_other: bool,
+        does: F,
+    ) -> Result<(), AllocError>
+        ghost reads: { Heading → Scene → Scene }
+        requires callable { F.IsAlwaysCallable does }
+        requires reads { (old : _) (done : _) (new : _) → F.post does old done new
+            → Continues old.now new.now × OnOk done (scene_of new.now ≡ reads old.now.heading (scene_of old.now)) }
+        ensures kept { Continues self.old self.new }
+        ensures scene { OnOk result (scene_of self.new ≡ in_turn reads self.old.heading (Some is_other) (scene_of self.old)) }
+    {
+        if !is_other {
+            return does(self);
+        }
+        self.turn();
+        let done = does(self);
+        self.turn();
+        done
     }
 }

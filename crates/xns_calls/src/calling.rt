@@ -1,10 +1,7 @@
 //! `calls`: the calls that a capture has, and what came back.
-ghost use Rattle.std.specs.Prelude.{◌≡◌, None, IfErr, IfOk, IfSome, OnOk};
-ghost use Rattle.std.specs.Io.KnownBytes.{Appends};
-ghost use Rattle.xns_captures.specs.Captures.{capture_fault};
-ghost use Rattle.xns_calls.specs.Files.{FileStopsIn, calls_capture_text, has_file_refusal};
-ghost use Rattle.xns_lines.specs.Lines.{IsWithinLimits};
-ghost use Rattle.xns_calls.specs.Calls.{StopsIn, calls_text, has_refusal, most_numbered_lines};
+ghost use Rattle.std.specs.Prelude.{◌≡◌};
+ghost use Rattle.xns_calls.specs.Printouts.{calls_capture_printout, calls_printout};
+ghost use Rattle.xns_lines.specs.Printouts.{Prints};
 
 use crate::described::Described;
 use crate::lines_printer::LinesPrinter;
@@ -15,9 +12,9 @@ use courier_programs::Program;
 use std::alloc::Global;
 use std::io::{Read, Write};
 use std::marker::Brand;
-use xns_captures::{FileFault, print_packets};
+use xns_captures::{FileFault, FileResult, print_packets};
 use xns_lines::laws::nothing_is_printed_at_first;
-use xns_lines::{RunFault, print_lines};
+use xns_lines::{RunFault, RunResult, print_lines};
 
 /// Line numbers have 64 bits; there is no other limit on the number of lines.
 const MOST_LINES: usize = 18_446_744_073_709_551_615;
@@ -59,16 +56,11 @@ pub fn calls<R: Read, W: Write>(
     programs: Option<&[Program]>,
     reader: &mut R,
     writer: &mut W,
-) -> Result<bool, RunFault>
-    // Without a fault the text of the whole input is written, which is within the limits.
-    ensures text { IfOk result (λ refused. IfSome (R.remaining reader.old) (λ input.
-        Appends (W.contents writer.old) (W.contents writer.new) (calls_text programs.entry input))) }
-    ensures refused { IfOk result (λ refused. IfSome (R.remaining reader.old) (λ input. refused ≡ has_refusal programs.entry input)) }
-    ensures limits { OnOk result (IfSome (R.remaining reader.old) (IsWithinLimits most_numbered_lines)) }
-
-    // After a fault the text of the lines before it is written, and what was read shows a limit that was passed.
-    ensures fault { IfErr result (λ fault. IfSome (R.remaining reader.old) (λ input.
-        StopsIn programs.entry input (R.remaining reader.new) (W.contents writer.old) (W.contents writer.new) fault)) }
+) -> RunResult
+    // Without a fault the text of the whole input is written, which is within the limits. After a fault the text of the lines
+    // before it is written, and what was read shows a limit that was passed.
+    ensures { Prints (calls_printout programs.entry) result
+        (R.remaining reader.old) (R.remaining reader.new) (W.contents writer.old) (W.contents writer.new) }
 {
     print_described::<Brand, R, W>(alloc, programs, reader, writer)
 }
@@ -79,14 +71,10 @@ fn print_described<D: Described, R: Read, W: Write>(
     programs: Option<&[Program]>,
     reader: &mut R,
     writer: &mut W,
-) -> Result<bool, RunFault>
+) -> RunResult
     requires { programs ≡ D.programs }
-    ensures text { IfOk result (λ refused. IfSome (R.remaining reader.old) (λ input.
-        Appends (W.contents writer.old) (W.contents writer.new) (calls_text D.programs input))) }
-    ensures refused { IfOk result (λ refused. IfSome (R.remaining reader.old) (λ input. refused ≡ has_refusal D.programs input)) }
-    ensures limits { OnOk result (IfSome (R.remaining reader.old) (IsWithinLimits most_numbered_lines)) }
-    ensures fault { IfErr result (λ fault. IfSome (R.remaining reader.old) (λ input.
-        StopsIn D.programs input (R.remaining reader.new) (W.contents writer.old) (W.contents writer.new) fault)) }
+    ensures { Prints (calls_printout D.programs) result
+        (R.remaining reader.old) (R.remaining reader.new) (W.contents writer.old) (W.contents writer.new) }
 {
     nothing_is_printed_at_first();
     let Ok(printer) = LinesPrinter::<D>::new(alloc, programs) else {
@@ -104,16 +92,11 @@ pub fn calls_capture<R: Read, W: Write>(
     times: Times,
     reader: &mut R,
     writer: &mut W,
-) -> Result<bool, FileFault>
-    // Without a fault the text of the whole file is written, which holds no fault.
-    ensures text { IfOk result (λ refused. IfSome (R.remaining reader.old) (λ file.
-        Appends (W.contents writer.old) (W.contents writer.new) (calls_capture_text programs.entry times file))) }
-    ensures refused { IfOk result (λ refused. IfSome (R.remaining reader.old) (λ file. refused ≡ has_file_refusal programs.entry times file)) }
-    ensures whole { OnOk result (IfSome (R.remaining reader.old) (λ file. capture_fault file ≡ None)) }
-
-    // After a fault the text of the packets before it is written; one of the capture comes behind all its packets.
-    ensures fault { IfErr result (λ fault. IfSome (R.remaining reader.old) (λ file.
-        FileStopsIn programs.entry times fault file (W.contents writer.old) (W.contents writer.new))) }
+) -> FileResult
+    // Without a fault the text of the whole file is written, which holds no fault. After a fault the text of the packets before
+    // it is written; one of the capture comes behind all its packets.
+    ensures { Prints (calls_capture_printout programs.entry times) result
+        (R.remaining reader.old) (R.remaining reader.new) (W.contents writer.old) (W.contents writer.new) }
 {
     match times {
         Times::Hidden => {
@@ -147,14 +130,10 @@ fn print_styled<D: Described, S: TimeStyle, R: Read, W: Write>(
     style: S,
     reader: &mut R,
     writer: &mut W,
-) -> Result<bool, FileFault>
+) -> FileResult
     requires { programs ≡ D.programs }
-    ensures text { IfOk result (λ refused. IfSome (R.remaining reader.old) (λ file.
-        Appends (W.contents writer.old) (W.contents writer.new) (calls_capture_text D.programs S.style file))) }
-    ensures refused { IfOk result (λ refused. IfSome (R.remaining reader.old) (λ file. refused ≡ has_file_refusal D.programs S.style file)) }
-    ensures whole { OnOk result (IfSome (R.remaining reader.old) (λ file. capture_fault file ≡ None)) }
-    ensures fault { IfErr result (λ fault. IfSome (R.remaining reader.old) (λ file.
-        FileStopsIn D.programs S.style fault file (W.contents writer.old) (W.contents writer.new))) }
+    ensures { Prints (calls_capture_printout D.programs S.style) result
+        (R.remaining reader.old) (R.remaining reader.new) (W.contents writer.old) (W.contents writer.new) }
 {
     let Ok(printer) = CapturePrinter::<S, D>::new(alloc, programs, style) else {
         return Err(FileFault::Run(RunFault::NoMemory));

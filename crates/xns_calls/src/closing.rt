@@ -2,20 +2,16 @@
 ghost use Rattle.std.specs.Prelude.{◌≡◌};
 ghost use Rattle.xns_calls.specs.Over.{closed_with, closes as closes_of, has_closed, has_replied};
 
-/// The datastream of an item that asks to close the connection.
-const END: u8 = 254;
-
-/// The datastream of an item that answers it.
-const END_REPLY: u8 = 255;
+use xns_spp::datastreams::{END, END_REPLY};
 
 /// With what a flow has closed its connection.
 #[derive(Clone, Copy, Debug, PartialEq, Eq)]
 pub enum Closing {
     /// With nothing yet.
     Open,
-    /// With an item of datastream 254, End.
+    /// With an item of End's datastream.
     End,
-    /// With an item of datastream 255, EndReply.
+    /// With an item of EndReply's datastream.
     EndReply,
 }
 

@@ -1,12 +1,13 @@
 //! How what a connection keeps is read at the end of the input.
-ghost use Rattle.std.specs.Prelude.{◌≡◌, ◌<◌, IfSome, OnErr, OnOk, Some, true};
+ghost use Rattle.std.specs.Prelude.{◌≡◌, ◌<◌, IfSome, OnErr, OnOk, true};
 ghost use Rattle.std.specs.Option.{is_some};
-ghost use Rattle.xns_calls.specs.AtEnd.{both_ended, end_line as end_line_of, end_turn as end_turn_of, ended_of, first_in, own_ended};
+ghost use Rattle.xns_calls.specs.AtEnd.{both_ended, end_line as end_line_of, end_turn as end_turn_of, first_in, own_ended};
 ghost use Rattle.xns_calls.specs.Exchange.{Continues, scene, scene_of};
 ghost use Rattle.xns_calls.specs.Numbers.{most_numbers};
 
 use crate::both_flows::BothFlows;
-use crate::exchange::{advance, reach_other};
+use crate::bringing::bring;
+use crate::exchange::reach_other;
 use crate::first_kept::FirstKept;
 use crate::heading::Heading;
 use crate::scratch::Scratch;
@@ -49,21 +50,7 @@ fn end_own(flows: &mut BothFlows<'_>) -> Result<(), AllocError>
         return Ok(());
     };
     reach_other(flows, first.acknowledged)?;
-    advance(flows, first.number + 1)
-}
-
-/// Reads the first item that is kept, of a flow or of the one behind it.
-fn end_of(flows: &mut BothFlows<'_>, is_other: bool) -> Result<(), AllocError>
-    ensures kept { Continues flows.old flows.new }
-    ensures scene { OnOk result (scene_of flows.new ≡ ended_of flows.old.heading (Some is_other) (scene_of flows.old)) }
-{
-    if !is_other {
-        return end_own(flows);
-    }
-    flows.turn();
-    let done = end_own(flows);
-    flows.turn();
-    done
+    bring(flows, first.number + 1)
 }
 
 /// Reads all that two flows keep, item by item.
@@ -72,7 +59,7 @@ fn end_all(flows: &mut BothFlows<'_>) -> Result<(), AllocError>
     ensures scene { OnOk result (scene_of flows.new ≡ both_ended flows.old.heading (scene_of flows.old)) }
 {
     while let Some(is_other) = end_turn(flows.own, flows.other) {
-        end_of(flows, is_other)?;
+        flows.in_turn(is_other, end_own)?;
     }
     Ok(())
 }

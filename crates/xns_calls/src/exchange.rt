@@ -2,8 +2,8 @@
 ghost use Rattle.std.specs.Option.{is_some};
 ghost use Rattle.std.specs.Prelude.{◌≡◌, ◌<◌, IfSome, None, OnErr, OnOk, Some, true};
 ghost use Rattle.xns_idp.specs.Packet.{packet_model};
-ghost use Rattle.xns_calls.specs.Exchange.{Continues, advanced, after_content, after_data, after_new, after_packet};
-ghost use Rattle.xns_calls.specs.Exchange.{begun as begun_of, brings_data, brings_new, carried, first_track, new_number as new_number_of};
+ghost use Rattle.xns_calls.specs.Exchange.{Continues, after_content, after_new, after_packet};
+ghost use Rattle.xns_calls.specs.Exchange.{begun as begun_of, brings_data, carried, first_track, new_number as new_number_of};
 ghost use Rattle.xns_calls.specs.Exchange.{other_reached, own_reached, reached as reached_of, scene_of, wants_to_take};
 ghost use Rattle.xns_calls.specs.Numbers.{most_numbers};
 
@@ -22,27 +22,6 @@ use courier_messages::Incoming;
 use std::alloc::{AllocError, Global};
 use xns_spp::MOST_PENDING;
 use xns_spp::control::SYSTEM;
-
-/// Brings a flow to a number, if it has begun.
-#[tactic(auto, unfolding(crate::specs::Exchange::advanced))]
-pub fn advance(flows: &mut BothFlows<'_>, number: u64) -> Result<(), AllocError>
-    ensures kept { Continues flows.old flows.new }
-    ensures scene { OnOk result (scene_of flows.new ≡ advanced flows.old.heading number (scene_of flows.old)) }
-{
-    let own = &mut *flows.own;
-    let Some(track) = &mut own.track else {
-        return Ok(());
-    };
-    bring(
-        flows.scratch,
-        flows.page,
-        &flows.heading,
-        track,
-        &mut own.call,
-        &mut flows.other.call,
-        number,
-    )
-}
 
 /// The number to which the flow is brought where this one takes effect. It is none where the flow keeps no items.
 fn reached(side: &Side, number: Option<u64>) -> Option<u64>
@@ -113,7 +92,6 @@ fn new_number(side: &Side, field: u16) -> Option<u64>
 }
 
 /// Keeps the item of a packet, of a number that is no repeat, if its flow has begun.
-#[tactic(auto, unfolding(crate::specs::Exchange::after_new))]
 fn take_new(
     flows: &mut BothFlows<'_>,
     number: u64,
@@ -125,25 +103,12 @@ fn take_new(
     ensures scene { OnOk result (scene_of flows.new
         ≡ after_new flows.old.heading number (carried flows.old.heading acknowledged arrived.now.header.now arrived.now.content.now) (scene_of flows.old)) }
 {
-    let own = &mut *flows.own;
-    let Some(track) = &mut own.track else {
-        return Ok(());
-    };
     let item = Carried {
         item: flows.scratch.item_of(arrived.header, arrived.content)?,
         acknowledged,
         line: flows.heading.origin.number,
     };
-    keep_item(
-        flows.scratch,
-        flows.page,
-        &flows.heading,
-        track,
-        &mut own.call,
-        &mut flows.other.call,
-        number,
-        item,
-    )
+    keep_item(flows, number, item)
 }
 
 /// Brings the flow behind to what takes effect of it. Memory is refused only where that flow keeps items.
@@ -158,7 +123,7 @@ pub fn reach_other(flows: &mut BothFlows<'_>, number: Option<u64>) -> Result<(),
         return Ok(());
     };
     flows.turn();
-    let done = advance(flows, number);
+    let done = bring(flows, number);
     flows.turn();
     done
 }
@@ -173,30 +138,11 @@ fn reach_own(flows: &mut BothFlows<'_>, number: Option<u64>) -> Result<(), Alloc
     let Some(number) = reached(flows.own, number) else {
         return Ok(());
     };
-    advance(flows, number)
+    bring(flows, number)
 }
 
-/// Takes the item of a data packet, with which its flow may begin. Memory is refused only where it begins or the item is new.
-#[tactic(auto, unfolding(crate::specs::Exchange::after_data), using(crate::proofs::Wanted::none_brings))]
-fn take_data(
-    flows: &mut BothFlows<'_>,
-    acknowledged: Option<u64>,
-    arrived: &Arrived<'_>,
-) -> Result<(), AllocError>
-    ensures kept { Continues flows.old flows.new }
-    ensures memory { OnErr result (brings_new flows.old.own.now.track arrived.now.header.now.sequence ≡ true) }
-    ensures scene { OnOk result (scene_of flows.new
-        ≡ after_data flows.old.heading acknowledged (packet_model arrived.now.packet.now) arrived.now.header.now arrived.now.content.now (scene_of flows.old)) }
-{
-    begin(flows, arrived)?;
-    let Some(number) = new_number(flows.own, arrived.header.sequence) else {
-        return Ok(());
-    };
-    take_new(flows, number, acknowledged, arrived)
-}
-
-/// Takes the item of a packet, if it brings one. Memory is refused only where its flow begins or the item is new.
-#[tactic(auto, unfolding(crate::specs::Exchange::after_content))]
+/// Takes the item of a packet, if it brings one: its flow may begin with it. Memory is refused only where it begins or the item is new.
+#[tactic(auto, unfolding(crate::specs::Exchange::after_content, crate::specs::Exchange::after_data), using(crate::proofs::Wanted::none_brings))]
 fn take_content(
     flows: &mut BothFlows<'_>,
     acknowledged: Option<u64>,
@@ -210,7 +156,11 @@ fn take_content(
     if arrived.header.control & SYSTEM != 0 {
         return Ok(());
     }
-    take_data(flows, acknowledged, arrived)
+    begin(flows, arrived)?;
+    let Some(number) = new_number(flows.own, arrived.header.sequence) else {
+        return Ok(());
+    };
+    take_new(flows, number, acknowledged, arrived)
 }
 
 /// Takes a packet of a flow: what takes effect of the flow behind, then its item, if it brings one, and then what takes effect of its

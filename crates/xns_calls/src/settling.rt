@@ -1,8 +1,8 @@
 //! How the items that are kept are read, as soon as they may be.
-ghost use Rattle.std.specs.Prelude.{◌≡◌, OnErr, OnOk, Some, true};
+ghost use Rattle.std.specs.Prelude.{◌≡◌, OnErr, OnOk, true};
 ghost use Rattle.std.specs.Option.{is_some};
 ghost use Rattle.xns_calls.specs.Exchange.{Continues, scene_of};
-ghost use Rattle.xns_calls.specs.Read.{own_read, read_of, settled};
+ghost use Rattle.xns_calls.specs.Read.{settled};
 ghost use Rattle.xns_calls.specs.Turns.{first_line as first_line_of, is_behind as is_behind_of, waits_for_none as waits_for_none_of, next_turn as next_turn_of};
 ghost use Rattle.xns_calls.specs.Turns.{readable as readable_of};
 
@@ -67,47 +67,13 @@ fn next_turn(own: &Side, other: &Side, given: Given) -> Option<bool>
     )
 }
 
-/// Reads the first item that a flow keeps, if it comes next.
-#[tactic(auto, unfolding(crate::specs::Read::own_read))]
-fn read_own(flows: &mut BothFlows<'_>) -> Result<(), AllocError>
-    ensures kept { Continues flows.old flows.new }
-    ensures scene { OnOk result (scene_of flows.new ≡ own_read flows.old.heading (scene_of flows.old)) }
-{
-    let own = &mut *flows.own;
-    let Some(track) = &mut own.track else {
-        return Ok(());
-    };
-    read_first(
-        flows.scratch,
-        flows.page,
-        &flows.heading,
-        track,
-        &mut own.call,
-        &mut flows.other.call,
-    )
-}
-
-/// Reads the first item of a flow, or of the one behind it, if it comes next.
-fn read_turn(flows: &mut BothFlows<'_>, is_other: bool) -> Result<(), AllocError>
-    ensures kept { Continues flows.old flows.new }
-    ensures scene { OnOk result (scene_of flows.new ≡ read_of flows.old.heading (Some is_other) (scene_of flows.old)) }
-{
-    if !is_other {
-        return read_own(flows);
-    }
-    flows.turn();
-    let done = read_own(flows);
-    flows.turn();
-    done
-}
-
 /// Reads what two flows keep, item by item, until neither has one that can be read.
 fn read_all(flows: &mut BothFlows<'_>, given: Given) -> Result<(), AllocError>
     ensures kept { Continues flows.old flows.new }
     ensures scene { OnOk result (scene_of flows.new ≡ settled flows.old.heading given (scene_of flows.old)) }
 {
     while let Some(is_other) = next_turn(flows.own, flows.other, given) {
-        read_turn(flows, is_other)?;
+        flows.in_turn(is_other, read_first)?;
     }
     Ok(())
 }

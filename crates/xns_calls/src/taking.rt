@@ -4,7 +4,6 @@ ghost use Rattle.xns_idp.specs.Packet.{packet_model};
 ghost use Rattle.xns_calls.specs.Exchange.{Continues, scene, scene_of, wants_memory};
 ghost use Rattle.xns_calls.specs.Numbers.{most_numbers};
 ghost use Rattle.xns_calls.specs.Read.{begins_first as begins_first_of, comes_next, handled, is_alone as is_alone_of, keeps_none as keeps_none_of};
-ghost use Rattle.xns_calls.specs.Read.{read_once};
 
 use crate::arrived::Arrived;
 use crate::both_flows::BothFlows;
@@ -58,37 +57,6 @@ fn alone_number(own: &Side, other: &Side, due: Due, header: &Header) -> Option<u
     }
 }
 
-/// Reads such an item where it lies.
-#[tactic(auto, unfolding(crate::specs::Read::read_once))]
-#[inline(always)]
-fn read_at_once(
-    flows: &mut BothFlows<'_>,
-    number: u64,
-    arrived: &Arrived<'_>,
-) -> Result<(), AllocError>
-    requires { number < most_numbers }
-    ensures kept { Continues flows.old flows.new }
-    ensures scene { OnOk result (scene_of flows.new
-        ≡ read_once flows.old.heading number arrived.now.header.now arrived.now.content.now (scene_of flows.old)) }
-{
-    let own = &mut *flows.own;
-    let Some(track) = &mut own.track else {
-        return Ok(());
-    };
-    let next = number + 1;
-    read_arrived(
-        flows.scratch,
-        flows.page,
-        &flows.heading,
-        track,
-        &mut own.call,
-        &mut flows.other.call,
-        next,
-        arrived.header,
-        arrived.content,
-    )
-}
-
 /// Takes a packet of a flow that is no such item, and reads what can be read then.
 #[tactic(auto, using(crate::proofs::Wanted::take_wants))]
 #[inline(never)]
@@ -117,7 +85,7 @@ fn take_begun(flows: &mut BothFlows<'_>, due: Due, arrived: &Arrived<'_>) -> Res
         ≡ handled flows.old.heading due (packet_model arrived.now.packet.now) arrived.now.header.now arrived.now.content.now (scene_of flows.old)) }
 {
     if let Some(number) = alone_number(flows.own, flows.other, due, arrived.header) {
-        return read_at_once(flows, number, arrived);
+        return read_arrived(flows, number, arrived);
     }
     take_waiting(flows, due, arrived)
 }

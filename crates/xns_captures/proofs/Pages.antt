@@ -1,18 +1,20 @@
 -- What is printed of packets, as they are taken and written.
-use Rattle.std.proofs.Common.{◌≡◌, sym, refl, arith, ℕ, ◌≤◌, inl, inr, List, [], append-nil, subst, Option, Some, None, Result, Ok, Err}
+use Rattle.std.proofs.Common.{◌≡◌, ◌∙◌, sym, refl, arith, ℕ, ◌≤◌, inl, inr, List, [], append-nil, subst, Option, Some, None, Result, Ok, Err}
 use Rattle.std.specs.Prelude.{IfErr, IfSome, OnOk}
 use Rattle.std.specs.Io.KnownBytes.{Appends}
 use Rattle.std.proofs.lemmas.Option.{IfSome_then}
 use Rattle.xns_lines.specs.Faults.{AppendsPart}
 use Rattle.xns_lines.specs.Report.{whole}
+use Rattle.xns_lines.specs.declared.page.Page.{Page}
 use Rattle.xns_lines.specs.declared.pages.Pages.{Pages}
 use Rattle.xns_lines.specs.declared.fault.RunFault.{RunFault}
 use Rattle.xns_lines.specs.declared.fault.RunFault.TheVariants as run
 use Rattle.xns_lines.proofs.OnPages.{all_left, none_left, part_left, whole_front}
 use Rattle.xns_lines.proofs.Writes.{appends_nothing}
 use Rattle.xns_captures.specs.Captures.{NumberedPacket, packets_of}
-use Rattle.xns_lines.specs.Printing.{EndCount, HasFailed, Output, Stands, StopsInEnd, TextWithEnd, text_to_end}
-use Rattle.xns_captures.specs.Printing.{IsFront, StopsIn, StopsWith, TakesAll, TakesSome, WritesBy}
+use Rattle.xns_lines.specs.Printing.{EndCount, HasFailed, Output, Stands, StopsInEnd, TextWithEnd}
+use Rattle.xns_lines.specs.Printouts.{Prints}
+use Rattle.xns_captures.specs.Printing.{IsFront, StopsIn, StopsWith, TakesAll, TakesSome, WritesBy, packets_printout}
 use Rattle.xns_captures.specs.Reading.{Says, StandsAfter, StopsBy}
 use Rattle.xns_captures.specs.declared.file_fault.FileFault.{FileFault}
 use Rattle.xns_captures.specs.declared.file_fault.FileFault.TheVariants.{Run, Capture, TooManyFrames}
@@ -96,8 +98,11 @@ module _ {P : Type 0} (output : Output P NumberedPacket) (old new : Pages P) (be
     abbrev pub Some_of : FileFault → List ℕ → Type 0
     Some_of fault file = TakesSome output fault old new before mid file
 
-    pub flushed_text : (file : List ℕ) → Appends mid after (whole new.page.text) → All file → Appends before after (text_to_end output.text_of output.end_count (packets_of file))
-    flushed_text file text all = all_left output _ new mid after before (packets_of file) text (all before begun).1
+    pub flushed_all : (page : Page) (given left : Option (List ℕ)) → page.is_refused ≡ new.page.is_refused → Appends mid after (whole new.page.text) → IfSome given All
+        → Prints (packets_printout output.text_of output.has_refused output.end_count) (Ok page.is_refused) given left before after
+    flushed_all page given left same text all = IfSome_then given all (λ file h.
+        let said = h before begun in
+        record { text = all_left output _ new mid after before (packets_of file) text said.1; refused = same ∙ said.1.refused; good = said.0 })
 
     pub flushed_some : (fault : FileFault) (file : List ℕ) → Appends mid after (whole new.page.text) → Some_of fault file
         → StopsIn output.text_of output.end_count fault file before after

@@ -3,6 +3,11 @@ use Rattle.std.specs.Prelude.{ℕ, ◌+◌, ◌*◌, List, slice_index}
 use Rattle.xns_captures.specs.declared.byte_order.ByteOrder.{ByteOrder}
 use Rattle.xns_captures.specs.declared.byte_order.ByteOrder.TheVariants.{Big, Little}
 
+-- what is read in an order, of what is read in either
+abbrev pub picked : {A : Type 0} → ByteOrder → A → A → A
+picked Big big little = big
+picked Little big little = little
+
 -- the numbers of two and of four bytes at a place, in either order
 abbrev pub word_in_order : ByteOrder → List ℕ → ℕ → ℕ
 word_in_order Big bytes i = 256 * slice_index bytes i + slice_index bytes (i + 1)

@@ -1,8 +1,9 @@
 -- What is printed of the packets of a capture and of its end, after a fault.
-use Rattle.std.specs.Prelude.{◌≡◌, ℕ, ◌≤◌, ◌⊎◌, ◌++◌, List, [], Option, None}
+use Rattle.std.specs.Prelude.{◌≡◌, ℕ, ◌≤◌, ◌⊎◌, ◌++◌, Bool, List, [], Option, None}
 use Rattle.std.specs.Io.KnownBytes.{Appends}
 use Rattle.xns_lines.specs.Faults.{HasWritten}
-use Rattle.xns_lines.specs.Printing.{EndCount, HasFailed, Output, Stands, TextWithEnd}
+use Rattle.xns_lines.specs.Printing.{EndCount, HasFailed, Output, Stands, TextWithEnd, text_to_end}
+use Rattle.xns_lines.specs.Printouts.{Printout}
 use Rattle.xns_lines.specs.declared.pages.Pages.{Pages}
 use Rattle.xns_captures.specs.Captures.{NumberedPacket, capture_fault, packets_of}
 use Rattle.xns_captures.specs.Reading.{IsJustified, StandsAfter}
@@ -33,6 +34,15 @@ WritesBy _ before after text = Appends before after text
 abbrev pub StopsIn : TextWithEnd NumberedPacket → EndCount NumberedPacket → FileFault → List ℕ → Option (List ℕ) → Option (List ℕ) → Type 0
 StopsIn text_of end_count fault file before after =
     StopsWith fault end_count file (λ packets part. WritesBy fault before after (text_of packets part))
+
+-- what is printed of the packets of a file, and of its end
+abbrev pub packets_printout : TextWithEnd NumberedPacket → (List NumberedPacket → ℕ → Bool) → EndCount NumberedPacket → Printout FileFault
+packets_printout text_of has_refused end_count = record {
+  text = λ file. text_to_end text_of end_count (packets_of file);
+  is_refused = λ file. has_refused (packets_of file) (end_count (packets_of file));
+  is_good = λ file. capture_fault file ≡ None;
+  stops_in = λ file left before after fault. StopsIn text_of end_count fault file before after;
+}
 
 -- ---- what was taken of a file, by the old pages, which became the new ones: the writer held `held` then, and holds `after` now
 

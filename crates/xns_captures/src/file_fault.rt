@@ -3,6 +3,9 @@ use crate::fault::CaptureFault;
 use thiserror::Error;
 use xns_lines::RunFault;
 
+/// Whether a run over a file refused something of it, or why the run stopped before the end of the file.
+pub type FileResult = Result<bool, FileFault>;
+
 /// Why a run over a capture stopped before the end of the file.
 #[derive(Clone, Copy, Debug, PartialEq, Eq, Error)]
 pub enum FileFault {

@@ -31,7 +31,7 @@ mod window;
 
 pub use byte_order::ByteOrder;
 pub use fault::CaptureFault;
-pub use file_fault::FileFault;
+pub use file_fault::{FileFault, FileResult};
 pub use format::Format;
 pub use frame::Frame;
 pub use frame_time::FrameTime;

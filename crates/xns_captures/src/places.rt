@@ -10,10 +10,7 @@ pub fn read_word(order: ByteOrder, bytes: &[u8], at: usize) -> u16
     ensures { result ≡ word_in_order order bytes.now at }
 {
     let pair = [bytes[at], bytes[at + 1]];
-    match order {
-        ByteOrder::Big => u16::from_be_bytes(pair),
-        ByteOrder::Little => u16::from_le_bytes(pair),
-    }
+    order.pick(u16::from_be_bytes(pair), u16::from_le_bytes(pair))
 }
 
 /// The number of the four bytes at a place.
@@ -22,10 +19,7 @@ pub fn read_long(order: ByteOrder, bytes: &[u8], at: usize) -> u32
     ensures { result ≡ long_in_order order bytes.now at }
 {
     let four = [bytes[at], bytes[at + 1], bytes[at + 2], bytes[at + 3]];
-    match order {
-        ByteOrder::Big => u32::from_be_bytes(four),
-        ByteOrder::Little => u32::from_le_bytes(four),
-    }
+    order.pick(u32::from_be_bytes(four), u32::from_le_bytes(four))
 }
 
 /// The number of the eight bytes at a place, of which the four that count most come first in either order.

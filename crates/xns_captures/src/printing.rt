@@ -1,12 +1,10 @@
 //! Prints what the packets of a capture say.
-ghost use Rattle.std.specs.Prelude.{◌≡◌, [], None, IfErr, IfOk, IfSome, OnOk};
-ghost use Rattle.std.specs.Io.KnownBytes.{Appends};
-ghost use Rattle.xns_captures.specs.Captures.{capture_fault, packets_of};
-ghost use Rattle.xns_lines.specs.Printing.{text_to_end};
-ghost use Rattle.xns_captures.specs.Printing.{StopsIn, TakesAll, TakesSome};
+ghost use Rattle.std.specs.Prelude.{[], IfErr, IfSome, OnOk};
+ghost use Rattle.xns_lines.specs.Printouts.{Prints};
+ghost use Rattle.xns_captures.specs.Printing.{TakesAll, TakesSome, packets_printout};
 
 use crate::by_packet::ByPacket;
-use crate::file_fault::FileFault;
+use crate::file_fault::{FileFault, FileResult};
 use crate::packet_printer::PacketPrinter;
 use crate::taking::take_packets;
 use std::alloc::Global;
@@ -25,19 +23,13 @@ pub fn print_packets<R: Read, W: Write, P: PacketPrinter + Drop>(
     reader: &mut R,
     writer: &mut W,
     printer: P,
-) -> Result<bool, FileFault>
+) -> FileResult
     requires { P.prints printer [] 0 }
 
-    // Without a fault the text of the whole file is written, which holds no fault.
-    ensures text { IfOk result (λ refused. IfSome (R.remaining reader.old) (λ file.
-        Appends (W.contents writer.old) (W.contents writer.new) (text_to_end P.packets_text P.packet_ends (packets_of file)))) }
-    ensures refused { IfOk result (λ refused. IfSome (R.remaining reader.old) (λ file.
-        refused ≡ P.refuses (packets_of file) (P.packet_ends (packets_of file)))) }
-    ensures whole { OnOk result (IfSome (R.remaining reader.old) (λ file. capture_fault file ≡ None)) }
-
-    // After a fault the text of the packets before it is written; one of the capture comes behind all its packets.
-    ensures fault { IfErr result (λ fault. IfSome (R.remaining reader.old) (λ file.
-        StopsIn P.packets_text P.packet_ends fault file (W.contents writer.old) (W.contents writer.new))) }
+    // Without a fault the text of the whole file is written, which holds no fault. After a fault the text of the packets before
+    // it is written; one of the capture comes behind all its packets.
+    ensures { Prints (packets_printout P.packets_text P.refuses P.packet_ends) result
+        (R.remaining reader.old) (R.remaining reader.new) (W.contents writer.old) (W.contents writer.new) }
 {
     P::nothing_is_said();
     let mut pages = Pages::new(alloc, ByPacket { printer });

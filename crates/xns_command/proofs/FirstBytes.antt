@@ -1,19 +1,20 @@
 -- A file by its first bytes, and where a mode stops if nothing more than these was read.
 use Rattle.std.proofs.Common.{◌≡◌, ◌∙◌, ap, sym, refl, arith, ℕ, ◌<◌, Bool, true, false, nat_lt, List, [], ◌∷◌, ◌++◌, length, append-nil, subst, Option, Some, None, Result, Ok, Err, inl}
-use Rattle.std.specs.Prelude.{IfErr, IfSome}
+use Rattle.std.specs.Prelude.{IfSome}
 use Rattle.std.proofs.lemmas.Bool.{le-ltb}
 use Rattle.std.specs.Fmt.{option_append}
 use Rattle.std.specs.Io.KnownBytes.{Consumes, IsAtEnd}
-use Rattle.xns_lines.proofs.AtFirst.{stops_unread}
+use Rattle.xns_lines.proofs.AtFirst.{no_lines, stops_unread}
 use Rattle.xns_lines.proofs.Writes.{appends_nothing}
-use Rattle.xns_lines.specs.Lines.{split_at_newlines}
+use Rattle.xns_lines.specs.Lines.{most_lines, split_at_newlines}
+use Rattle.xns_lines.specs.Printouts.{Prints, PrintsOf}
 use Rattle.xns_lines.specs.declared.fault.RunFault.TheVariants as run
 use Rattle.xns_captures.specs.Captures.{packets_of}
 use Rattle.xns_captures.specs.Parts.{is_capture}
 use Rattle.xns_captures.specs.declared.file_fault.FileFault.{FileFault}
 use Rattle.xns_captures.specs.declared.file_fault.FileFault.TheVariants.{Run}
-use Rattle.xns_command.specs.Commands.{StopsIn}
-use Rattle.xns_command.specs.Files.{FileStopsIn, StopsAs}
+use Rattle.xns_command.specs.Commands.{mode_printout}
+use Rattle.xns_command.specs.Files.{file_printout, printout_as}
 use Rattle.xns_command.specs.declared.mode.Mode.{Mode}
 use Rattle.xns_command.specs.declared.mode.Mode.TheVariants.{Calls, Dump, Sim}
 use Rattle.xns_calls.specs.Naming.{Programs}
@@ -43,46 +44,36 @@ whole_file None new whole first b e c end is = tt
 whole_file (Some xs) None whole first b e c end is = absurd c
 whole_file (Some xs) (Some ys) whole first b e c end is = (e ∙ ap Some (sym c), ap is_capture c ∙ tells first ys end ∙ sym is)
 
-module _ (programs : Programs) where
-  of_file : (times : Times) (mode : Mode) (b : Bool) (old whole left before after : Option (List ℕ)) (fault : FileFault) → IfSome old (λ file. (whole ≡ Some file) × (is_capture file ≡ b))
-      → IfSome whole (λ file. StopsAs programs b times mode file left before after fault) → IfSome old (λ file. FileStopsIn programs times mode file before after fault)
-  of_file times mode b None whole left before after fault same stops = tt
-  of_file times mode b (Some file) whole left before after fault same stops = (
-    left,
-    subst (λ capture. StopsAs programs capture times mode file left before after fault) (sym same.1)
-        (subst (λ o. IfSome o (λ xs. StopsAs programs b times mode xs left before after fault)) same.0 stops),
-  )
+module _ (programs : Programs) (times : Times) (mode : Mode) (before after : Option (List ℕ)) where
+  as_file : (file : List ℕ) (left left' : Option (List ℕ)) (r : Result Bool FileFault)
+      → PrintsOf (printout_as programs (is_capture file) times mode) r left before after file → PrintsOf (file_printout programs times mode) r left' before after file
+  as_file file left left' (Ok refused) h = record { text = h.text; refused = h.refused; good = h.good }
+  as_file file left left' (Err fault) h = (left, h)
 
-  -- where the whole stops, the file does
-  pub stops_in_file : (times : Times) (mode : Mode) (b : Bool) (old whole left before after : Option (List ℕ)) (r : Result Bool FileFault) → IfSome old (λ file. (whole ≡ Some file) × (is_capture file ≡ b))
-      → IfErr r (λ fault. IfSome whole (λ file. StopsAs programs b times mode file left before after fault)) → IfErr r (λ fault. IfSome old (λ file. FileStopsIn programs times mode file before after fault))
-  stops_in_file times mode b old whole left before after (Ok refused) same stops = tt
-  stops_in_file times mode b old whole left before after (Err fault) same stops = of_file times mode b old whole left before after fault same stops
+  -- what is made of the whole is made of the file
+  pub prints_file : (b : Bool) (old whole left left' : Option (List ℕ)) (r : Result Bool FileFault) → IfSome old (λ file. (whole ≡ Some file) × (is_capture file ≡ b))
+      → Prints (printout_as programs b times mode) r whole left before after → Prints (file_printout programs times mode) r old left' before after
+  prints_file b None whole left left' r same prints = tt
+  prints_file b (Some file) whole left left' r same prints =
+      as_file file left left' r
+      (subst (λ capture. PrintsOf (printout_as programs capture times mode) r left before after file) (sym same.1)
+      (subst (λ given. Prints (printout_as programs b times mode) r given left before after) same.0 prints))
 
 -- ---- nothing can be read behind the first bytes
 
 module _ (programs : Programs) where
-  lines_at_first : (mode : Mode) (file : List ℕ) (held : Option (List ℕ)) → StopsIn programs mode file (Some file) held held run.Read
+  lines_at_first : (mode : Mode) (file : List ℕ) (held : Option (List ℕ)) → (mode_printout programs mode).stops_in file (Some file) held held run.Read
   unfolding split_at_newlines
   lines_at_first Dump file held = stops_unread run.Read _ _ _ file held refl refl (appends_nothing held)
   lines_at_first Calls file held = stops_unread run.Read _ _ _ file held refl refl (appends_nothing held)
-  lines_at_first Sim file held = record {
-    read = [];
-    consumed = refl;
-    good = [];
-    next = [];
-    lines = refl;
-    within = record { short = refl; few = omega arith };
-    shown = refl;
-    written = refl;
-  }
+  lines_at_first Sim file held = record { read = []; consumed = refl; lines = no_lines most_lines run.Read refl; written = refl }
 
-  pub at_first : (b : Bool) (times : Times) (mode : Mode) (file : List ℕ) (held : Option (List ℕ)) → StopsAs programs b times mode file (Some file) held held (Run run.Read)
+  at_first : (b : Bool) (times : Times) (mode : Mode) (file : List ℕ) (held : Option (List ℕ)) → (printout_as programs b times mode).stops_in file (Some file) held held (Run run.Read)
   at_first true times Dump file held = (tt, [], 0, record { rest = packets_of file; joined = refl; few = omega arith; place = inl refl }, appends_nothing held)
   at_first true times Calls file held = (tt, [], 0, record { rest = packets_of file; joined = refl; few = omega arith; place = inl refl }, appends_nothing held)
   at_first true times Sim file held = lines_at_first Sim file held
   at_first false times mode file held = lines_at_first mode file held
 
-  pub stops_at_first : (times : Times) (mode : Mode) (old held : Option (List ℕ)) → IfSome old (λ file. FileStopsIn programs times mode file held held (Run run.Read))
-  stops_at_first times mode None held = tt
-  stops_at_first times mode (Some file) held = (Some file, at_first (is_capture file) times mode file held)
+  pub stops_at_first : (times : Times) (mode : Mode) (old left held : Option (List ℕ)) → Prints (file_printout programs times mode) (Err (Run run.Read)) old left held held
+  stops_at_first times mode None left held = tt
+  stops_at_first times mode (Some file) left held = (Some file, at_first (is_capture file) times mode file held)

@@ -53,9 +53,9 @@ StopsPrinting (Run run.Write) text before after held written = IsTaken text befo
 StopsPrinting fault text before after held written = IsFaultOf fault text before × (after ≡ before) × (written ≡ held)
 
 -- a text was read behind these programs, and its program's lines were written
-abbrev pub Prints : Result Unit DescriptionFault → List ℕ → List Program → List Program → Option (List ℕ) → Option (List ℕ) → Type 0
-Prints (Ok done) text before after held written = IsTaken text before after (Appends held written)
-Prints (Err fault) text before after held written = StopsPrinting fault text before after held written
+abbrev pub PrintsDescription : Result Unit DescriptionFault → List ℕ → List Program → List Program → Option (List ℕ) → Option (List ℕ) → Type 0
+PrintsDescription (Ok done) text before after held written = IsTaken text before after (Appends held written)
+PrintsDescription (Err fault) text before after held written = StopsPrinting fault text before after held written
 
 -- the program's exit status
 abbrev pub status_of : Result Unit DescriptionFault → ℕ

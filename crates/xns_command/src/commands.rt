@@ -1,38 +1,27 @@
 //! The commands of the program.
-ghost use Rattle.std.specs.Prelude.{◌≡◌, IfErr, IfOk, IfSome};
-ghost use Rattle.std.specs.Io.KnownBytes.{Appends};
-ghost use Rattle.xns_command.specs.Commands.{StopsIn, line_is_refused, printed_text};
+ghost use Rattle.xns_command.specs.Commands.{mode_printout};
+ghost use Rattle.xns_lines.specs.Printouts.{Prints};
 
+use crate::job::Job;
 use crate::mode::Mode;
-use courier_programs::Program;
-use std::alloc::Global;
 use std::io::{Read, Write};
 use xns_calls::calls;
 use xns_dump::dump;
-use xns_lines::RunFault;
+use xns_lines::RunResult;
 use xns_sim::sim;
 
-/// Runs the command of the mode, which reads the reader to its end, and writes to the writer. `calls` names calls by the
-/// programs, where some are given. The result says whether a line was refused.
+/// Runs the command of the job, which reads the reader to its end, and writes to the writer. The result says whether a line
+/// was refused.
 ///
 /// # Errors
 /// Those of the command: `dump`, `calls` or `sim`.
-pub fn perform<R: Read, W: Write>(
-    alloc: Global,
-    mode: Mode,
-    programs: Option<&[Program]>,
-    reader: &mut R,
-    writer: &mut W,
-) -> Result<bool, RunFault>
-    ensures text { IfOk result (λ refused. IfSome (R.remaining reader.old) (λ input.
-        Appends (W.contents writer.old) (W.contents writer.new) (printed_text programs.entry mode input))) }
-    ensures refused { IfOk result (λ refused. IfSome (R.remaining reader.old) (λ input. refused ≡ line_is_refused programs.entry mode input)) }
-    ensures fault { IfErr result (λ fault. IfSome (R.remaining reader.old) (λ input.
-        StopsIn programs.entry mode input (R.remaining reader.new) (W.contents writer.old) (W.contents writer.new) fault)) }
+pub fn perform<R: Read, W: Write>(job: &Job<'_>, reader: &mut R, writer: &mut W) -> RunResult
+    ensures { Prints (mode_printout job.now.programs job.now.mode) result
+        (R.remaining reader.old) (R.remaining reader.new) (W.contents writer.old) (W.contents writer.new) }
 {
-    match mode {
-        Mode::Dump => dump(alloc, reader, writer),
-        Mode::Calls => calls(alloc, programs, reader, writer),
-        Mode::Sim => sim(alloc, reader, writer),
+    match job.mode {
+        Mode::Dump => dump(job.alloc, reader, writer),
+        Mode::Calls => calls(job.alloc, job.programs, reader, writer),
+        Mode::Sim => sim(job.alloc, reader, writer),
     }
 }

@@ -3,7 +3,7 @@ ghost use Rattle.std.specs.Prelude.{◌≡◌, ◌+◌, IfOk, IfSome, length};
 ghost use Rattle.courier_notation.specs.Lexing.{most_text};
 ghost use Rattle.courier_programs.specs.Meanings.{resolved_model};
 ghost use Rattle.call_texts.specs.Listing.{program_text};
-ghost use Rattle.xns_command.specs.Descriptions.{IsDescribed, Prints, TakesDescription};
+ghost use Rattle.xns_command.specs.Descriptions.{IsDescribed, PrintsDescription, TakesDescription};
 
 use crate::description_fault::DescriptionFault;
 use crate::files::read_first;
@@ -100,7 +100,7 @@ pub fn print_description<R: Read, W: Write>(
     writer: &mut W,
     programs: &mut Vec<Program>,
 ) -> Result<(), DescriptionFault>
-    ensures { IfSome (R.remaining reader.old) (λ text. Prints result text programs.old.items programs.new.items
+    ensures { IfSome (R.remaining reader.old) (λ text. PrintsDescription result text programs.old.items programs.new.items
         (W.contents writer.old) (W.contents writer.new)) }
 {
     let program = read_description(alloc, reader, programs)?;

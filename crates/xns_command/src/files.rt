@@ -1,40 +1,30 @@
 //! The commands of the program that read a file.
-ghost use Rattle.std.specs.Prelude.{◌≡◌, ◌≤◌, ◌<◌, IfErr, IfOk, IfSome, length, take};
-ghost use Rattle.std.specs.Io.KnownBytes.{Appends, Consumes, IsAtEnd};
-ghost use Rattle.xns_command.specs.Files.{FileStopsIn, StopsAs, file_text, is_file_refused, is_refused_as, text_as};
+ghost use Rattle.std.specs.Prelude.{◌≡◌, ◌≤◌, ◌<◌, IfErr, IfOk, length, take};
+ghost use Rattle.std.specs.Io.KnownBytes.{Consumes, IsAtEnd};
+ghost use Rattle.xns_command.specs.Commands.{mode_printout};
+ghost use Rattle.xns_command.specs.Files.{file_printout, lines_in_file, printout_as};
+ghost use Rattle.xns_lines.specs.Printouts.{Prints};
 
 use crate::commands::perform;
+use crate::job::Job;
 use crate::mode::Mode;
-use courier_programs::Program;
-use std::alloc::Global;
 use std::io::{Read, Write};
-use xns_calls::{Times, calls_capture};
-use xns_captures::{FileFault, is_capture};
+use xns_calls::calls_capture;
+use xns_captures::{FileFault, FileResult, is_capture};
 use xns_dump::dump_capture;
 use xns_lines::RunFault;
 
 /// How many bytes tell whether a file is a capture.
 const FIRST: usize = 4;
 
-/// Runs the command of the mode over a file, which is a capture, known by its first bytes, or a file of lines; the script
-/// of `sim` has lines always. Of times only those of a capture are printed, by `calls`, which names calls by the programs,
-/// where some are given. The result says whether something was refused.
+/// Runs the command of the job over a file, which is a capture, known by its first bytes, or a file of lines; the script
+/// of `sim` has lines always. The result says whether something was refused.
 ///
 /// # Errors
 /// Those of the command: `dump`, `calls` or `sim`, or `dump_capture` or `calls_capture`.
-pub fn perform_file<R: Read, W: Write>(
-    alloc: Global,
-    mode: Mode,
-    times: Times,
-    programs: Option<&[Program]>,
-    reader: &mut R,
-    writer: &mut W,
-) -> Result<bool, FileFault>
-    ensures text { IfOk result (λ refused. IfSome (R.remaining reader.old) (λ file.
-        Appends (W.contents writer.old) (W.contents writer.new) (file_text programs.entry times mode file))) }
-    ensures refused { IfOk result (λ refused. IfSome (R.remaining reader.old) (λ file. refused ≡ is_file_refused programs.entry times mode file)) }
-    ensures fault { IfErr result (λ fault. IfSome (R.remaining reader.old) (λ file.
-        FileStopsIn programs.entry times mode file (W.contents writer.old) (W.contents writer.new) fault)) }
+pub fn perform_file<R: Read, W: Write>(job: &Job<'_>, reader: &mut R, writer: &mut W) -> FileResult
+    ensures { Prints (file_printout job.now.programs job.now.times job.now.mode) result
+        (R.remaining reader.old) (R.remaining reader.new) (W.contents writer.old) (W.contents writer.new) }
 {
     let mut first = [0u8; FIRST];
     let count = match read_first(reader, &mut first) {
@@ -43,32 +33,37 @@ pub fn perform_file<R: Read, W: Write>(
     };
     let is_capture = is_capture(&first[..count]);
     let mut whole = (&first[..count]).chain(reader);
-    perform_as(alloc, is_capture, mode, times, programs, &mut whole, writer)
+    perform_as(job, is_capture, &mut whole, writer)
 }
 
-/// Runs the command of the mode over a file that is a capture, or has lines.
+/// Runs the command of the job over a file that is a capture, or has lines.
 fn perform_as<R: Read, W: Write>(
-    alloc: Global,
+    job: &Job<'_>,
     is_capture: bool,
-    mode: Mode,
-    times: Times,
-    programs: Option<&[Program]>,
     reader: &mut R,
     writer: &mut W,
-) -> Result<bool, FileFault>
-    ensures text { IfOk result (λ refused. IfSome (R.remaining reader.old) (λ file.
-        Appends (W.contents writer.old) (W.contents writer.new) (text_as programs.entry is_capture times mode file))) }
-    ensures refused { IfOk result (λ refused. IfSome (R.remaining reader.old) (λ file. refused ≡ is_refused_as programs.entry is_capture times mode file)) }
-    ensures fault { IfErr result (λ fault. IfSome (R.remaining reader.old) (λ file.
-        StopsAs programs.entry is_capture times mode file (R.remaining reader.new) (W.contents writer.old) (W.contents writer.new) fault)) }
+) -> FileResult
+    ensures { Prints (printout_as job.now.programs is_capture job.now.times job.now.mode) result
+        (R.remaining reader.old) (R.remaining reader.new) (W.contents writer.old) (W.contents writer.new) }
 {
-    match mode {
-        Mode::Dump if is_capture => dump_capture(alloc, reader, writer),
-        Mode::Calls if is_capture => calls_capture(alloc, programs, times, reader, writer),
-        _ => match perform(alloc, mode, programs, reader, writer) {
-            Ok(refused) => Ok(refused),
-            Err(fault) => Err(FileFault::Run(fault)),
-        },
+    if !is_capture {
+        return perform_lines(job, reader, writer);
+    }
+    match job.mode {
+        Mode::Dump => dump_capture(job.alloc, reader, writer),
+        Mode::Calls => calls_capture(job.alloc, job.programs, job.times, reader, writer),
+        Mode::Sim => perform_lines(job, reader, writer),
+    }
+}
+
+/// Runs the command of the job over a file that has lines.
+fn perform_lines<R: Read, W: Write>(job: &Job<'_>, reader: &mut R, writer: &mut W) -> FileResult
+    ensures { Prints (lines_in_file (mode_printout job.now.programs job.now.mode)) result
+        (R.remaining reader.old) (R.remaining reader.new) (W.contents writer.old) (W.contents writer.new) }
+{
+    match perform(job, reader, writer) {
+        Ok(refused) => Ok(refused),
+        Err(fault) => Err(FileFault::Run(fault)),
     }
 }
 

@@ -14,7 +14,8 @@ use Rattle.xns_spp.specs.Sending.{send_answer, take_answer, waiting_count}
 use Rattle.xns_spp.specs.State.{State}
 use Rattle.xns_spp.specs.declared.item.Item.{Item}
 use Rattle.xns_connection.specs.Closed.{AGoodCloseLosesNothing}
-use Rattle.xns_connection.specs.Closing.{closing_item, drains, end_reply_stream, end_stream, put_if}
+use Rattle.xns_spp.specs.Datastreams.{end_reply_stream, end_stream}
+use Rattle.xns_connection.specs.Closing.{closing_item, drains, put_if}
 use Rattle.xns_connection.specs.Connecting.{is_dead, why_over}
 use Rattle.xns_connection.specs.Deeds.{heard, shut}
 use Rattle.xns_connection.specs.Giving.{Giving, GivesAs, giving, next_unless}

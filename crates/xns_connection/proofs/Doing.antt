@@ -21,7 +21,7 @@ use Rattle.xns_spp.specs.declared.item.Item.{Item}
 use Rattle.xns_connection.specs.Closing.{drains, closing_items, Knows}
 use Rattle.xns_connection.specs.Deeds.{Deed, nothing, asked, made, gave, took, heard, answered_for, done, handed_by, side_answered, side_called, side_taken, told_by, wanted_by, with_answer, with_taken}
 use Rattle.xns_connection.specs.Moving.{ConversationScene, conversation_scene}
-use Rattle.xns_connection.specs.Refusing.{answer_fault, refused_answer, refused_call, side_answer_fault, side_call_fault}
+use Rattle.xns_connection.specs.Refusing.{refused_answer, refused_call, side_answer_fault, side_call_fault}
 use Rattle.xns_connection.specs.Step.{May}
 use Rattle.xns_connection.specs.Story.{Story, SideHas, CallerHas, ServerHas, asked_of, is_called, is_stopped, listed_call, out_of, waiting_message, with_handed}
 use Rattle.xns_connection.specs.Telling.{Tells}
@@ -99,7 +99,7 @@ record Gives (side : Side) (h m : Story) : Type 0 where
   given : m.given ≡ h.given
 
 given_to : Underneath → (a : Answering) (o : Option ℕ) (h : Story) (kind : Answer) (words : List ℕ) → a.asked ≡ o
-    → answer_fault (answer_refusal o kind words) ≡ None → ServerHas h a
+    → option_map refused_answer (answer_refusal o kind words) ≡ None → ServerHas h a
     → Gives (Answers (answered_for o a kind words)) h (with_answer o kind words h)
 given_to laws a None h kind words is may has = absurd (cc)
 given_to laws a (Some k) h kind words is may has =

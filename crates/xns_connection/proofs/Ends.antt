@@ -26,7 +26,8 @@ use Rattle.xns_spp.specs.declared.role.Role.{Role}
 use Rattle.xns_spp.specs.declared.role.Role.TheVariants.{Initiator, Responder}
 use Rattle.xns_spp.specs.declared.send_fault.SendFault.{SendFault}
 use Rattle.xns_spp.proofs.Heard.{not_zero}
-use Rattle.xns_connection.specs.Closing.{closing_item, drains, end_reply_stream, end_stream}
+use Rattle.xns_spp.specs.Datastreams.{end_reply_stream, end_stream}
+use Rattle.xns_connection.specs.Closing.{closing_item, drains}
 use Rattle.xns_connection.specs.Connecting.{is_dead}
 use Rattle.xns_connection.specs.Deeds.{Deed, Parts, acted, acted_by, asked, done, gave, heard, made, nothing, shut, took, unserved}
 use Rattle.xns_connection.specs.Ends.{AConnectionKeepsItsEnd, IsSameEnd, KeepsEnd, opener_by, peer_that_opened}

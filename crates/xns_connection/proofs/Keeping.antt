@@ -14,7 +14,8 @@ use Rattle.xns_spp.specs.State.{State}
 use Rattle.xns_spp.specs.Telling.{unacknowledged_count}
 use Rattle.xns_spp.specs.declared.item.Item.{Item}
 use Rattle.xns_connection.specs.Closed.{drains_by, is_closed_now}
-use Rattle.xns_connection.specs.Closing.{closing_item, drains, end_reply_stream, end_stream}
+use Rattle.xns_spp.specs.Datastreams.{end_reply_stream, end_stream}
+use Rattle.xns_connection.specs.Closing.{closing_item, drains}
 use Rattle.xns_connection.specs.Connecting.{why_after}
 use Rattle.xns_connection.specs.Deeds.{Deed, Moved, closed_moved, done, has_refused_item, is_starved, owed_by, shut, told_by, wait_after_deed, wanted_by}
 use Rattle.xns_connection.specs.Moving.{IsAt, ConversationScene, may_end, may_reply, conversation_scene}

@@ -24,7 +24,8 @@ use Rattle.xns_spp.specs.Fronts.{begins_then, begins_length}
 use Rattle.xns_spp.specs.Growth.{Begins}
 use Rattle.xns_spp.specs.declared.item.Item.{Item}
 use Rattle.xns_connection.specs.Agreeing.{handed_up, HasCalled, HasServed, ArePeers, IsClosing, Agree}
-use Rattle.xns_connection.specs.Closing.{drains, closing_items, put_if, end_stream, end_reply_stream}
+use Rattle.xns_spp.specs.Datastreams.{end_reply_stream, end_stream}
+use Rattle.xns_connection.specs.Closing.{drains, closing_items, put_if}
 use Rattle.xns_connection.specs.Story.{Story, SideHas, CallerHas, ServerHas, is_stopped}
 use Rattle.xns_connection.specs.Telling.{Tells}
 use Rattle.xns_connection.specs.declared.conversation.Conversation.{Conversation}

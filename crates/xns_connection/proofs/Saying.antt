@@ -13,7 +13,8 @@ use Rattle.xns_spp.specs.Laws.{TheNextItemIsHandedUp, ItemsAreAcceptedOrChangeNo
 use Rattle.xns_spp.specs.Sending.{send_answer, after_send, take_answer, after_take, waiting_count}
 use Rattle.xns_spp.specs.State.{State}
 use Rattle.xns_spp.specs.declared.item.Item.{Item}
-use Rattle.xns_connection.specs.Closing.{drains, closing_items, closing_item, put_if, end_stream, end_reply_stream}
+use Rattle.xns_spp.specs.Datastreams.{end_reply_stream, end_stream}
+use Rattle.xns_connection.specs.Closing.{drains, closing_items, closing_item, put_if}
 use Rattle.xns_connection.specs.Moving.{ConversationScene, taken_many, drained_out, may_end, may_reply, with_end_out, replied, closed_up, deafened}
 use Rattle.xns_connection.specs.Story.{Story, IsMoved, start, sends, is_called, is_stopped, out_of, owes_answer}
 use Rattle.xns_connection.specs.Telling.{EndsLast, HasLastWord}

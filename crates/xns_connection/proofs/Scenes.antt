@@ -6,7 +6,8 @@ use Rattle.courier_sessions.specs.declared.feed_refusal.FeedRefusal.TheVariants.
 use Rattle.xns_spp.specs.Held.{StandsFor}
 use Rattle.xns_spp.specs.Sending.{send_answer, waiting_count}
 use Rattle.xns_spp.specs.State.{State}
-use Rattle.xns_connection.specs.Closing.{closing_item, drains, end_stream, end_reply_stream}
+use Rattle.xns_spp.specs.Datastreams.{end_reply_stream, end_stream}
+use Rattle.xns_connection.specs.Closing.{closing_item, drains}
 use Rattle.xns_connection.specs.Moving.{ConversationScene, conversation_scene, IsAt, Moves, MovesAll, taken_one, taken_many, drained_out, may_end, may_reply, with_end_out, replied, closed_up, deafened, settled_by}
 use Rattle.xns_connection.specs.declared.closing.Closing.{Closing}
 use Rattle.xns_connection.specs.declared.conversation.Conversation.{Conversation}

@@ -7,7 +7,8 @@ use Rattle.courier_sessions.specs.declared.feed_refusal.FeedRefusal.TheVariants.
 use Rattle.xns_spp.specs.Laws.{ItemsAreAcceptedOrChangeNothing}
 use Rattle.xns_spp.specs.State.{State, IsState}
 use Rattle.xns_spp.specs.declared.item.Item.{Item}
-use Rattle.xns_connection.specs.Closing.{closing_item, closing_items, drains, end_reply_stream, end_stream, put_if, Knows}
+use Rattle.xns_spp.specs.Datastreams.{end_reply_stream, end_stream}
+use Rattle.xns_connection.specs.Closing.{closing_item, closing_items, drains, put_if, Knows}
 use Rattle.xns_connection.specs.Deeds.{has_refused_item}
 use Rattle.xns_connection.specs.Moving.{IsAt, ConversationScene, MovesAll, Moves, drains_only, converses, Pumps, Rejects, rejects, Rounds, once, again, Converses, calms, starves, refuses, refuses_on, closed_up, deafened}
 use Rattle.xns_connection.specs.Story.{Story, ProgramDoesNothing, IsMoved, IsListed, IsHeldBack, Runs, is_called, is_stopped, out_of}

@@ -17,7 +17,8 @@ use Rattle.xns_spp.specs.Sending.{take_answer, after_take, flush_answer, after_f
 use Rattle.xns_spp.specs.State.{State, numbers_of, send_limit}
 use Rattle.xns_spp.specs.declared.item.Item.{Item}
 use Rattle.xns_connection.specs.Story.{Story, SideHas, Runs, start, is_called, is_stopped, new_story}
-use Rattle.xns_connection.specs.Closing.{drains, closing_items, put_if, end_stream, end_reply_stream, after_end_words, asks_end, replies_end, Knows}
+use Rattle.xns_spp.specs.Datastreams.{end_reply_stream, end_stream}
+use Rattle.xns_connection.specs.Closing.{drains, closing_items, put_if, after_end_words, asks_end, replies_end, Knows}
 use Rattle.xns_connection.specs.Telling.{EndsLast, Tells, Goes, Rested, owes_end}
 use Rattle.xns_connection.specs.declared.closing.Closing.{Closing}
 use Rattle.xns_connection.specs.declared.closing.TheConstants.Closing.{NONE}

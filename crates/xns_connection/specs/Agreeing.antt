@@ -11,7 +11,8 @@ use Rattle.courier_sessions.specs.Talks.{AreAnswers, made_messages}
 use Rattle.courier_sessions.specs.declared.program.Program.{Program}
 use Rattle.xns_spp.specs.Growth.{Begins}
 use Rattle.xns_spp.specs.declared.item.Item.{Item}
-use Rattle.xns_connection.specs.Closing.{closing_item, closing_items, end_stream, end_reply_stream}
+use Rattle.xns_spp.specs.Datastreams.{end_reply_stream, end_stream}
+use Rattle.xns_connection.specs.Closing.{closing_item, closing_items}
 use Rattle.xns_connection.specs.Story.{Story, AreRejected}
 use Rattle.xns_connection.specs.declared.closing.Closing.{Closing}
 

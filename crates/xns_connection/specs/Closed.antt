@@ -6,7 +6,8 @@ use Rattle.courier_sessions.specs.declared.feed_refusal.FeedRefusal.TheVariants.
 use Rattle.xns_spp.specs.Growth.{Begins}
 use Rattle.xns_spp.specs.Held.{StandsFor}
 use Rattle.xns_spp.specs.State.{State}
-use Rattle.xns_connection.specs.Closing.{drains, end_stream, put_if}
+use Rattle.xns_spp.specs.Datastreams.{end_stream}
+use Rattle.xns_connection.specs.Closing.{drains, put_if}
 use Rattle.xns_connection.specs.Connecting.{why_after}
 use Rattle.xns_connection.specs.Deeds.{has_refused_item, why_left}
 use Rattle.xns_connection.specs.Story.{Story, is_called}

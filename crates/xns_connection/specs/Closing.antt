@@ -1,17 +1,11 @@
 -- The closing exchange of a connection (XSIS 028112, Sequenced Packet Protocol, Termination).
 use Rattle.std.specs.Prelude.{◌≡◌, ℕ, List, [], ◌∷◌, ◌++◌, Bool, true, false, ◌&&◌, ◌||◌, ◌==◌, if◌then◌else◌}
 use Rattle.std.specs.List.{list_any}
+use Rattle.xns_spp.specs.Datastreams.{end_reply_stream, end_stream}
 use Rattle.xns_spp.specs.declared.item.Item.{Item}
 use Rattle.xns_connection.specs.Story.{is_called, is_stopped, wants_answer}
 use Rattle.xns_connection.specs.declared.closing.Closing.{Closing}
 use Rattle.xns_connection.specs.declared.side.Side.{Side}
-
--- the datastreams of End and EndReply
-abbrev pub end_stream : ℕ
-end_stream = 254
-
-abbrev pub end_reply_stream : ℕ
-end_reply_stream = 255
 
 abbrev pub closing_item : ℕ → Item
 closing_item stream = record { stream = stream; attention = false; last = true; body = [] }

@@ -11,7 +11,8 @@ use Rattle.xns_spp.specs.State.{State}
 use Rattle.xns_spp.specs.Telling.{unacknowledged_count}
 use Rattle.xns_spp.specs.declared.dropped.Dropped.{Dropped}
 use Rattle.xns_spp.specs.declared.dropped.Dropped.TheVariants as drops
-use Rattle.xns_connection.specs.Closing.{drains, end_stream, end_reply_stream}
+use Rattle.xns_spp.specs.Datastreams.{end_reply_stream, end_stream}
+use Rattle.xns_connection.specs.Closing.{drains}
 use Rattle.xns_connection.specs.Replying.{reply_by}
 use Rattle.xns_connection.specs.Telling.{progress}
 use Rattle.xns_agenda.specs.Measuring.{mends}

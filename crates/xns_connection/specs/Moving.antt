@@ -11,7 +11,8 @@ use Rattle.xns_spp.specs.Held.{Held, StandsFor}
 use Rattle.xns_spp.specs.Sending.{after_send, after_take, send_answer, take_answer, waiting_count}
 use Rattle.xns_spp.specs.State.{State, IsState}
 use Rattle.xns_spp.specs.declared.item.Item.{Item}
-use Rattle.xns_connection.specs.Closing.{closing_item, drains, end_stream, end_reply_stream, after_end_words}
+use Rattle.xns_spp.specs.Datastreams.{end_reply_stream, end_stream}
+use Rattle.xns_connection.specs.Closing.{closing_item, drains, after_end_words}
 use Rattle.xns_connection.specs.Story.{IsListed, IsUnlisted, has_message, is_stopped, out_of, owes_answer}
 use Rattle.xns_connection.specs.declared.closing.Closing.{Closing}
 use Rattle.xns_connection.specs.declared.conversation.Conversation.{Conversation}

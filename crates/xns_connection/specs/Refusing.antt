@@ -21,12 +21,9 @@ refused_call uncalled.Busy = Busy
 refused_call uncalled.TooLong = TooLong
 refused_call uncalled.NoMemory = NoMemory
 
-abbrev pub call_fault : Option CallRefusal → Option Refusal
-call_fault refusal = option_map refused_call refusal
-
 -- why a side makes no call
 abbrev pub side_call_fault : Side → RawCall → Option Refusal
-side_call_fault (sides.Calls t) c = call_fault (talk.call_refusal t c)
+side_call_fault (sides.Calls t) c = option_map refused_call (talk.call_refusal t c)
 side_call_fault (sides.Answers a) c = Some PeerCalls
 
 -- what the program is told where a session refuses an answer
@@ -35,13 +32,10 @@ refused_answer unanswered.NoCall = NoCall
 refused_answer unanswered.TooLong = TooLong
 refused_answer unanswered.NoMemory = NoMemory
 
-abbrev pub answer_fault : Option AnswerRefusal → Option Refusal
-answer_fault refusal = option_map refused_answer refusal
-
 -- why a side gives no answer
 abbrev pub side_answer_fault : Side → Answer → List ℕ → Option Refusal
 side_answer_fault (sides.Calls t) answer words = Some NoCall
-side_answer_fault (sides.Answers a) answer words = answer_fault (answering.answer_refusal a.asked answer words)
+side_answer_fault (sides.Answers a) answer words = option_map refused_answer (answering.answer_refusal a.asked answer words)
 
 -- what is answered where this is the reason against it: memory is refused only where there is none
 abbrev pub Answers : Option Refusal → Result (Unit {0}) Refusal → Type 0

@@ -12,7 +12,8 @@ use Rattle.xns_spp.specs.State.{State}
 use Rattle.xns_spp.specs.Telling.{out_count, told_answer, unacknowledged_count}
 use Rattle.courier_sessions.specs.declared.feed_refusal.FeedRefusal.{FeedRefusal}
 use Rattle.xns_spp.specs.declared.item.Item.{Item}
-use Rattle.xns_connection.specs.Closing.{closing_item, closing_items, drains, end_reply_stream, end_stream, Knows}
+use Rattle.xns_spp.specs.Datastreams.{end_reply_stream, end_stream}
+use Rattle.xns_connection.specs.Closing.{closing_item, closing_items, drains, Knows}
 use Rattle.xns_connection.specs.Story.{Story, SideHas, ProgramDoesNothing, made_on, out_of, owes_answer, IsMoved, IsListed, IsHeldBack}
 use Rattle.xns_connection.specs.declared.closing.Closing.{Closing}
 use Rattle.xns_connection.specs.declared.conversation.Conversation.{Conversation}

@@ -1,6 +1,6 @@
 //! An endpoint, its side, and the closing exchange between both.
 
-ghost use Rattle.std.specs.Prelude.{◌≡◌, ◌≢◌, ◌||◌, ℕ, [], List, true, false, is_ok, IfOk, OnOk, OnErr, Some, None, Ok, Err};
+ghost use Rattle.std.specs.Prelude.{◌≡◌, ◌≢◌, ◌&&◌, ◌||◌, ℕ, [], List, true, false, is_ok, IfOk, OnOk, OnErr, Some, None, Ok, Err};
 ghost use Rattle.courier_sessions.specs.declared.feed_refusal.FeedRefusal.TheVariants.{NoMemory};
 ghost use Rattle.xns_spp.specs.Held.{StandsFor};
 ghost use Rattle.xns_spp.specs.Packet.{IsSppPacket, spp_packet_of};
@@ -25,13 +25,8 @@ use courier_messages::PiecedMessage;
 use courier_sessions::{Answer, FeedRefusal};
 use std::alloc::{AllocError, Global};
 use std::collections::VecDeque;
+use xns_spp::datastreams::{END, END_REPLY};
 use xns_spp::{Bytes, Endpoint, Input, Item, SppPacket};
-
-/// The datastream of the item that asks for an end of the connection.
-pub const END: u8 = 254;
-
-/// The datastream of the item that answers an [`END`].
-pub const END_REPLY: u8 = 255;
 
 /// The end of a connection and its side.
 #[derive(Drop)]
@@ -157,33 +152,38 @@ impl Conversation {
             && !self.side.has_out()
     }
 
-    /// Puts out an item of the closing exchange, if there is room; whether there was.
-    fn put(&mut self, alloc: Global, stream: u8) -> bool
-        ensures answer { (s : State) → StandsFor self.old.endpoint s → result ≡ is_ok (send_answer s (closing_item stream)) }
-        ensures stands { (s : State) → StandsFor self.old.endpoint s → StandsFor self.new.endpoint (after_send s (closing_item stream)) }
+    /// Puts out an item of the closing exchange, if it is owed and there is room; whether it was put out.
+    fn put(&mut self, alloc: Global, owed: bool, stream: u8) -> bool
+        ensures answer { (s : State) → StandsFor self.old.endpoint s → result ≡ owed && is_ok (send_answer s (closing_item stream)) }
+        ensures stands { result ≡ true → (s : State) → StandsFor self.old.endpoint s
+            → StandsFor self.new.endpoint (after_send s (closing_item stream)) }
         ensures beside { (self.new.side ≡ self.old.side) × (self.new.closing ≡ self.old.closing) }
         ensures packets { self.new.packets ≡ self.old.packets }
         ensures refused { result ≡ false → self.new ≡ self.old }
     {
-        self.endpoint.send(closing_item(alloc, stream)).is_ok()
+        owed && self.endpoint.send(closing_item(alloc, stream)).is_ok()
     }
 
     /// Puts out EndReply, once, where the peer asked for it.
+    #[tactic(auto, using(crate::proofs::Scenes::not_replied))]
     fn say_reply(&mut self, alloc: Global)
         ensures packets { self.new.packets ≡ self.old.packets }
         ensures at { (s : State) → StandsFor self.old.endpoint s → IsAt self.new (replied (conversation_scene self.old s)) }
     {
-        if self.owes_reply() && self.put(alloc, END_REPLY) {
+        let owed = self.owes_reply();
+        if self.put(alloc, owed, END_REPLY) {
             self.closing.reply_sent = true;
         }
     }
 
     /// Puts out End, once, where the program wants it: behind all items that are out, and after the answer that the peer is owed.
+    #[tactic(auto, using(crate::proofs::Scenes::not_ended))]
     fn say_end(&mut self, alloc: Global)
         ensures packets { self.new.packets ≡ self.old.packets }
         ensures at { (s : State) → StandsFor self.old.endpoint s → IsAt self.new (with_end_out (conversation_scene self.old s)) }
     {
-        if self.owes_end() && self.put(alloc, END) {
+        let owed = self.owes_end();
+        if self.put(alloc, owed, END) {
             self.closing.end_sent = true;
         }
     }

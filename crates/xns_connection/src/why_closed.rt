@@ -7,10 +7,11 @@ ghost use Rattle.xns_connection.specs.Connecting.{is_dead, why_over, why_given_u
 ghost use Rattle.xns_connection.specs.Telling.{is_over};
 
 use crate::closing::Closing;
-use crate::conversation::{Conversation, END, END_REPLY};
+use crate::conversation::Conversation;
 use crate::why::Why;
 use courier_messages::SessionFault;
 use courier_sessions::FeedRefusal;
+use xns_spp::datastreams::{END, END_REPLY};
 
 /// Why a closing exchange is over.
 fn why_over(closing: Closing) -> Why

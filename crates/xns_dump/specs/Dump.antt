@@ -7,8 +7,9 @@ use Rattle.std.specs.List.{flat_map, list_any}
 use Rattle.std.specs.Option.{option_to_list}
 use Rattle.xns_dump.specs.Dump.Line.{is_refused, item_of_line, text_of_line}
 use Rattle.xns_dump.specs.Flows.{DataPacket, item_number}
-use Rattle.xns_lines.specs.Lines.{lines_of, most_lines}
+use Rattle.xns_lines.specs.Lines.{IsWithinLimits, lines_of, most_lines}
 use Rattle.xns_lines.specs.Printing as printing
+use Rattle.xns_lines.specs.Printouts.{Printout}
 use Rattle.xns_lines.specs.declared.fault.RunFault.{RunFault}
 
 -- the data packets that a line spells, which is at most one
@@ -44,3 +45,7 @@ end_count lines = 0
 -- after a fault the text of the lines before it is written
 abbrev pub StopsIn : List ℕ → Option (List ℕ) → Option (List ℕ) → Option (List ℕ) → RunFault → Type 0
 StopsIn = printing.StopsIn most_lines text_with_end end_count
+
+-- what `dump` makes of an input
+abbrev pub dump_printout : Printout RunFault
+dump_printout = record { text = dump_text; is_refused = has_refused_line; is_good = IsWithinLimits most_lines; stops_in = StopsIn }

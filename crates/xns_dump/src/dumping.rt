@@ -1,17 +1,14 @@
 //! `dump`: what each line of hex says, line by line.
-ghost use Rattle.std.specs.Prelude.{◌≡◌, None, IfErr, IfOk, IfSome, OnOk};
-ghost use Rattle.std.specs.Io.KnownBytes.{Appends};
-ghost use Rattle.xns_dump.specs.Dump.{StopsIn, dump_text, has_refused_line};
-ghost use Rattle.xns_captures.specs.Captures.{capture_fault};
-ghost use Rattle.xns_dump.specs.Dump.Capture.{CaptureStopsIn, dump_capture_text, has_refused_packet};
-ghost use Rattle.xns_lines.specs.Lines.{IsWithinLimits, most_lines};
+ghost use Rattle.xns_dump.specs.Dump.{dump_printout};
+ghost use Rattle.xns_dump.specs.Dump.Capture.{dump_capture_printout};
+ghost use Rattle.xns_lines.specs.Printouts.{Prints};
 
 use crate::printer::DumpPrinter;
 use std::alloc::Global;
 use std::io::{Read, Write};
-use xns_captures::{FileFault, print_packets};
+use xns_captures::{FileFault, FileResult, print_packets};
 use xns_lines::laws::nothing_is_printed_at_first;
-use xns_lines::{MOST_LINES, RunFault, print_lines};
+use xns_lines::{MOST_LINES, RunFault, RunResult, print_lines};
 
 /// Reads lines of hex and prints what each says. The result says whether a line was refused.
 ///
@@ -30,20 +27,10 @@ use xns_lines::{MOST_LINES, RunFault, print_lines};
 ///
 /// In memory are what `print_lines` holds, room for the digits of the longest line, for their values and for the bytes that they
 /// spell, the words of a message, and the number of the last item of each flow. A line begins at most one flow.
-pub fn dump<R: Read, W: Write>(
-    alloc: Global,
-    reader: &mut R,
-    writer: &mut W,
-) -> Result<bool, RunFault>
-    // Without a fault the text of the whole input is written, which is within the limits.
-    ensures text { IfOk result (λ refused. IfSome (R.remaining reader.old) (λ input.
-        Appends (W.contents writer.old) (W.contents writer.new) (dump_text input))) }
-    ensures refused { IfOk result (λ refused. IfSome (R.remaining reader.old) (λ input. refused ≡ has_refused_line input)) }
-    ensures limits { OnOk result (IfSome (R.remaining reader.old) (IsWithinLimits most_lines)) }
-
-    // After a fault the text of the lines before it is written, and the bytes that were read show a limit that was passed.
-    ensures fault { IfErr result (λ fault. IfSome (R.remaining reader.old) (λ input.
-        StopsIn input (R.remaining reader.new) (W.contents writer.old) (W.contents writer.new) fault)) }
+pub fn dump<R: Read, W: Write>(alloc: Global, reader: &mut R, writer: &mut W) -> RunResult
+    // Without a fault the text of the whole input is written, which is within the limits. After a fault the text of the lines
+    // before it is written, and the bytes that were read show a limit that was passed.
+    ensures { Prints dump_printout result (R.remaining reader.old) (R.remaining reader.new) (W.contents writer.old) (W.contents writer.new) }
 {
     nothing_is_printed_at_first();
     let Ok(printer) = DumpPrinter::new(alloc) else {
@@ -54,20 +41,11 @@ pub fn dump<R: Read, W: Write>(
 
 /// Reads a capture and prints what each internet packet in its frames says, as `dump` does for lines, with the number of
 /// the frame in place of the line's. The result says whether a packet was refused.
-pub fn dump_capture<R: Read, W: Write>(
-    alloc: Global,
-    reader: &mut R,
-    writer: &mut W,
-) -> Result<bool, FileFault>
-    // Without a fault the text of the whole file is written, which holds no fault.
-    ensures text { IfOk result (λ refused. IfSome (R.remaining reader.old) (λ file.
-        Appends (W.contents writer.old) (W.contents writer.new) (dump_capture_text file))) }
-    ensures refused { IfOk result (λ refused. IfSome (R.remaining reader.old) (λ file. refused ≡ has_refused_packet file)) }
-    ensures whole { OnOk result (IfSome (R.remaining reader.old) (λ file. capture_fault file ≡ None)) }
-
-    // After a fault the text of the packets before it is written; a fault of the capture comes behind all its packets.
-    ensures fault { IfErr result (λ fault. IfSome (R.remaining reader.old) (λ file.
-        CaptureStopsIn fault file (W.contents writer.old) (W.contents writer.new))) }
+pub fn dump_capture<R: Read, W: Write>(alloc: Global, reader: &mut R, writer: &mut W) -> FileResult
+    // Without a fault the text of the whole file is written, which holds no fault. After a fault the text of the packets before
+    // it is written; a fault of the capture comes behind all its packets.
+    ensures { Prints dump_capture_printout result
+        (R.remaining reader.old) (R.remaining reader.new) (W.contents writer.old) (W.contents writer.new) }
 {
     let Ok(printer) = DumpPrinter::new(alloc) else {
         return Err(FileFault::Run(RunFault::NoMemory));

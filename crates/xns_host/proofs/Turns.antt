@@ -6,7 +6,7 @@ use Rattle.std.proofs.lemmas.List.{length-set}
 use Rattle.std.proofs.lemmas.Option.{slice_get_read}
 use Rattle.courier_messages.specs.declared.message.Message.{Message}
 use Rattle.xns_agenda.specs.Agenda.{Plan, noted}
-use Rattle.xns_agenda.specs.Clock.{time_at}
+use Rattle.xns_agenda.specs.Clock.{time_at, told_at}
 use Rattle.xns_agenda.specs.Waiting.{act_at}
 use Rattle.xns_connection.specs.Deeds.{Deed, heard, told_by}
 use Rattle.xns_connection.specs.Ends.{AConnectionKeepsItsEnd, KeepsEnd}
@@ -23,7 +23,7 @@ use Rattle.xns_connection.specs.declared.connection.Connection.{Connection}
 use Rattle.xns_host.specs.declared.event.Event.{Event}
 use Rattle.xns_host.specs.declared.event.Event.TheVariants.{Opened}
 use Rattle.xns_host.specs.declared.guest.Guest.{Guest}
-use Rattle.xns_host.specs.Turn.{Frame, Turn}
+use Rattle.xns_host.specs.Turn.{Turn, places_of, whole_of}
 use Rattle.xns_host.specs.declared.host.Host.{Host}
 use Rattle.xns_host.specs.declared.host_fault.HostFault.{HostFault}
 use Rattle.xns_host.specs.declared.outgoing.Outgoing.{Outgoing}
@@ -254,13 +254,15 @@ is_the_one gs n old g f less read is there = one_guest gs n g f (is_there gs n o
 -- one deed was done at the connection with a number, and nothing else
 pub turned : (now number t : ℕ) (deed : Deed) (old new : Host) (place : Option Guest) (g h : Guest) → t ≡ time_at old.clock now → number < length old.guests.items → place ≡ get_or old.guests.items number place
     → place ≡ Some g → GuestStep t deed g h → new.guests.items ≡ slice_set old.guests.items number (Some h)
-    → ((p : Option Guest) → slice_get new.guests.items number ≡ Some p → new.agenda ≡ noted old.agenda number (facts_in p)) → Frame now old new → Turn now number deed (Ok tt) old new
-turned now number t deed old new place g h told less read is step there marked frame = record {
+    → ((p : Option Guest) → slice_get new.guests.items number ≡ Some p → new.agenda ≡ noted old.agenda number (facts_in p))
+    → whole_of new ≡ record (whole_of old) { places = places_of new } → new.clock ≡ told_at old.clock now → Turn now number deed (Ok tt) old new
+turned now number t deed old new place g h told less read is step there marked rest clock = record {
   went = subst (λ (gs : Places). Went (time_at old.clock now) deed (slice_get old.guests.items number) (slice_get gs number)) (sym there)
       (went_set t (time_at old.clock now) deed old.guests.items number place g h told less read is step);
   apart = set_apart old.guests.items new.guests.items number (Some h) there;
   noted = marked;
   unchanged = tt;
   unnoted = tt;
-  frame = frame;
+  rest = rest;
+  clock = clock;
 }

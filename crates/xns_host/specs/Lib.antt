@@ -11,6 +11,7 @@ pub mod Quotes
 pub mod Refusing
 pub mod Register
 pub mod Registered
+pub mod Requests
 pub mod Seating
 pub mod Services
 pub mod Settings

@@ -23,21 +23,25 @@ use Rattle.xns_host.specs.declared.host_fault.HostFault.TheVariants.{NoMemory}
 use Rattle.xns_host.specs.declared.outgoing.Outgoing.{Outgoing}
 use Rattle.xns_host.specs.declared.services.Services.{Services}
 
--- ---- what is beside the connections
+-- ---- a host
 
--- the host was told the time, and nothing but connections and what is to be done of them changed
-pub record Frame (now : ℕ) (old new : Host) : Type 0 where
-  pub clock : new.clock ≡ told_at old.clock now
-  pub network : new.network ≡ old.network
-  pub host : new.host ≡ old.host
-  pub settings : new.settings ≡ old.settings
-  pub services : new.services ≡ old.services
-  pub register : new.register ≡ old.register
-  pub strays : new.strays ≡ old.strays
+abbrev pub places_of : Host → Places
+places_of h = places_with h.guests.items h.agenda
+
+abbrev pub whole_of : Host → Whole
+whole_of h = record {
+  network = h.network;
+  host = h.host;
+  settings = h.settings;
+  services = h.services;
+  register = h.register;
+  strays = h.strays;
+  places = places_of h;
+}
 
 -- ---- a turn
 
--- one deed was done at the connection with a number, and nothing else; where it was refused, nothing was done
+-- the host was told the time, and one deed was done at the connection with a number, and nothing else; where it was refused, nothing was done
 pub record Turn (now number : ℕ) (deed : Deed) (result : Result (Unit {0}) HostFault) (old new : Host) : Type 0 where
   pub went : OnOk result (Went (time_at old.clock now) deed (slice_get old.guests.items number) (slice_get new.guests.items number))
   pub apart : IsApart old.guests.items new.guests.items number
@@ -45,12 +49,10 @@ pub record Turn (now number : ℕ) (deed : Deed) (result : Result (Unit {0}) Hos
       → new.agenda ≡ noted old.agenda number (facts_in place))
   pub unchanged : OnErr result ((k : ℕ) → slice_get new.guests.items k ≡ slice_get old.guests.items k)
   pub unnoted : OnErr result (new.agenda ≡ old.agenda)
-  pub frame : Frame now old new
+  pub rest : whole_of new ≡ record (whole_of old) { places = places_of new }
+  pub clock : new.clock ≡ told_at old.clock now
 
 -- ---- a packet that goes out
-
-abbrev pub places_of : Host → Places
-places_of h = places_with h.guests.items h.agenda
 
 -- all that is due at this time was done; then the packet is the first of the stray replies, and where there is none, the next of a connection
 pub record GivesOut (now : ℕ) (result : Result (Option Outgoing) HostFault) (old new : Host) : Type 0 where
@@ -72,17 +74,6 @@ pub record WakesAt (h : Host) (result : Option ℕ) : Type 0 where
   pub is : result ≡ when_told h.clock time
 
 -- ---- a packet that came
-
-abbrev pub whole_of : Host → Whole
-whole_of h = record {
-  network = h.network;
-  host = h.host;
-  settings = h.settings;
-  services = h.services;
-  register = h.register;
-  strays = h.strays;
-  places = places_of h;
-}
 
 -- the host was told the time, and then the bytes came to it
 pub record TakesIn (now way : ℕ) (bytes : List ℕ) (result : Bool) (old new : Host) : Type 0 where

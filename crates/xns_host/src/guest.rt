@@ -9,24 +9,23 @@ ghost use Rattle.xns_spp.specs.Ends.{is_ours_at};
 ghost use Rattle.xns_spp.specs.Held.{StandsFor};
 ghost use Rattle.xns_spp.specs.Packet.{IsSppPacket, spp_packet_of};
 ghost use Rattle.xns_spp.specs.State.{State};
-ghost use Rattle.xns_connection.specs.Calls.{raw_of_call};
-ghost use Rattle.xns_connection.specs.Deeds.{asked, gave, made};
 ghost use Rattle.xns_host.specs.Quotes.{is_sent_by};
-ghost use Rattle.xns_connection.specs.Reasons.{call_fault_of, answer_fault_of};
 ghost use Rattle.xns_host.specs.Refusing.{TellsRefusal};
+ghost use Rattle.xns_host.specs.Requests.{deed_of, request_fault_of};
 ghost use Rattle.xns_host.specs.Seating.{new_guest};
 ghost use Rattle.xns_connection.specs.Telling.{Goes};
 ghost use Rattle.xns_host.specs.Went.{GuestActs, GuestGives, GuestHears, GuestReports, GuestStep, GuestTagged, GuestUnserved};
+ghost use Rattle.xns_host.specs.declared.request.Request.TheVariants.{Close};
 
 use crate::event::{Event, event_of};
 use crate::host_fault::{HostFault, told};
 use crate::outgoing::Outgoing;
 use crate::peer::Peer;
 use crate::quote::Quote;
-use courier_sessions::Answer;
+use crate::request::Request;
 use std::alloc::Global;
 use xns_agenda::Facts;
-use xns_connection::{Call, Connection};
+use xns_connection::Connection;
 use xns_idp::Address;
 use xns_spp::SppPacket;
 
@@ -103,35 +102,23 @@ impl Guest {
         true
     }
 
-    /// Puts out a call.
-    pub fn call(&mut self, alloc: Global, now: u64, call: &Call<'_>) -> Result<(), HostFault>
-        ensures refused { TellsRefusal (call_fault_of self.old.connection.conversation (raw_of_call call.now)) result }
-        ensures step { OnOk result (GuestStep now (made (raw_of_call call.now)) self.old self.new) }
+    /// Does what the program asks.
+    pub fn turn(&mut self, alloc: Global, now: u64, request: Request<'_>) -> Result<(), HostFault>
+        ensures refused { TellsRefusal (request_fault_of self.old.connection.conversation request.entry) result }
+        ensures closes { request.entry ≡ Close → result ≡ Ok tt }
+        ensures step { OnOk result (GuestStep now (deed_of request.entry) self.old self.new) }
         ensures unchanged { OnErr result (self.new ≡ self.old) }
     {
-        told(self.connection.call(alloc, now, call))
-    }
-
-    /// Answers the call that was handed.
-    pub fn answer(
-        &mut self,
-        alloc: Global,
-        now: u64,
-        answer: Answer,
-        words: &[u16],
-    ) -> Result<(), HostFault>
-        ensures refused { TellsRefusal (answer_fault_of self.old.connection.conversation answer words.now) result }
-        ensures step { OnOk result (GuestStep now (gave answer words.now) self.old self.new) }
-        ensures unchanged { OnErr result (self.new ≡ self.old) }
-    {
-        told(self.connection.answer(alloc, now, answer, words))
-    }
-
-    /// Closes the connection once all that it has to say is said.
-    pub fn close(&mut self, alloc: Global, now: u64)
-        ensures { GuestStep now asked self.old self.new }
-    {
-        self.connection.close(alloc, now);
+        match request {
+            Request::Call(call) => told(self.connection.call(alloc, now, call)),
+            Request::Answer(answer, words) => {
+                told(self.connection.answer(alloc, now, answer, words))
+            }
+            Request::Close => {
+                self.connection.close(alloc, now);
+                Ok(())
+            }
+        }
     }
 
     /// Gives the connection a tag.

@@ -9,10 +9,12 @@ ghost use Rattle.xns_host.specs.Numbers.{IsNumberFrom};
 ghost use Rattle.xns_connection.specs.Reasons.{answer_fault_of, call_fault_of};
 ghost use Rattle.xns_host.specs.Refusing.{TellsRefusal, wrong_ends};
 ghost use Rattle.xns_host.specs.Registered.{IsAllRegistered};
+ghost use Rattle.xns_host.specs.Requests.{deed_of, request_fault_of};
 ghost use Rattle.xns_host.specs.Settings.{IsFit, most_connections, wrong_setting};
 ghost use Rattle.xns_host.specs.declared.guest.Guest.{Guest};
 ghost use Rattle.xns_host.specs.declared.host_fault.HostFault.{HostFault};
 ghost use Rattle.xns_host.specs.declared.host_fault.HostFault.TheVariants.{NoConnection, NoMemory, NoRoom, OutOfRange};
+ghost use Rattle.xns_host.specs.declared.request.Request.TheVariants.{Close};
 ghost use Rattle.xns_host.specs.declared.setting.Setting.{Setting};
 
 mod fetching;
@@ -24,6 +26,7 @@ use crate::host_fault::HostFault;
 use crate::numbers::number_from;
 use crate::refusing::wrong_ends;
 use crate::register::Register;
+use crate::request::Request;
 use crate::services::Services;
 use crate::settings::Settings;
 use crate::slots::{count, forget_in, no_guests, note, put_in};
@@ -199,17 +202,14 @@ impl Host {
         Ok(number)
     }
 
-    /// Puts out a call on a connection that was opened by [`connect`](Host::connect).
-    ///
-    /// An `Err`, which changes nothing but the host's time, is [`HostFault::NoConnection`], [`HostFault::PeerCalls`] where the peer opened it,
-    /// [`HostFault::Closing`] where it is closed or was asked to close, [`HostFault::Busy`] while a call waits or its answer was not
-    /// fetched, [`HostFault::TooLong`] over 65,530 words, or [`HostFault::NoMemory`].
+    /// Does at the connection with this number what the program asks, and notes what is to be done of it then.
     #[tactic(auto, using(crate::proofs::Noting::put_back))]
-    pub fn call(&mut self, now: u64, number: usize, call: &Call<'_>) -> Result<(), HostFault>
+    fn turn(&mut self, now: u64, number: usize, request: Request<'_>) -> Result<(), HostFault>
         ensures none { has_guest (slice_get self.old.guests.items number) ≡ false → result ≡ Err (NoConnection number) }
         ensures refused { (g : Guest) → slice_get self.old.guests.items number ≡ Some (Some g)
-            → TellsRefusal (call_fault_of g.connection.conversation (raw_of_call call.now)) result }
-        ensures turn { Turn now number (made (raw_of_call call.now)) result self.old self.new }
+            → TellsRefusal (request_fault_of g.connection.conversation request.entry) result }
+        ensures closes { (g : Guest) → slice_get self.old.guests.items number ≡ Some (Some g) → request.entry ≡ Close → result ≡ Ok tt }
+        ensures turn { Turn now number (deed_of request.entry) result self.old self.new }
     {
         a_step_keeps_its_promises();
         a_connection_keeps_its_end();
@@ -220,17 +220,31 @@ impl Host {
         let Some(guest) = &mut self.guests[number] else {
             return Err(HostFault::NoConnection { number });
         };
-        guest.call(self.alloc, now, call)?;
+        guest.turn(self.alloc, now, request)?;
         note(self.guests.as_slice(), &mut self.agenda, number);
         Ok(())
     }
 
+    /// Puts out a call on a connection that was opened by [`connect`](Host::connect).
+    ///
+    /// An `Err`, which changes nothing but the host's time, is the first of these: [`HostFault::NoConnection`];
+    /// [`HostFault::Closing`] where the connection is closed, was asked to close, or its peer closes it; [`HostFault::PeerCalls`] where the
+    /// peer opened it; [`HostFault::Busy`] while a call waits or its answer was not fetched; [`HostFault::TooLong`] over 65,530 words;
+    /// [`HostFault::NoMemory`].
+    pub fn call(&mut self, now: u64, number: usize, call: &Call<'_>) -> Result<(), HostFault>
+        ensures none { has_guest (slice_get self.old.guests.items number) ≡ false → result ≡ Err (NoConnection number) }
+        ensures refused { (g : Guest) → slice_get self.old.guests.items number ≡ Some (Some g)
+            → TellsRefusal (call_fault_of g.connection.conversation (raw_of_call call.now)) result }
+        ensures turn { Turn now number (made (raw_of_call call.now)) result self.old self.new }
+    {
+        self.turn(now, number, Request::Call(call))
+    }
+
     /// Answers the call that was handed of this connection.
     ///
-    /// An `Err`, which changes nothing but the host's time, is [`HostFault::NoConnection`], [`HostFault::NoCall`] where no call was handed that is not
-    /// answered, [`HostFault::Closing`] where the connection is closed, [`HostFault::TooLong`] over 131,072 bytes, or
-    /// [`HostFault::NoMemory`].
-    #[tactic(auto, using(crate::proofs::Noting::put_back))]
+    /// An `Err`, which changes nothing but the host's time, is the first of these: [`HostFault::NoConnection`];
+    /// [`HostFault::Closing`] where the connection is closed; [`HostFault::NoCall`] where no call was handed that is not answered;
+    /// [`HostFault::TooLong`] over 131,072 bytes; [`HostFault::NoMemory`].
     pub fn answer(
         &mut self,
         now: u64,
@@ -243,40 +257,17 @@ impl Host {
             → TellsRefusal (answer_fault_of g.connection.conversation answer words.now) result }
         ensures turn { Turn now number (gave answer words.now) result self.old self.new }
     {
-        a_step_keeps_its_promises();
-        a_connection_keeps_its_end();
-        let now = self.clock.tell(now);
-        if number >= self.guests.len() {
-            return Err(HostFault::NoConnection { number });
-        }
-        let Some(guest) = &mut self.guests[number] else {
-            return Err(HostFault::NoConnection { number });
-        };
-        guest.answer(self.alloc, now, answer, words)?;
-        note(self.guests.as_slice(), &mut self.agenda, number);
-        Ok(())
+        self.turn(now, number, Request::Answer(answer, words))
     }
 
     /// Closes a connection once all that it has to say is said. An `Err`, which changes nothing but the host's time, is
     /// [`HostFault::NoConnection`].
-    #[tactic(auto, using(crate::proofs::Noting::put_back))]
     pub fn close(&mut self, now: u64, number: usize) -> Result<(), HostFault>
         ensures none { has_guest (slice_get self.old.guests.items number) ≡ false → result ≡ Err (NoConnection number) }
         ensures some { (g : Guest) → slice_get self.old.guests.items number ≡ Some (Some g) → result ≡ Ok tt }
         ensures turn { Turn now number asked result self.old self.new }
     {
-        a_step_keeps_its_promises();
-        a_connection_keeps_its_end();
-        let now = self.clock.tell(now);
-        if number >= self.guests.len() {
-            return Err(HostFault::NoConnection { number });
-        }
-        let Some(guest) = &mut self.guests[number] else {
-            return Err(HostFault::NoConnection { number });
-        };
-        guest.close(self.alloc, now);
-        note(self.guests.as_slice(), &mut self.agenda, number);
-        Ok(())
+        self.turn(now, number, Request::Close)
     }
 
     /// Whether there is a connection with this number.

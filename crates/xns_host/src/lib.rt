@@ -13,6 +13,7 @@ mod peer;
 mod quote;
 mod refusing;
 mod register;
+mod request;
 mod services;
 mod setting;
 mod settings;

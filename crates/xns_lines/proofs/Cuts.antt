@@ -9,7 +9,9 @@ use Rattle.std.proofs.lemmas.List.{take-append-drop}
 use Rattle.std.proofs.lemmas.List.Folds.{list_any-append}
 use Rattle.memchr.specs.Find.{Passes, is_byte}
 use Rattle.xns_lines.specs.Lines.Cutter.{HasNoNewline}
-use Rattle.xns_lines.specs.Lines.{AreWithinLimits, BeginsLong, closed_lines, split_at_newlines, is_long, line_if_any, lines_of, open_line, with_first, with_first_plain, most_line_bytes}
+use Rattle.xns_lines.specs.Faults.{FaultyLines, IsJustified}
+use Rattle.xns_lines.specs.Lines.{AreWithinLimits, BeginsLong, IsWithinLimits, closed_lines, split_at_newlines, is_long, line_if_any, lines_of, open_line, with_first, with_first_plain, most_line_bytes}
+use Rattle.xns_lines.specs.declared.fault.RunFault.{RunFault}
 
 abbrev Parts : Type 0
 Parts = List (List ℕ) × List ℕ
@@ -91,6 +93,16 @@ all_within most xs closed rest few = record {
   short = list_any-append is_long (closed_lines xs) (line_if_any (open_line xs)) ∙ ap (λ b. b || list_any is_long (line_if_any (open_line xs))) closed
       ∙ long_if_any (open_line xs) ∙ not_long (length (open_line xs)) rest;
   few = few;
+}
+
+-- all lines of what was read are good, and the fault comes behind them
+abbrev pub all_lines : (most : ℕ) (f : RunFault) (read : List ℕ) → IsWithinLimits most read → IsJustified most f read (lines_of read) [] → FaultyLines most f read
+all_lines most f read within justified = record {
+  good = lines_of read;
+  next = [];
+  joined = sym (append-nil (lines_of read));
+  within = within;
+  justified = justified;
 }
 
 -- ---- what stays as bytes are added

@@ -11,7 +11,8 @@ use Rattle.xns_lines.specs.Lines.{AreWithinLimits, IsWithinLimits, closed_lines,
 use Rattle.xns_lines.specs.declared.cutter.Cutter.{Cutter}
 use Rattle.xns_lines.specs.declared.fault.RunFault.{RunFault}
 use Rattle.xns_lines.specs.declared.fault.RunFault.TheVariants as fault
-use Rattle.xns_lines.proofs.Cuts.{all_within, closed-newline, closed-nothing, closed-run, few_closed, few_more, line_count-parts, lines_of-append, long_stays, more_line, no_line, not_long, one_line, open-newline, open-nothing, open-run}
+use Rattle.xns_lines.proofs.AtFirst.{no_lines}
+use Rattle.xns_lines.proofs.Cuts.{all_lines, all_within, closed-newline, closed-nothing, closed-run, few_closed, few_more, line_count-parts, lines_of-append, long_stays, more_line, no_line, not_long, one_line, open-newline, open-nothing, open-run}
 use Rattle.xns_lines.proofs.Writes.{consumes_trans}
 
 module _ (most : ℕ) where
@@ -127,13 +128,27 @@ module _ (most : ℕ) where
       → IsCutShort most fault.LineTooLong (taken ++ run) (IsStill fault.LineTooLong taken)
   short_long c taken run plain small long h =
       let closed = closed-run taken run plain in record {
-        front = taken ++ run;
-        more = [];
-        parts = append-nil (taken ++ run);
-        within = subst (AreWithinLimits most) (sym closed) (closed_within c taken h);
-        found = (omega (arith, ap length closed, h.count, few_still c taken small h), omega (arith, ap length (open-run taken run plain), length-append (open_line taken) run, ap length h.line, long));
+        place = record {
+          front = taken ++ run;
+          more = [];
+          parts = append-nil (taken ++ run);
+          within = subst (AreWithinLimits most) (sym closed) (closed_within c taken h);
+          found = (omega (arith, ap length closed, h.count, few_still c taken small h), omega (arith, ap length (open-run taken run plain), length-append (open_line taken) run, ap length h.line, long));
+        };
         is_left = (tt, closed);
       }
+
+  -- the cutter stopped behind what it had taken
+  pub short_here : (c : Cutter) (taken more : List ℕ) (f : RunFault) → IsOwn f → IsJustifiedAt most f taken more → HasCut most c taken → IsCutShort most f (taken ++ more) (IsStill f taken)
+  short_here c taken more f own found h = record {
+    place = record { front = taken; more = more; parts = refl; within = closed_within c taken h; found = found };
+    is_left = (own, refl);
+  }
+
+  -- as many lines are over as there may be, and more bytes come
+  pub short_many : (c : Cutter) (taken more : List ℕ) → c.most ≤ c.count → 0 < length more → HasCut most c taken
+      → IsCutShort most fault.TooManyLines (taken ++ more) (IsStill fault.TooManyLines taken)
+  short_many c taken more many some h = short_here c taken more fault.TooManyLines tt (omega (arith, h.count, h.limit, few_closed most taken h.few, many), some) h
 
   own_left : (f : RunFault) (stands fails : Says) (lines : List (List ℕ)) → IsOwn f → stands lines → StandsAfter f stands fails lines
   own_left fault.Read stands fails lines own h = absurd own
@@ -145,12 +160,8 @@ module _ (most : ℕ) where
   -- the taker is as it was
   pub short_own : (f : RunFault) (stands fails : Says) (taken xs : List ℕ) → stands (closed_lines taken) → IsCutShort most f xs (IsStill f taken) → IsCutShort most f xs (StandsAfter f stands fails)
   short_own f stands fails taken xs said h = record {
-    front = h.front;
-    more = h.more;
-    parts = h.parts;
-    within = h.within;
-    found = h.found;
-    is_left = own_left f stands fails (closed_lines h.front) h.is_left.0 (subst stands (sym h.is_left.1) said);
+    place = h.place;
+    is_left = own_left f stands fails (closed_lines h.place.front) h.is_left.0 (subst stands (sym h.is_left.1) said);
   }
 
   end_within : (n : ℕ) (taken : List ℕ) → n < most → IsShort n taken → AreWithinLimits most (closed_lines taken)
@@ -163,22 +174,20 @@ module _ (most : ℕ) where
   short_end fault.LineTooLong stands fails n taken small h at = absurd at
   short_end fault.TooManyLines stands fails n taken small h at = absurd at
   short_end fault.NoMemory stands fails n taken small h at = record {
-    front = taken;
-    more = 10 ∷ [];
-    parts = refl;
-    within = end_within n taken small h;
-    found = tt;
+    place = record { front = taken; more = 10 ∷ []; parts = refl; within = end_within n taken small h; found = tt };
     is_left = at;
   }
   short_end fault.Write stands fails n taken small h at =
       let closed = closed-newline taken in
       let size : length (closed_lines taken ++ open_line taken ∷ []) ≡ length (closed_lines taken) + 1 = length-append (closed_lines taken) (open_line taken ∷ []) in
       record {
-        front = taken ++ 10 ∷ [];
-        more = [];
-        parts = append-nil (taken ++ 10 ∷ []);
-        within = subst (AreWithinLimits most) (sym closed) (record { short = short_newline n taken h; few = omega (arith, size, h.count_is, small) });
-        found = tt;
+        place = record {
+          front = taken ++ 10 ∷ [];
+          more = [];
+          parts = append-nil (taken ++ 10 ∷ []);
+          within = subst (AreWithinLimits most) (sym closed) (record { short = short_newline n taken h; few = omega (arith, size, h.count_is, small) });
+          found = tt;
+        };
         is_left = subst fails (sym closed) at;
       }
 
@@ -201,14 +210,17 @@ module _ (most : ℕ) where
   still_found fault.NoMemory front more later found = tt
 
   pub short_later : (xs more ys : List ℕ) (f : RunFault) (left : Says) → xs ++ more ≡ ys → IsCutShort most f xs left → IsCutShort most f ys left
-  short_later xs more ys f left e h = record {
-    front = h.front;
-    more = h.more ++ more;
-    parts = sym (append_assoc h.front h.more more) ∙ ap (λ t. t ++ more) h.parts ∙ e;
-    within = h.within;
-    found = still_found f h.front h.more more h.found;
-    is_left = h.is_left;
-  }
+  short_later xs more ys f left e h =
+      let at = h.place in record {
+        place = record {
+          front = at.front;
+          more = at.more ++ more;
+          parts = sym (append_assoc at.front at.more more) ∙ ap (λ t. t ++ more) at.parts ∙ e;
+          within = at.within;
+          found = still_found f at.front at.more more at.found;
+        };
+        is_left = h.is_left;
+      }
 
   -- ---- what stands after the fault
 
@@ -220,23 +232,22 @@ module _ (most : ℕ) where
   shows fault.NoMemory front more read parts found = tt
 
   pub stops_short : (read : List ℕ) (f : RunFault) (left : Says) → IsCutShort most f read left → StopsShort most f read left
-  stops_short read f left h = record {
-    good = closed_lines h.front;
-    next = lines_of (open_line h.front ++ h.more);
-    lines = ap lines_of (sym h.parts) ∙ lines_of-append h.front h.more;
-    within = h.within;
-    shown = shows f h.front h.more read h.parts h.found;
-    is_left = h.is_left;
-  }
+  stops_short read f left h =
+      let at = h.place in record {
+        lines = record {
+          good = closed_lines at.front;
+          next = lines_of (open_line at.front ++ at.more);
+          joined = ap lines_of (sym at.parts) ∙ lines_of-append at.front at.more;
+          within = at.within;
+          justified = shows f at.front at.more read at.parts at.found;
+        };
+        is_left = h.is_left;
+      }
 
   -- a run stopped behind the lines that are over
   stops_behind : (c : Cutter) (read : List ℕ) (f : RunFault) (left : Says) → HasCut most c read → IsJustified most f read (closed_lines read) (line_if_any (open_line read)) → left (closed_lines read) → StopsShort most f read left
-  stops_behind c read f left h shown is_left = record {
-    good = closed_lines read;
-    next = line_if_any (open_line read);
-    lines = refl;
-    within = closed_within c read h;
-    shown = shown;
+  stops_behind c read f left h justified is_left = record {
+    lines = record { good = closed_lines read; next = line_if_any (open_line read); joined = refl; within = closed_within c read h; justified = justified };
     is_left = is_left;
   }
 
@@ -258,24 +269,13 @@ module _ (most : ℕ) where
   stops_finishing c read fault.Write stands fails some h at =
       let lt : 0 < length (open_line read) = omega (arith, ap length h.line) in
       record {
-        good = lines_of read;
-        next = [];
-        lines = sym (append-nil (lines_of read));
-        within = all_within most read h.closed_short h.open_short h.few;
-        shown = tt;
+        lines = all_lines most fault.Write read (all_within most read h.closed_short h.open_short h.few) tt;
         is_left = subst fails (ap (λ l. closed_lines read ++ l) (sym (one_line (open_line read) lt))) at;
       }
 
   -- nothing was read
   pub stops_at_once : (f : RunFault) (stands fails : Says) → f ≡ fault.NoMemory → stands [] → StopsShort most f [] (StandsAfter f stands fails)
-  stops_at_once f stands fails which said = rw which (record {
-    good = [];
-    next = [];
-    lines = ap (λ l. l ++ line_if_any (open_line [])) closed-nothing ∙ ap line_if_any open-nothing;
-    within = record { short = refl; few = omega arith };
-    shown = tt;
-    is_left = said;
-  })
+  stops_at_once f stands fails which said = rw which (record { lines = no_lines most fault.NoMemory tt; is_left = said })
 
   -- ---- the end of the input
 

@@ -7,11 +7,13 @@ use Rattle.xns_lines.specs.Faults.{AppendsFront, AppendsPart, Begins, HasWritten
 use Rattle.xns_lines.specs.Lines.{IsWithinLimits, lines_of}
 use Rattle.xns_lines.specs.Lines.Cutter.{Says, StandsAfter, StopsShort}
 use Rattle.xns_lines.specs.Printing.{EndCount, HasFailed, IsAtEnd, Output, Stands, StopsAt, StopsIn, StopsInEnd, TakesAll, TakesSome, text_to_end}
+use Rattle.xns_lines.specs.Printouts.{Prints, lines_printout}
 use Rattle.xns_lines.specs.Report.{whole}
 use Rattle.xns_lines.specs.declared.fault.RunFault.{RunFault}
 use Rattle.xns_lines.specs.declared.fault.RunFault.TheVariants as fault
 use Rattle.xns_lines.specs.declared.page.Page.{Page}
 use Rattle.xns_lines.specs.declared.pages.Pages.{Pages}
+use Rattle.xns_lines.proofs.Cuts.{all_lines}
 use Rattle.xns_lines.proofs.Writes.{appends_trans, begins_trans, part_written}
 
 module _ {P A : Type 0} (output : Output P A) (part : ℕ) where
@@ -102,29 +104,15 @@ ends_begin_all text grows part count few =
 
 -- a run that stopped at a line
 pub lines_short : (most : ℕ) (end_count : EndCount (List ℕ)) (f : RunFault) (input read : List ℕ) (left : ℕ → Says) → StopsShort most f read (left 0) → StopsAt most end_count f input read left
-lines_short most end_count f input read left h = record {
-  good = h.good;
-  next = h.next;
-  part = 0;
-  lines = h.lines;
-  within = h.within;
-  shown = h.shown;
-  few = omega arith;
-  place = inl refl;
-  is_left = h.is_left;
-}
+lines_short most end_count f input read left h = record { lines = h.lines; part = 0; few = omega arith; place = inl refl; is_left = h.is_left }
 
 module _ {P : Type 0} (most : ℕ) (output : Output P (List ℕ)) where
   -- a run that stopped behind all lines of the input
   stopped_behind : (f : RunFault) (input : List ℕ) (part : ℕ) (left : ℕ → Says) → IsWithinLimits most input → IsJustified most f input (lines_of input) []
       → part ≤ output.end_count (lines_of input) → IsAtEnd f input input [] → left part (lines_of input) → StopsAt most output.end_count f input input left
-  stopped_behind f input part left within shown few at_end is_left = record {
-    good = lines_of input;
-    next = [];
+  stopped_behind f input part left within justified few at_end is_left = record {
+    lines = all_lines most f input within justified;
     part = part;
-    lines = sym (append-nil (lines_of input));
-    within = within;
-    shown = shown;
     few = few;
     place = inr at_end;
     is_left = is_left;
@@ -191,21 +179,18 @@ module _ {P : Type 0} (most : ℕ) (output : Output P (List ℕ)) where
 
       -- the lines were taken up to a fault, and the run stops with that fault or with another
       stopped_on_pages : (e f : RunFault) (input : List ℕ) (some : Front e input) → let h = some.2 held begun in
-          IsJustified most f some.0 h.good h.next → (h.part ≡ 0) ⊎ IsAtEnd f input some.0 h.next
-          → HasWritten f held after (output.text_of h.good h.part) → StopsIn most output.text_of output.end_count input left held after f
-      stopped_on_pages e f input some shown place said =
+          IsJustified most f some.0 h.lines.good h.lines.next → (h.part ≡ 0) ⊎ IsAtEnd f input some.0 h.lines.next
+          → HasWritten f held after (output.text_of h.lines.good h.part) → StopsIn most output.text_of output.end_count input left held after f
+      stopped_on_pages e f input some justified place said =
           let h = some.2 held begun in
+          let at = h.lines in
           record {
             read = some.0;
             consumed = some.1;
-            front = front_behind held after _ _ (good_front e input some.0 h.good h.next h.part h.lines h.few h.place) (written_front f held after _ said);
+            front = front_behind held after _ _ (good_front e input some.0 at.good at.next h.part at.joined h.few h.place) (written_front f held after _ said);
             stops = record {
-              good = h.good;
-              next = h.next;
+              lines = record { good = at.good; next = at.next; joined = at.joined; within = at.within; justified = justified };
               part = h.part;
-              lines = h.lines;
-              within = h.within;
-              shown = shown;
               few = h.few;
               place = place;
               is_left = said;
@@ -215,9 +200,9 @@ module _ {P : Type 0} (most : ℕ) (output : Output P (List ℕ)) where
       some_unwritten : (e : RunFault) (input : List ℕ) → AppendsPart mid after (whole new.page.text) → Front e input → StopsIn most output.text_of output.end_count input left held after fault.Write
       some_unwritten e input failed some =
           let h = some.2 held begun in
-          let said : AppendsPart held after (output.text_of h.good h.part) =
-          left_part output h.part new mid after e held h.good h.is_left failed in
-          stopped_on_pages e fault.Write input some tt (place_as e input some.0 h.part h.next h.place) said
+          let said : AppendsPart held after (output.text_of h.lines.good h.part) =
+          left_part output h.part new mid after e held h.lines.good h.is_left failed in
+          stopped_on_pages e fault.Write input some tt (place_as e input some.0 h.part h.lines.next h.place) said
 
       pub unflushed_all : (r : Result Unit RunFault) (f : RunFault) → (f ≡ fault.Write) × AppendsPart mid after (whole new.page.text)
           → OnOk r (IfSome start All) → IfErr r (λ e. IfSome start (Front e)) → IfSome start (λ input. StopsIn most output.text_of output.end_count input left held after f)
@@ -227,11 +212,13 @@ module _ {P : Type 0} (most : ℕ) (output : Output P (List ℕ)) where
       pub flushed_some : (f : RunFault) → IfSome start (Front f) → Appends mid after (whole new.page.text) → IfSome start (λ input. StopsIn most output.text_of output.end_count input left held after f)
       flushed_some f some written = IfSome_then start some (λ input t.
           let h = t.2 held begun in
-          let said : HasWritten f held after (output.text_of h.good h.part) =
-          left_whole output h.part new mid after f held h.good h.is_left written in
-          stopped_on_pages f f input t h.shown h.place said)
+          let said : HasWritten f held after (output.text_of h.lines.good h.part) =
+          left_whole output h.part new mid after f held h.lines.good h.is_left written in
+          stopped_on_pages f f input t h.lines.justified h.place said)
 
-      pub flushed_text : IfSome start All → Appends mid after (whole new.page.text) → IfSome start (λ input. Appends held after (text_to_end output.text_of output.end_count (lines_of input)))
-      flushed_text all written = IfSome_then start all (λ input h.
+      pub flushed_all : (page : Page) → page.is_refused ≡ new.page.is_refused → IfSome start All → Appends mid after (whole new.page.text)
+          → Prints (lines_printout most output.text_of output.has_refused output.end_count) (Ok page.is_refused) start left held after
+      flushed_all page same all written = IfSome_then start all (λ input h.
           let count = output.end_count (lines_of input) in
-          all_left output count new mid after held (lines_of input) written (h.2 held begun))
+          let said = h.2 held begun in
+          record { text = all_left output count new mid after held (lines_of input) written said; refused = same ∙ said.refused; good = h.1 })

@@ -1,7 +1,7 @@
 -- What stands after a fault: what was written, and what justifies the fault.
 use Rattle.std.specs.Prelude.{◌≡◌, ℕ, ◌<◌, List, [], ◌∷◌, ◌++◌, length, Option}
 use Rattle.std.specs.Io.KnownBytes.{Appends}
-use Rattle.xns_lines.specs.Lines.{BeginsLong, closed_lines}
+use Rattle.xns_lines.specs.Lines.{AreWithinLimits, BeginsLong, closed_lines, lines_of}
 use Rattle.xns_lines.specs.declared.fault.RunFault.{RunFault}
 use Rattle.xns_lines.specs.declared.fault.RunFault.TheVariants as fault
 
@@ -27,6 +27,14 @@ IsJustified most fault.Write read good next = Unit {0}
 IsJustified most fault.LineTooLong read good next = (length good < most) × BeginsLong next
 IsJustified most fault.TooManyLines read good next = (length good ≡ most) × (0 < length next)
 IsJustified most fault.NoMemory read good next = Unit {0}
+
+-- the lines of what was read, at a fault: the good ones, and the ones that come next, which justify the fault
+pub record FaultyLines (most : ℕ) (f : RunFault) (read : List ℕ) : Type 0 where
+  pub good : List (List ℕ)
+  pub next : List (List ℕ)
+  pub joined : lines_of read ≡ good ++ next
+  pub within : AreWithinLimits most good
+  pub justified : IsJustified most f read good next
 
 -- the text is written, and after a failed write a prefix of it and not all
 abbrev pub HasWritten : RunFault → Option (List ℕ) → Option (List ℕ) → List ℕ → Type 0

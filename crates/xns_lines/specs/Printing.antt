@@ -1,8 +1,8 @@
 -- What is printed of the lines of an input, or of other things in it, and of its end, between two of them and after a fault.
 use Rattle.std.specs.Prelude.{◌≡◌, ℕ, ◌+◌, ◌≤◌, ◌⊎◌, ◌++◌, Bool, false, true, List, [], ◌∷◌, Option, Some}
 use Rattle.std.specs.Io.KnownBytes.{Appends, Consumes}
-use Rattle.xns_lines.specs.Faults.{AppendsFront, AppendsPart, HasWritten, IsJustified}
-use Rattle.xns_lines.specs.Lines.{AreWithinLimits, IsWithinLimits, lines_of}
+use Rattle.xns_lines.specs.Faults.{AppendsFront, AppendsPart, FaultyLines, HasWritten}
+use Rattle.xns_lines.specs.Lines.{IsWithinLimits, lines_of}
 use Rattle.xns_lines.specs.Lines.Cutter.{Says, StandsAfter}
 use Rattle.xns_lines.specs.Report.{whole}
 use Rattle.xns_lines.specs.declared.fault.RunFault.{RunFault}
@@ -119,18 +119,14 @@ IsAtEnd fault.Write input read next = (read ≡ input) × (next ≡ [])
 IsAtEnd fault.NoMemory input read next = (read ≡ input) × (next ≡ [])
 IsAtEnd _ input read next = ⊥
 
--- the lines that were read are the good ones, of which and of some parts of the end the claim holds, and the ones that come next; parts of the
--- end are there only where all was read
+-- the claim holds of the good lines among those that were read, and of some parts of the end; parts of the end are there only where all was
+-- read
 pub record StopsAt (most : ℕ) (end_count : EndCount (List ℕ)) (f : RunFault) (input read : List ℕ) (left : ℕ → Says) : Type 0 where
-  pub good : List (List ℕ)
-  pub next : List (List ℕ)
+  pub lines : FaultyLines most f read
   pub part : ℕ
-  pub lines : lines_of read ≡ good ++ next
-  pub within : AreWithinLimits most good
-  pub shown : IsJustified most f read good next
-  pub few : part ≤ end_count good
-  pub place : (part ≡ 0) ⊎ IsAtEnd f input read next
-  pub is_left : left part good
+  pub few : part ≤ end_count lines.good
+  pub place : (part ≡ 0) ⊎ IsAtEnd f input read lines.next
+  pub is_left : left part lines.good
 
 -- a prefix of the text of what was read is written, and that is the text of all lines before the one at which it stopped; what was read
 -- is the prefix of the input that is no longer left

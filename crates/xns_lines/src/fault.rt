@@ -1,6 +1,9 @@
 //! How a run ends before the end of its input.
 use thiserror::Error;
 
+/// Whether a run over an input refused something of it, or why the run stopped before the end of the input.
+pub type RunResult = Result<bool, RunFault>;
+
 /// Why a run stopped before the end of its input.
 #[derive(Clone, Copy, Debug, PartialEq, Eq, Error)]
 pub enum RunFault {

@@ -21,7 +21,7 @@ mod thing_printer;
 mod writing;
 
 pub use digits::write_few_digits;
-pub use fault::RunFault;
+pub use fault::{RunFault, RunResult};
 pub use limits::{MOST_LINE_BYTES, MOST_LINES};
 pub use line_end::without_return;
 pub use line_printer::LinePrinter;

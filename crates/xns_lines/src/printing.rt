@@ -1,11 +1,10 @@
 //! Prints what the lines of an input say.
-ghost use Rattle.std.specs.Prelude.{◌≡◌, ◌≤◌, ℕ, List, [], Option, IfErr, IfOk, IfSome, OnOk};
-ghost use Rattle.std.specs.Io.KnownBytes.{Appends};
-ghost use Rattle.xns_lines.specs.Lines.{IsWithinLimits, lines_of};
-ghost use Rattle.xns_lines.specs.Printing.{StopsIn, TakesAll, TakesSome, text_to_end};
+ghost use Rattle.std.specs.Prelude.{◌≤◌, [], IfErr, IfSome, OnOk};
+ghost use Rattle.xns_lines.specs.Printing.{TakesAll, TakesSome};
+ghost use Rattle.xns_lines.specs.Printouts.{Prints, lines_printout};
 
 use crate::by_line::ByLine;
-use crate::fault::RunFault;
+use crate::fault::{RunFault, RunResult};
 use crate::line_printer::LinePrinter;
 use crate::pages::Pages;
 use crate::taking::take_lines;
@@ -29,20 +28,14 @@ pub fn print_lines<R: Read, W: Write, P: LinePrinter + Drop>(
     reader: &mut R,
     writer: &mut W,
     printer: P,
-) -> Result<bool, RunFault>
+) -> RunResult
     requires begun { P.has_printed printer [] 0 }
     requires few { most ≤ P.limit }
 
-    // Without a fault the text of the whole input is written, which is within the limits.
-    ensures text { IfOk result (λ refused. IfSome (R.remaining reader.old) (λ input.
-        Appends (W.contents writer.old) (W.contents writer.new) (text_to_end P.text_of P.end_count (lines_of input)))) }
-    ensures refused { IfOk result (λ refused. IfSome (R.remaining reader.old) (λ input. refused
-        ≡ P.has_refused (lines_of input) (P.end_count (lines_of input)))) }
-    ensures limits { OnOk result (IfSome (R.remaining reader.old) (IsWithinLimits most)) }
-
-    // After a fault the text of the lines before it is written, and what was read shows a limit that was passed.
-    ensures fault { IfErr result (λ fault. IfSome (R.remaining reader.old) (λ input.
-        StopsIn most P.text_of P.end_count input (R.remaining reader.new) (W.contents writer.old) (W.contents writer.new) fault)) }
+    // Without a fault the text of the whole input is written, which is within the limits. After a fault the text of the lines
+    // before it is written, and what was read shows a limit that was passed.
+    ensures { Prints (lines_printout most P.text_of P.has_refused P.end_count) result
+        (R.remaining reader.old) (R.remaining reader.new) (W.contents writer.old) (W.contents writer.new) }
 {
     P::text_only_grows();
     let mut pages = Pages::new(alloc, ByLine { printer });

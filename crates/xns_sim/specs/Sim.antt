@@ -8,8 +8,9 @@ use Rattle.std.specs.Io.KnownBytes.{Consumes}
 use Rattle.courier_calls.specs.Calls.{CallModel}
 use Rattle.xns_script.specs.Script.{script_calls, script_events, first_refused}
 use Rattle.item_world.specs.declared.event.Event.{Event}
-use Rattle.xns_lines.specs.Faults.{AppendsPart, IsJustified}
-use Rattle.xns_lines.specs.Lines.{AreWithinLimits, lines_of, most_lines, without_return}
+use Rattle.xns_lines.specs.Faults.{AppendsPart, FaultyLines}
+use Rattle.xns_lines.specs.Lines.{IsWithinLimits, lines_of, most_lines, without_return}
+use Rattle.xns_lines.specs.Printouts.{Printout}
 use Rattle.xns_sim.specs.Sim.Play.{play_text}
 use Rattle.xns_lines.specs.declared.fault.RunFault.{RunFault}
 use Rattle.xns_lines.specs.declared.fault.RunFault.TheVariants as fault
@@ -41,13 +42,13 @@ abbrev pub LeavesWritten : RunFault → List ℕ → Option (List ℕ) → Optio
 LeavesWritten fault.Write input before after = AppendsPart before after (sim_text input)
 LeavesWritten _ input before after = after ≡ before
 
--- `read` is the front of the input, up to what is left of it; its lines are those within the limits, and then `next`, which show the fault
+-- `read` is the front of the input, up to what is left of it, and its lines show the fault
 pub record SimStopsIn (input : List ℕ) (left before after : Option (List ℕ)) (f : RunFault) : Type 0 where
   pub read : List ℕ
   pub consumed : Consumes (Some input) left read
-  pub good : List (List ℕ)
-  pub next : List (List ℕ)
-  pub lines : lines_of read ≡ good ++ next
-  pub within : AreWithinLimits most_lines good
-  pub shown : IsJustified most_lines f read good next
+  pub lines : FaultyLines most_lines f read
   pub written : LeavesWritten f input before after
+
+-- what `sim` makes of an input
+abbrev pub sim_printout : Printout RunFault
+sim_printout = record { text = sim_text; is_refused = is_script_refused; is_good = IsWithinLimits most_lines; stops_in = SimStopsIn }

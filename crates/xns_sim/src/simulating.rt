@@ -1,15 +1,14 @@
 //! `sim`: plays calls through a network that the lines of a script describe.
-ghost use Rattle.std.specs.Prelude.{◌≡◌, IfErr, IfOk, IfSome, OnOk};
-ghost use Rattle.std.specs.Io.KnownBytes.{Appends};
-ghost use Rattle.xns_lines.specs.Lines.{IsWithinLimits, most_lines};
-ghost use Rattle.xns_sim.specs.Sim.{SimStopsIn, is_script_refused, sim_text};
+ghost use Rattle.std.specs.Prelude.{IfErr, IfOk, IfSome};
+ghost use Rattle.xns_lines.specs.Printouts.{Prints};
+ghost use Rattle.xns_sim.specs.Sim.{SimStopsIn, sim_printout};
 ghost use Rattle.xns_sim.specs.Sim.Script.{HasReadAll};
 
 use crate::playing::play_script;
 use crate::script_taker::ScriptTaker;
 use std::alloc::Global;
 use std::io::{Read, Write};
-use xns_lines::{MOST_LINES, RunFault, take_lines, write_whole};
+use xns_lines::{MOST_LINES, RunFault, RunResult, take_lines, write_whole};
 use xns_script::Script;
 
 /// Reads the lines of a script, plays its calls through its events, and prints the trace. The result says whether a
@@ -24,21 +23,10 @@ use xns_script::Script;
 /// The errors are those of [`take_lines`], with at most [`MOST_LINES`] lines; `Write` where a write fails or takes no
 /// byte; `NoMemory` where memory is refused. Nothing is written before the whole input is read and the whole text
 /// made, so only a failed write leaves a prefix of the text.
-pub fn sim<R: Read, W: Write>(
-    alloc: Global,
-    reader: &mut R,
-    writer: &mut W,
-) -> Result<bool, RunFault>
-    // Without a fault the text of the whole input is written, which is within the limits.
-    ensures text { IfOk result (λ refused. IfSome (R.remaining reader.old) (λ input.
-        Appends (W.contents writer.old) (W.contents writer.new) (sim_text input))) }
-    ensures refused { IfOk result (λ refused. IfSome (R.remaining reader.old) (λ input. refused ≡ is_script_refused input)) }
-    ensures limits { OnOk result (IfSome (R.remaining reader.old) (IsWithinLimits most_lines)) }
-
-    // After a failed write a prefix of that text is written, and after any other fault nothing; the bytes that were
-    // read show a limit that was passed.
-    ensures fault { IfErr result (λ fault. IfSome (R.remaining reader.old) (λ input.
-        SimStopsIn input (R.remaining reader.new) (W.contents writer.old) (W.contents writer.new) fault)) }
+pub fn sim<R: Read, W: Write>(alloc: Global, reader: &mut R, writer: &mut W) -> RunResult
+    // Without a fault the text of the whole input is written, which is within the limits. After a failed write a prefix of that
+    // text is written, and after any other fault nothing; the bytes that were read show a limit that was passed.
+    ensures { Prints sim_printout result (R.remaining reader.old) (R.remaining reader.new) (W.contents writer.old) (W.contents writer.new) }
 {
     let script = read_script(alloc, reader, writer)?;
     let Ok(text) = play_script(alloc, &script) else {

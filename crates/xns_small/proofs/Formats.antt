@@ -27,10 +27,20 @@ long_enough {M} least bytes fields v read = by_test (nat_lt (length bytes) least
     by_test false long h = (ltb-false (length bytes) least long, cc)
 
 -- what is read is spelled
-pub read_is_spelled : {V M : Type 0} {Fits : M → Type 0} {spelling : M → List ℕ} {least : ℕ} {fields : List ℕ → M}
+read_is_spelled : {V M : Type 0} {Fits : M → Type 0} {spelling : M → List ℕ} {least : ℕ} {fields : List ℕ → M}
     → IsFormat Fits spelling least fields → (model : V → M) (bytes : List ℕ) (r : Result V SmallFault) → ((i : ℕ) → get_or bytes i 0 < 256)
     → answer_model model r ≡ unless_short least bytes (fields bytes)
     → IfOk r (λ v. bytes ≡ spelling (model v))
 read_is_spelled {V} {M} {Fits} {spelling} {least} {fields} format model bytes (Ok v) fits e =
     let read = long_enough least bytes (fields bytes) (model v) (sym e) in format.front bytes fits read.0 ∙ ap spelling read.1
 read_is_spelled format model bytes (Err f) fits e = tt
+
+-- a reader that tells what stands in the places of the fields, or the first fault: what it finds is spelled, and what is spelled it finds
+pub is_read : {V M : Type 0} {Fits : M → Type 0} {spelling : M → List ℕ} {least : ℕ} {fields : List ℕ → M}
+    → IsFormat Fits spelling least fields → (model : V → M) (bytes : List ℕ) (r : Result V SmallFault) → ((i : ℕ) → get_or bytes i 0 < 256)
+    → answer_model model r ≡ unless_short least bytes (fields bytes)
+    → IfOk r (λ v. bytes ≡ spelling (model v)) × ((v : M) → Fits v → bytes ≡ spelling v → answer_model model r ≡ Ok v)
+is_read {V} {M} {Fits} {spelling} {least} {fields} format model bytes r fits e = (
+  read_is_spelled format model bytes r fits e,
+  λ v right spells. e ∙ ap (λ (xs : List ℕ). unless_short least xs (fields xs)) spells ∙ spelled_is_read format v right,
+)

@@ -1,5 +1,5 @@
 //! A service that counts down.
-ghost use Rattle.std.specs.Prelude.{ℕ, ◌≡◌, ◌≤◌, [], ◌∷◌, map, IfOk};
+ghost use Rattle.std.specs.Prelude.{◌≡◌, ◌≤◌, [], ◌∷◌, map, IfOk};
 ghost use Rattle.courier_types.specs.Shape.{shape_model};
 ghost use Rattle.courier_types.specs.Value.{value_model};
 ghost use Rattle.courier_calls.specs.Table.{table_model};
@@ -9,19 +9,12 @@ ghost use Rattle.bench.specs.ListsLaw.{lists_lawful};
 use courier_calls::{Entry, Outcome, Procedure, Service, Table};
 use courier_types::{Shape, Value};
 use std::alloc::{AllocError, Global};
-use std::marker::Model;
 
 /// The service's one procedure, 1 of version 1 of program 8, takes a list of at most 60,000 cardinals and returns as long a list: the
 /// numbers below 60,000, the greatest first.
 #[derive(Drop)]
 pub struct Lists {
     count: u16,
-}
-
-impl Model for Lists {
-    ghost Value = { ℕ };
-
-    ghost view = { λ s. s.count };
 }
 
 impl Lists {

@@ -1,14 +1,13 @@
 use crate::speed::WORDS;
-use courier_sessions::Answer;
 use host_scenes::player::SERVER;
-use host_scenes::station::{LISTED, Station, both};
+use host_scenes::station::{LISTED, NETWORK, Station, both};
 use std::alloc::Global;
 use xns_host::{Event, HostFault, Settings};
 use xns_idp::Address;
 
 /// Where the client is.
 pub const CLIENT: Address = Address {
-    network: 1,
+    network: NETWORK,
     host: [0, 0, 170, 0, 2, 2],
     socket: 3_000,
 };
@@ -34,21 +33,21 @@ fn carry(now: u64, from: &mut Station, to: &mut Station) -> Result<(), HostFault
     Ok(())
 }
 
-/// A host at this address.
-fn host_at(alloc: Global, address: Address, connections: usize) -> Result<Station, HostFault> {
+/// A host with this number of its own.
+fn host_at(alloc: Global, host: [u8; 6], connections: usize) -> Result<Station, HostFault> {
     let settings = Settings {
         connections,
         idle: 0,
         ..Settings::default()
     };
-    Station::new(alloc, address.network, address.host, settings, [1; 32])
+    Station::new(alloc, host, settings, [1; 32])
 }
 
 impl Pair {
     /// Two hosts with room for so many connections.
     pub fn new(alloc: Global, connections: usize) -> Result<Pair, HostFault> {
-        let client = host_at(alloc, CLIENT, connections)?;
-        let (client, service) = both(client, host_at(alloc, SERVER, connections))?;
+        let client = host_at(alloc, CLIENT.host, connections)?;
+        let (client, service) = both(client, host_at(alloc, SERVER.host, connections))?;
         Ok(Pair {
             alloc,
             client,
@@ -78,8 +77,7 @@ impl Pair {
         let Ok(words) = message.words(self.alloc) else {
             return Err(HostFault::NoMemory);
         };
-        self.service
-            .answer(self.now, *number, Answer::Return, words.as_slice())
+        self.service.answer(self.now, *number, words.as_slice())
     }
 
     /// Picks an answer up.
@@ -121,7 +119,7 @@ impl Pair {
 
     /// Opens a connection by a call, and returns its number.
     fn open(&mut self) -> Result<usize, HostFault> {
-        let number = self.client.connect(self.now, 0, CLIENT.socket, SERVER)?;
+        let number = self.client.connect(self.now, CLIENT.socket, SERVER)?;
         self.call(number)?;
         self.talk()?;
         self.talk()?;

@@ -1,10 +1,11 @@
 -- What `dump` prints of a capture: what the packets in its frames say, each with the number of its frame.
-use Rattle.std.specs.Prelude.{ℕ, Bool, List, [], ◌∷◌, ◌++◌, Option}
+use Rattle.std.specs.Prelude.{◌≡◌, ℕ, Bool, List, [], ◌∷◌, ◌++◌, Option, None}
 use Rattle.std.specs.List.{flat_map, list_any}
 use Rattle.std.specs.Option.{option_to_list}
-use Rattle.xns_captures.specs.Captures.{NumberedPacket, packets_of}
+use Rattle.xns_captures.specs.Captures.{NumberedPacket, capture_fault, packets_of}
 use Rattle.xns_captures.specs.Printing as printing
 use Rattle.xns_captures.specs.declared.file_fault.FileFault.{FileFault}
+use Rattle.xns_lines.specs.Printouts.{Printout}
 use Rattle.xns_dump.specs.Dump.Line.{is_said_refused, said_by_bytes, said_item, said_text}
 use Rattle.xns_dump.specs.Flows.{DataPacket, item_number}
 
@@ -49,3 +50,12 @@ has_refused_packet file = list_any is_packet_refused (packets_of file)
 -- after a fault the text of the packets before it is written
 abbrev pub CaptureStopsIn : FileFault → List ℕ → Option (List ℕ) → Option (List ℕ) → Type 0
 CaptureStopsIn = printing.StopsIn packets_text_with_end packet_end_count
+
+-- what `dump` makes of a capture
+abbrev pub dump_capture_printout : Printout FileFault
+dump_capture_printout = record {
+  text = dump_capture_text;
+  is_refused = has_refused_packet;
+  is_good = λ file. capture_fault file ≡ None;
+  stops_in = λ file left before after fault. CaptureStopsIn fault file before after;
+}

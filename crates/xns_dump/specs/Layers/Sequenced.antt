@@ -10,7 +10,7 @@ use Rattle.xns_spp.specs.declared.spp_fault.SppFault.TheVariants.{Short}
 use Rattle.xns_small.specs.declared.fault.SmallFault.TheVariants as small
 use Rattle.xns_dump.specs.Flows.{DataPacket, flow_of}
 use Rattle.xns_dump.specs.Layers.Courier.{courier_text}
-use Rattle.xns_dump.specs.Layers.Small.{inner_refusal}
+use Rattle.xns_dump.specs.Layers.Small.{inner_refusal_text}
 use Rattle.xns_dump.specs.Layers.Text.{data_line, line_of, words_line}
 use Rattle.xns_lines.specs.Text.{hex_word}
 
@@ -55,8 +55,11 @@ content_text n f content =
     else words_line n content
 
 -- the body is shorter than a header
+abbrev pub header_refusal_text : SppFault → List ℕ
+header_refusal_text (Short have) = inner_refusal_text (small.Short have)
+
 abbrev pub header_refusal : ℕ → SppFault → List ℕ
-header_refusal n (Short have) = inner_refusal n (small.Short have)
+header_refusal n fault = line_of n (header_refusal_text fault)
 
 -- the lines of a sequenced packet, where `number` gives the numbers of items
 unfoldable pub sequenced_text : ℕ → (DataPacket → ℕ) → Option DataPacket → Header → List ℕ → List ℕ

@@ -29,52 +29,46 @@ pub(crate) fn append_courier(
     }
 }
 
+/// The fields of a message, and its words.
 impl LineText for Message {
     ghost text = { message_text };
 
+    #[tactic(auto, unfolding(crate::specs::Layers::Courier::message_text))]
     fn append_text(&self, report: &mut Report) -> Result<(), AllocError> {
-        append_message(report, self)
-    }
-}
-
-/// Appends the fields of a message, and its words.
-#[tactic(auto, unfolding(crate::specs::Layers::Courier::message_text))]
-fn append_message(report: &mut Report, message: &Message) -> Result<(), AllocError>
-    ensures { Adds result report.old report.new (message_text message.now) }
-{
-    match message {
-        Message::Call {
-            transaction,
-            program,
-            version,
-            procedure,
-            words,
-        } => {
-            append_field(report, b" call ", *transaction)?;
-            append_callee(report, *program, *version, *procedure)?;
-            append_words(report, b" args ", words)
-        }
-        Message::Reject {
-            transaction,
-            reason,
-            words,
-        } => {
-            append_field(report, b" reject ", *transaction)?;
-            append_field(report, b" reason ", *reason)?;
-            append_words(report, b" words ", words)
-        }
-        Message::Return { transaction, words } => {
-            append_field(report, b" return ", *transaction)?;
-            append_words(report, b" results ", words)
-        }
-        Message::Abort {
-            transaction,
-            error,
-            words,
-        } => {
-            append_field(report, b" abort ", *transaction)?;
-            append_field(report, b" error ", *error)?;
-            append_words(report, b" args ", words)
+        match self {
+            Message::Call {
+                transaction,
+                program,
+                version,
+                procedure,
+                words,
+            } => {
+                append_field(report, b" call ", *transaction)?;
+                append_callee(report, *program, *version, *procedure)?;
+                append_words(report, b" args ", words)
+            }
+            Message::Reject {
+                transaction,
+                reason,
+                words,
+            } => {
+                append_field(report, b" reject ", *transaction)?;
+                append_field(report, b" reason ", *reason)?;
+                append_words(report, b" words ", words)
+            }
+            Message::Return { transaction, words } => {
+                append_field(report, b" return ", *transaction)?;
+                append_words(report, b" results ", words)
+            }
+            Message::Abort {
+                transaction,
+                error,
+                words,
+            } => {
+                append_field(report, b" abort ", *transaction)?;
+                append_field(report, b" error ", *error)?;
+                append_words(report, b" args ", words)
+            }
         }
     }
 }

@@ -7,7 +7,7 @@ use xns_lines::Report;
 use xns_lines::numbers::append_decimal;
 
 /// What a line says between its number and its end. An `impl` names its text.
-pub(crate) trait LineText {
+pub trait LineText {
     ghost use Rattle.std.specs.Prelude.{ℕ, List};
     ghost use Rattle.xns_lines.specs.Report.{Adds};
 
@@ -20,7 +20,7 @@ pub(crate) trait LineText {
 }
 
 /// Appends the line of that number.
-pub(crate) fn append_line<L: LineText>(
+pub fn append_line<L: LineText>(
     report: &mut Report,
     number: usize,
     line: &L,

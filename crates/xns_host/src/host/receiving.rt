@@ -172,7 +172,7 @@ impl Host {
     }
 
     /// Closes the connection with this number, if the quoted packet went from it to its peer lately.
-    #[tactic(auto, using(crate::proofs::Noting::put_back, crate::proofs::Turns::put_registered, crate::proofs::Turns::put_undone))]
+    #[tactic(auto, using(crate::proofs::Noting::put_back, crate::proofs::Turns::put_registered, crate::proofs::Turns::put_undone, crate::proofs::Placed::no_place, crate::proofs::Placed::other_place))]
     fn not_served(&mut self, now: u64, number: usize, quote: &Quote) -> bool
         ensures turn { result ≡ true → IsThere (IsSentBy quote.now) (slice_get self.old.guests.items number)
             × PlaceTurns (GuestUnserved now quote.now.error) number (places_of self.old) (places_of self.new) }
@@ -229,7 +229,7 @@ impl Host {
     }
 
     /// Takes in a packet that names connection `number`, if the packet belongs to that connection; whether it does.
-    #[tactic(auto, using(crate::proofs::Noting::put_back, crate::proofs::Turns::put_registered, crate::proofs::Turns::put_undone))]
+    #[tactic(auto, using(crate::proofs::Noting::put_back, crate::proofs::Turns::put_registered, crate::proofs::Turns::put_undone, crate::proofs::Placed::no_place, crate::proofs::Placed::other_place))]
     fn hear(&mut self, now: u64, number: usize, confirms: bool, packet: &SppPacket) -> bool
         requires { IsSppPacket packet.now }
         ensures turn { result ≡ true → IsThere (IsOfGuest packet.now) (slice_get self.old.guests.items number)

@@ -2,7 +2,7 @@
 use Rattle.std.specs.Prelude.{◌≡◌, ℕ, ◌≤◌, ◌<◌, ◌+◌, ◌-◌, ◌*◌, ◌++◌, List, length, false}
 use Rattle.std.specs.List.{list_any}
 use Rattle.memchr.specs.Find.{Nowhere, Passes, is_byte}
-use Rattle.xns_lines.specs.Faults.{IsJustified, StandsAfterThing}
+use Rattle.xns_lines.specs.Faults.{FaultyLines, StandsAfterThing}
 use Rattle.xns_lines.specs.Lines.{AreWithinLimits, closed_lines, is_long, lines_of, open_line, most_line_bytes}
 use Rattle.xns_lines.specs.declared.cutter.Cutter.{Cutter}
 use Rattle.xns_lines.specs.declared.fault.RunFault.{RunFault}
@@ -48,23 +48,23 @@ StandsAfter _ stands fails lines = stands lines
 abbrev pub StandsAfterLine : RunFault → Says → Says → List (List ℕ) → List ℕ → Type 0
 StandsAfterLine f stands fails lines line = StandsAfterThing f stands fails lines line
 
--- the cutter stopped within these bytes, and `left` holds of the lines that are over at that place
-pub record IsCutShort (most : ℕ) (f : RunFault) (taken : List ℕ) (left : Says) : Type 0 where
+-- a place among these bytes at which the cutter finds a fault: what stands before it, and more
+pub record FaultPlace (most : ℕ) (f : RunFault) (taken : List ℕ) : Type 0 where
   pub front : List ℕ
   pub more : List ℕ
   pub parts : front ++ more ≡ taken
   pub within : AreWithinLimits most (closed_lines front)
   pub found : IsJustifiedAt most f front more
-  pub is_left : left (closed_lines front)
 
--- after a fault: the lines of what was read are the good ones, of which `left` holds, and the ones that come next
+-- the cutter stopped within these bytes, and `left` holds of the lines that are over at that place
+pub record IsCutShort (most : ℕ) (f : RunFault) (taken : List ℕ) (left : Says) : Type 0 where
+  pub place : FaultPlace most f taken
+  pub is_left : left (closed_lines place.front)
+
+-- after a fault: `left` holds of the good lines among those of what was read
 pub record StopsShort (most : ℕ) (f : RunFault) (read : List ℕ) (left : Says) : Type 0 where
-  pub good : List (List ℕ)
-  pub next : List (List ℕ)
-  pub lines : lines_of read ≡ good ++ next
-  pub within : AreWithinLimits most good
-  pub shown : IsJustified most f read good next
-  pub is_left : left good
+  pub lines : FaultyLines most f read
+  pub is_left : left lines.good
 
 -- how many bytes the limits still allow, at most
 abbrev pub room_of : Cutter → ℕ

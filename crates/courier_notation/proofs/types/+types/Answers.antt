@@ -1,9 +1,11 @@
 use Rattle.std.proofs.Common.{IsOk, ap, refl}
 use Rattle.std.proofs.lemmas.Result.{err_from_is_err_and}
-use Rattle.courier_notation.specs.Written.{field_model, field_models, candidate_model, candidate_models}
+use Rattle.courier_notation.specs.declared.reason.Reason.TheVariants.{NoArrow, NoColon}
+use Rattle.courier_notation.specs.declared.token.Token.TheVariants.{Arrow, Colon}
+use Rattle.courier_notation.specs.Written.{field_models, candidate_models, group_model}
 use Rattle.courier_notation.specs.Reading.{most_parts, type_at, field_at, candidate_at, choice_behind, designator_at, name_at}
 use Rattle.courier_notation.proofs.Failing.{wanted, wanted_more}
-use Rattle.courier_notation.proofs.Listing.{begun, ends, first_begins, first_designator, first_name, first_of_list, goes_on, is_done, is_full, seen_push}
+use Rattle.courier_notation.proofs.Listing.{begun, ends, first_begins, first_in_group, first_of_list, goes_on, is_done, is_full, seen_push}
 use Rattle.courier_notation.proofs.Models.{model_record, model_choice}
 use Rattle.courier_notation.proofs.types.+types.Goals as goal
 
@@ -17,12 +19,12 @@ fields_of-returns-in_err-field-clause-exact t c =
 
 pub fields_of-returns-in-None-clause-exact : goal.fields_of-returns-in-None-clause-exact
 fields_of-returns-in-None-clause-exact t c =
-    is_done c.loop.invariant c.loop-test.true c.in_ok-field.ensures.exact c.in-None.ensures.none (seen_push field_model c.loop.fields.items c.in_ok-field.field c.in_ok-push.ensures.items)
+    is_done c.loop.invariant c.loop-test.true c.in_ok-field.ensures.exact c.in-None.ensures.none (seen_push group_model c.loop.fields.items c.in_ok-field.field c.in_ok-push.ensures.items)
 
 pub fields_of-loop-preserved : goal.fields_of-loop-preserved
 fields_of-loop-preserved t c =
-    goes_on c.loop.invariant c.loop-test.true c.in_ok-field.ensures.exact c.in-Some.ensures.some (seen_push field_model c.loop.fields.items c.in_ok-field.field c.in_ok-push.ensures.items)
-    (first_name (type_at c.args.depth) c.loop.rest.now c.in_ok-field.ensures.exact)
+    goes_on c.loop.invariant c.loop-test.true c.in_ok-field.ensures.exact c.in-Some.ensures.some (seen_push group_model c.loop.fields.items c.in_ok-field.field c.in_ok-push.ensures.items)
+    (first_in_group name_at (Colon, NoColon) (type_at c.args.depth) c.loop.rest.now c.in_ok-field.ensures.exact)
 
 pub fields_of-returns-clause-exact : goal.fields_of-returns-clause-exact
 fields_of-returns-clause-exact t c = rw c.wrong.ensures (is_full c.loop.invariant c.loop-test.false)
@@ -37,12 +39,12 @@ candidates_of-returns-in_err-candidate-clause-exact t c =
 
 pub candidates_of-returns-in-None-clause-exact : goal.candidates_of-returns-in-None-clause-exact
 candidates_of-returns-in-None-clause-exact t c =
-    is_done c.loop.invariant c.loop-test.true c.in_ok-candidate.ensures.exact c.in-None.ensures.none (seen_push candidate_model c.loop.candidates.items c.in_ok-candidate.candidate c.in_ok-push.ensures.items)
+    is_done c.loop.invariant c.loop-test.true c.in_ok-candidate.ensures.exact c.in-None.ensures.none (seen_push group_model c.loop.candidates.items c.in_ok-candidate.candidate c.in_ok-push.ensures.items)
 
 pub candidates_of-loop-preserved : goal.candidates_of-loop-preserved
 candidates_of-loop-preserved t c =
-    goes_on c.loop.invariant c.loop-test.true c.in_ok-candidate.ensures.exact c.in-Some.ensures.some (seen_push candidate_model c.loop.candidates.items c.in_ok-candidate.candidate c.in_ok-push.ensures.items)
-    (first_designator (type_at c.args.depth) c.loop.rest.now c.in_ok-candidate.ensures.exact)
+    goes_on c.loop.invariant c.loop-test.true c.in_ok-candidate.ensures.exact c.in-Some.ensures.some (seen_push group_model c.loop.candidates.items c.in_ok-candidate.candidate c.in_ok-push.ensures.items)
+    (first_in_group designator_at (Arrow, NoArrow) (type_at c.args.depth) c.loop.rest.now c.in_ok-candidate.ensures.exact)
 
 pub candidates_of-returns-clause-exact : goal.candidates_of-returns-clause-exact
 candidates_of-returns-clause-exact t c = rw c.wrong.ensures (is_full c.loop.invariant c.loop-test.false)
@@ -63,7 +65,7 @@ fields_of-returns-in_err-field-clause-memory t c =
 pub fields_of-returns-in_err-push-clause-memory : goal.fields_of-returns-in_err-push-clause-memory
 fields_of-returns-in_err-push-clause-memory t c =
     let p = err_from_is_err_and c.from_residual-in_err-push.result c.from_residual-in_err-push.ensures.1 in
-    rw (p.1, p.2) (first_begins c.loop.invariant (first_name (type_at c.args.depth) c.loop.rest.now c.in_ok-field.ensures.exact))
+    rw (p.1, p.2) (first_begins c.loop.invariant (first_in_group name_at (Colon, NoColon) (type_at c.args.depth) c.loop.rest.now c.in_ok-field.ensures.exact))
 
 pub candidates_of-returns-in_err-candidate-clause-memory : goal.candidates_of-returns-in_err-candidate-clause-memory
 candidates_of-returns-in_err-candidate-clause-memory t c =
@@ -73,7 +75,7 @@ candidates_of-returns-in_err-candidate-clause-memory t c =
 pub candidates_of-returns-in_err-push-clause-memory : goal.candidates_of-returns-in_err-push-clause-memory
 candidates_of-returns-in_err-push-clause-memory t c =
     let p = err_from_is_err_and c.from_residual-in_err-push.result c.from_residual-in_err-push.ensures.1 in
-    rw (p.1, p.2) (first_begins c.loop.invariant (first_designator (type_at c.args.depth) c.loop.rest.now c.in_ok-candidate.ensures.exact))
+    rw (p.1, p.2) (first_begins c.loop.invariant (first_in_group designator_at (Arrow, NoArrow) (type_at c.args.depth) c.loop.rest.now c.in_ok-candidate.ensures.exact))
 
 pub field_of-returns-in_err-written-clause-memory : goal.field_of-returns-in_err-written-clause-memory
 field_of-returns-in_err-written-clause-memory t c =

@@ -3,7 +3,8 @@ use Rattle.std.proofs.lemmas.Result.{err_from_is_err_and}
 use Rattle.courier_notation.specs.Written.{field_models}
 use Rattle.courier_programs.specs.Meanings.{fields_model}
 use Rattle.courier_programs.specs.Scopes.{env, spent}
-use Rattle.courier_programs.proofs.Wants.{had_room, wanted_more}
+use Rattle.courier_notation.proofs.Failing.{wanted_more}
+use Rattle.courier_programs.proofs.Wants.{had_room}
 use Rattle.courier_programs.proofs.declarations.procedure_added.Goals as goal
 
 pub returns-in_err-results-clause-memory : goal.returns-in_err-results-clause-memory

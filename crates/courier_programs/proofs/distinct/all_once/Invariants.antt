@@ -1,5 +1,5 @@
 use Rattle.std.proofs.Common.{◌≡◌, drop}
-use Rattle.courier_programs.specs.Refused.{steps}
+use Rattle.courier_programs.specs.Faults.{steps}
 use Rattle.courier_programs.specs.Scopes.{env}
 use Rattle.courier_programs.specs.Types.{once}
 use Rattle.courier_programs.proofs.distinct.all_once.Given as goal

@@ -1,6 +1,6 @@
 use Rattle.std.proofs.Common.{◌≡◌, [], drop}
 use Rattle.courier_texts.specs.Named.{members_seen}
-use Rattle.courier_programs.specs.Refused.{steps}
+use Rattle.courier_programs.specs.Faults.{steps}
 use Rattle.courier_programs.specs.Scopes.{env}
 use Rattle.courier_programs.specs.Types.{member_step}
 use Rattle.courier_programs.proofs.members.members_of.Given as goal

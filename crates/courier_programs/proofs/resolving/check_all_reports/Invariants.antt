@@ -1,6 +1,6 @@
 use Rattle.std.proofs.Common.{◌≡◌, drop}
 use Rattle.courier_notation.specs.ProgramModels.{declaration_views}
-use Rattle.courier_programs.specs.Refused.{steps}
+use Rattle.courier_programs.specs.Faults.{steps}
 use Rattle.courier_programs.specs.Resolving.{reports_step}
 use Rattle.courier_programs.specs.Scopes.{env}
 use Rattle.courier_programs.proofs.resolving.check_all_reports.Given as goal

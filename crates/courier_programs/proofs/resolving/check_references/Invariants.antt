@@ -1,5 +1,5 @@
 use Rattle.std.proofs.Common.{◌≡◌, drop}
-use Rattle.courier_programs.specs.Refused.{steps}
+use Rattle.courier_programs.specs.Faults.{steps}
 use Rattle.courier_programs.specs.Resolving.{reported}
 use Rattle.courier_programs.specs.Scopes.{env}
 use Rattle.courier_programs.proofs.resolving.check_references.Given as goal

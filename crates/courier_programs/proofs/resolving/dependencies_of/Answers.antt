@@ -5,7 +5,8 @@ use Rattle.courier_notation.specs.declared.declared.Dependency.{Dependency}
 use Rattle.courier_programs.specs.Memory.{FirstWasRead}
 use Rattle.courier_programs.specs.Resolving.{dependency_step}
 use Rattle.courier_programs.specs.Scopes.{names_seen}
-use Rattle.courier_programs.proofs.Wants.{first_was_read, wanted_more}
+use Rattle.courier_notation.proofs.Failing.{wanted_more}
+use Rattle.courier_programs.proofs.Wants.{first_was_read}
 use Rattle.courier_programs.proofs.resolving.dependencies_of.Goals as goal
 
 pub returns-in_err-take_dependency-clause-memory : goal.returns-in_err-take_dependency-clause-memory

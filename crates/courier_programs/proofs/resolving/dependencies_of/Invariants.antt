@@ -1,6 +1,6 @@
 use Rattle.std.proofs.Common.{◌≡◌, ◌<◌, [], drop}
 use Rattle.courier_programs.specs.Memory.{FirstWasRead}
-use Rattle.courier_programs.specs.Refused.{steps}
+use Rattle.courier_programs.specs.Faults.{steps}
 use Rattle.courier_programs.specs.Resolving.{dependency_step}
 use Rattle.courier_programs.specs.Scopes.{names_seen}
 use Rattle.courier_programs.proofs.resolving.dependencies_of.Given as goal

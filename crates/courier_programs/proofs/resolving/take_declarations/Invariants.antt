@@ -2,7 +2,7 @@ use Rattle.std.proofs.Common.{◌≡◌, drop}
 use Rattle.courier_notation.specs.ProgramModels.{declaration_views}
 use Rattle.courier_programs.specs.Declarations.{declaration_step}
 use Rattle.courier_programs.specs.Meanings.{resolved_model}
-use Rattle.courier_programs.specs.Refused.{steps}
+use Rattle.courier_programs.specs.Faults.{steps}
 use Rattle.courier_programs.specs.Scopes.{names_seen}
 use Rattle.courier_programs.proofs.resolving.take_declarations.Given as goal
 

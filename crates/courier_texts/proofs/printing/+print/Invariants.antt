@@ -1,4 +1,4 @@
-use Rattle.std.proofs.Common.{◌≡◌, [], drop}
+use Rattle.std.proofs.Common.{◌≡◌, ◌++◌, [], codes, drop}
 use Rattle.courier_types.specs.Value.{value_model, value_models}
 use Rattle.courier_texts.specs.Named.{named_model, component_models, variant_models}
 use Rattle.courier_texts.specs.Printing.{elements_text, components_text, variant_text, value_text}
@@ -7,8 +7,8 @@ use Rattle.courier_texts.proofs.printing.+print.Given as goal
 
 abbrev pub invariant-print_elements-loop-value : goal.invariant-print_elements-loop-value
 invariant-print_elements-loop-value l =
-    SoFar l.fn.out l.out (elements_text l.front (value_text (named_model l.element)) (value_models (drop l.value-index l.values)))
-    (elements_text [] (value_text (named_model l.element)) (value_models l.values))
+    SoFar l.fn.out l.out (elements_text l.front (value_text (named_model l.element)) (value_models (drop l.value-index l.values)) ++ codes "]")
+    (codes "[" ++ elements_text [] (value_text (named_model l.element)) (value_models l.values) ++ codes "]")
 
 abbrev pub invariant-print_components-loop-i : goal.invariant-print_components-loop-i
 invariant-print_components-loop-i l =

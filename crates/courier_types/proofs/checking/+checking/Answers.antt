@@ -1,5 +1,3 @@
-use Rattle.std.proofs.lemmas.Grind.{common_steps}
-use Rattle.std.proofs.Common.{arith}
 use Rattle.courier_types.specs.Shape.{shape_models, member_models}
 use Rattle.courier_types.specs.Check.{faults_of_parts, faults_of_members}
 use Rattle.courier_types.proofs.Loops.{walk_on}
@@ -13,9 +11,3 @@ check_parts-loop-part-preserved t c =
 pub check_members-loop-member-preserved : goal.check_members-loop-member-preserved
 check_members-loop-member-preserved t c =
     walk_on (λ ms. faults_of_members (member_models ms)) _ _ _ _ _ c.member-item.is c.loop-member-test.true (none_or _ _ c.in_ok-check_parts_first.ensures) c.loop-member.invariant
-
-pub check_members-returns : goal.check_members-returns
-check_members-returns t c = grind (arith, common_steps)
-
-pub check_parts-returns : goal.check_parts-returns
-check_parts-returns t c = grind (arith, common_steps)

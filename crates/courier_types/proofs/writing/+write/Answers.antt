@@ -1,4 +1,3 @@
-use Rattle.std.proofs.lemmas.Grind.{common_steps}
 use Rattle.std.proofs.Common.{length, arith}
 use Rattle.courier_types.specs.Value.{value_models}
 use Rattle.courier_types.specs.Spelling.{values_spelling}
@@ -24,15 +23,3 @@ put_values-returns-in_err-put_value-clause-put t c =
 pub put_values-returns-in_err-put_value-clause-kept : goal.put_values-returns-in_err-put_value-clause-kept
 put_values-returns-in_err-put_value-clause-kept t c =
     keeps_on c.args.out.now c.loop-value.out c.put_value.new.out c.loop-value.invariant.kept c.put_value.ensures.kept
-
-pub put_choice-returns-clause-put : goal.put_choice-returns-clause-put
-put_choice-returns-clause-put t c = grind (arith, common_steps)
-
-pub put_choice-returns-clause-kept : goal.put_choice-returns-clause-kept
-put_choice-returns-clause-kept t c = grind (arith, common_steps)
-
-pub put_sequence-returns-clause-kept : goal.put_sequence-returns-clause-kept
-put_sequence-returns-clause-kept t c = grind (arith, common_steps)
-
-pub put_values-returns-clause-put : goal.put_values-returns-clause-put
-put_values-returns-clause-put t c = grind (arith, common_steps)

@@ -9,11 +9,8 @@ returns-in-Err c = record {
   told = search rules;
   memory = λ s keeps _ _.
       (refl, c.in-Err.ensures.memory s (taken (kept_endpoint_of c.args.handle.now) c.in-Some.connection.value c.deref_mut.result.now s c.in-Some.ensures.answer c.deref_mut.ensures.value keeps));
-  packets = search rules;
-  short = search rules;
-  none = search rules;
-  unchanged = search rules;
-  untold = search rules;
+  same = search rules;
+  room = search rules;
 }
 
 pub returns-in-Ok : goal.returns-in-Ok
@@ -22,9 +19,6 @@ returns-in-Ok c = record {
   told = λ s keeps _.
       record { took = search rules; acknowledged = search rules steps 2000000; dropped = search rules; reply = search rules steps 2000000 };
   memory = search rules;
-  packets = search rules;
-  short = search rules;
-  none = search rules;
-  unchanged = search rules;
-  untold = search rules;
+  same = search rules;
+  room = search rules;
 }

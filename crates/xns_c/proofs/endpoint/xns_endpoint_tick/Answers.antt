@@ -1,5 +1,8 @@
 use Rattle.std.proofs.Common.{rules}
+use Rattle.xns_spp.specs.Sending.{tick_answer, after_tick}
+use Rattle.xns_c.specs.KeptEndpoint.{Makes}
+use Rattle.xns_c.proofs.Kept.{changed}
 use Rattle.xns_c.proofs.endpoint.xns_endpoint_tick.Goals as goal
 
 pub returns : goal.returns
-returns c = record { stands = search rules; made = search rules steps 1000000; short = search rules; memory = search rules steps 1000000; none = search rules; unchanged = search rules }
+returns c = changed _ _ _ _ _ (Makes tick_answer after_tick c.change.result) c.change.ensures (λ k n did. search rules)

@@ -1,6 +1,6 @@
 use Rattle.std.proofs.lemmas.Grind.{common_steps}
-use Rattle.std.proofs.Common.{arith}
+use Rattle.std.proofs.Common.{arith, rules}
 use Rattle.xns_c.proofs.writer.put.Goals as goal
 
-pub returns-clause-written : goal.returns-clause-written
-returns-clause-written c = grind (arith, common_steps)
+pub returns : goal.returns
+returns c = record { written = λ _. grind (arith, common_steps); stays = search rules }

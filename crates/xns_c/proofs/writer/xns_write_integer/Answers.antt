@@ -1,5 +1,5 @@
 use Rattle.std.proofs.Common.{rules}
 use Rattle.xns_c.proofs.writer.xns_write_integer.Goals as goal
 
-pub returns-clause-written : goal.returns-clause-written
-returns-clause-written c = search rules
+pub returns : goal.returns
+returns c = search rules

@@ -1,14 +1,14 @@
-use Rattle.std.proofs.Common.{◌≡◌}
-use Rattle.xns_calls.specs.Exchange.{Continues, scene_of}
-use Rattle.xns_calls.specs.Read.{settled}
+use Rattle.xns_calls.specs.Exchange.{scene_of}
+use Rattle.xns_calls.specs.Read.{own_read, settled}
+use Rattle.xns_calls.proofs.Continued.{GoesOn}
 use Rattle.xns_calls.proofs.LessKept.{count}
 use Rattle.xns_calls.proofs.settling.read_all.Given as goal
 
--- what is still to be read leads where all of it does
+abbrev pub ghost-in_turn : goal.ghost-in_turn
+ghost-in_turn a = own_read
+
 abbrev pub invariant-loop-is_other : goal.invariant-loop-is_other
-invariant-loop-is_other l =
-    Continues l.fn.flows l.flows
-    × (settled l.fn.flows.heading l.given (scene_of l.flows) ≡ settled l.fn.flows.heading l.given (scene_of l.fn.flows))
+invariant-loop-is_other l = GoesOn (settled l.fn.flows.heading l.given) l.fn.flows l.flows
 
 abbrev pub decreases-loop-is_other : goal.decreases-loop-is_other
 decreases-loop-is_other l = count (scene_of l.flows)

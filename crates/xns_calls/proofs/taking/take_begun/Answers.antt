@@ -7,9 +7,9 @@ use Rattle.xns_calls.proofs.taking.take_begun.Goals as goal
 
 pub returns-in-Some-clause-memory : goal.returns-in-Some-clause-memory
 returns-in-Some-clause-memory c =
-    on_err c.read_at_once.result _ (once_wants c.args.due c.args.arrived.now.header.now c.in-Some.number c.args.flows.now.own.now c.args.flows.now.other.now c.args.flows.now.page.now (sym c.in-Some.ensures.value))
+    on_err c.read_arrived.result _ (once_wants c.args.due c.args.arrived.now.header.now c.in-Some.number c.args.flows.now.own.now c.args.flows.now.other.now c.args.flows.now.page.now (sym c.in-Some.ensures.value))
 
 pub returns-in-Some-clause-scene : goal.returns-in-Some-clause-scene
 returns-in-Some-clause-scene c =
-    on_ok_once c.read_at_once.result c.args.flows.now.heading c.args.due (packet_model c.args.arrived.now.packet.now) c.args.arrived.now.header.now c.args.arrived.now.content.now c.in-Some.number (scene_of c.args.flows.now)
-    (scene_of c.read_at_once.new.flows) (sym c.in-Some.ensures.value) c.read_at_once.ensures.scene
+    on_ok_once c.read_arrived.result c.args.flows.now.heading c.args.due (packet_model c.args.arrived.now.packet.now) c.args.arrived.now.header.now c.args.arrived.now.content.now c.in-Some.number (scene_of c.args.flows.now)
+    (scene_of c.read_arrived.new.flows) (sym c.in-Some.ensures.value) c.read_arrived.ensures.scene

@@ -4,7 +4,7 @@ use Rattle.xns_spp.specs.Packet.{spp_packet_spelling}
 use Rattle.xns_host.specs.Went.{GuestHears}
 use Rattle.xns_host.specs.declared.guest.Guest.{Guest}
 use Rattle.xns_host.proofs.Apart.{set_there}
-use Rattle.xns_host.proofs.Placed.{no_place, other_place, turns_at}
+use Rattle.xns_host.proofs.Placed.{turns_at}
 use Rattle.xns_host.proofs.Turns.{heard_stays, heard_undone, is_there, one_guest, stays_noted, stays_registered, stays_undone}
 use Rattle.xns_host.proofs.host.Host.hear.Goals as goal
 
@@ -25,13 +25,6 @@ invariant_of-self-2-clause-not_done c =
     let heard = c.receive.ensures.hears (search rules) (spp_packet_spelling c.args.packet.now ++ []) (c.written_packet_is_read_again.ensures.again c.args.packet.now [] c.requires) in
     stays_undone c.args.self.now.guests.items c.args.number c.index_mut.result.now c.in-Some.guest c.receive.new.self
     c.args.self.now.not_done c.in-Some.is (heard_undone c.args.now _ c.args.confirms _ _ heard) (omega arith) (search rules)
-
-pub returns-then-number-len-clause-foreign : goal.returns-then-number-len-clause-foreign
-returns-then-number-len-clause-foreign c = λ no g s there stands. absurd (no_place c.args.self.now.guests.items c.args.number _ there (omega arith))
-
-pub returns-in_default-clause-foreign : goal.returns-in_default-clause-foreign
-returns-in_default-clause-foreign c = λ no g s there stands.
-    absurd (other_place c.args.self.now.guests.items c.args.number c.index_mut.result.now g (omega arith) (search rules) (search rules) there)
 
 pub returns-then-not-receive-clause-foreign : goal.returns-then-not-receive-clause-foreign
 returns-then-not-receive-clause-foreign c = λ no g s there stands.

@@ -4,7 +4,7 @@ use Rattle.xns_host.specs.Quotes.{is_sent_by}
 use Rattle.xns_host.specs.Went.{GuestUnserved}
 use Rattle.xns_host.specs.declared.guest.Guest.{Guest}
 use Rattle.xns_host.proofs.Apart.{set_there}
-use Rattle.xns_host.proofs.Placed.{no_place, other_place, turns_at}
+use Rattle.xns_host.proofs.Placed.{turns_at}
 use Rattle.xns_host.proofs.Turns.{is_there, one_guest, stays_noted, stays_registered, stays_undone, unserved_stays}
 use Rattle.xns_host.proofs.host.Host.not_served.Goals as goal
 
@@ -22,13 +22,6 @@ pub invariant_of-self-2-clause-not_done : goal.invariant_of-self-2-clause-not_do
 invariant_of-self-2-clause-not_done c =
     stays_undone c.args.self.now.guests.items c.args.number c.index_mut.result.now c.in-Some.guest c.not_served.new.self
     c.args.self.now.not_done c.in-Some.is c.not_served.ensures.not_done (omega arith) (search rules)
-
-pub returns-then-number-len-clause-foreign : goal.returns-then-number-len-clause-foreign
-returns-then-number-len-clause-foreign c = λ no g s there stands. absurd (no_place c.args.self.now.guests.items c.args.number _ there (omega arith))
-
-pub returns-in_default-clause-foreign : goal.returns-in_default-clause-foreign
-returns-in_default-clause-foreign c = λ no g s there stands.
-    absurd (other_place c.args.self.now.guests.items c.args.number c.index_mut.result.now g (omega arith) (search rules) (search rules) there)
 
 pub returns-then-not-is_sent_by-clause-foreign : goal.returns-then-not-is_sent_by-clause-foreign
 returns-then-not-is_sent_by-clause-foreign c = λ no g s there stands.

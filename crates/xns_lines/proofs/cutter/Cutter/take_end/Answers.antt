@@ -1,9 +1,8 @@
-use Rattle.std.proofs.lemmas.Grind.{common_steps}
-use Rattle.std.proofs.Common.{◌≡◌, arith, ap, refl, length, ◌∙◌, ◌+◌, ◌++◌, ◌∷◌, []}
+use Rattle.std.proofs.Common.{◌≡◌, arith, ap, refl, length, length-append, append_assoc, ◌∙◌, ◌+◌, ◌++◌, ◌∷◌, []}
 use Rattle.std.proofs.lemmas.Bool.Decides.{nat_tests}
 use Rattle.std.proofs.lemmas.Result.{IfErr-weaker, err_from_is_err_and, on_ok_weaker}
 use Rattle.xns_lines.specs.Lines.{closed_lines}
-use Rattle.xns_lines.proofs.Cutting.{cut_whole, short_at_whole, short_later, short_long, short_own, takes_run, takes_whole}
+use Rattle.xns_lines.proofs.Cutting.{cut_whole, short_at_whole, short_later, short_long, short_many, short_own, takes_run, takes_whole}
 use Rattle.xns_lines.proofs.cutter.Cutter.take_end.Goals as goal
 
 pub returns-then-run-gt-MOST_LINE_BYTES-clause-err : goal.returns-then-run-gt-MOST_LINE_BYTES-clause-err
@@ -57,4 +56,11 @@ returns-then-not-is_empty-clause-err g c =
     c.take_newline.ensures.err
 
 pub returns-in_err-number-clause-err : goal.returns-in_err-number-clause-err
-returns-in_err-number-clause-err g c = grind (arith, common_steps)
+returns-in_err-number-clause-err g c =
+    let contents = g.W.Write.contents c.args.writer.now in
+    let p = err_from_is_err_and c.from_residual-in_err-number.result c.from_residual-in_err-number.ensures.1 in
+    let many = c.in_err-number.ensures.err in
+    rw (p.1, p.2, many.0) (λ most taken before h.
+    rw append_assoc
+    (short_own most _ (g.T.LineTaker.stands c.args.taker.now before contents) (g.T.LineTaker.fails c.args.taker.now before contents) taken _ h.1
+    (short_many most c.args.self.now taken (c.args.run.now ++ 10 ∷ []) many.1 (omega (arith, length-append c.args.run.now (10 ∷ []))) h.0)))
